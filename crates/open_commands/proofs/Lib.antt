@@ -6,4 +6,3 @@ pub mod AcceptedFor
 pub mod Owing
 pub mod One
 pub mod SomeDue
-pub mod ClosedSolids

@@ -1,18 +1,15 @@
 -- What the verdict, accepted certificates and the answers that are owed say of each other.
-use Rattle.std.specs.Prelude.{◌≡◌, ◌↔◌, ℕ, pos, Bool, true, List, [], ◌∷◌, filter_map, Contains}
+use Rattle.std.specs.Prelude.{◌≡◌, ◌↔◌, ℕ, List, filter_map}
 use Rattle.std.specs.List.{AllZip}
 use Rattle.iges_params.specs.Contents.{Contents}
 use Rattle.iges_params.specs.Limits.{FitsLimits}
-use Rattle.brep_walk.specs.OpenPlaces.{open_places, shell_solid_of}
-use Rattle.brep_walk.specs.Places.{places, shells}
+use Rattle.brep_walk.specs.OpenPlaces.{shell_solid_of}
 use Rattle.command_replies.specs.declared.answer.Answer.{Answer}
 use Rattle.command_replies.specs.declared.answer.Answer.TheVariants.{No}
 use Rattle.open_certificate.specs.Laws.{AreAllBorders, cycle_in}
 use Rattle.open_certificate.specs.Legal.{IsOpenLegal}
 use Rattle.open_certificate.specs.Line.{OpenLine, IsSpelled}
-use Rattle.open_certificate.specs.Sound.{IsBorder}
 use Rattle.open_certificate.specs.Stand.{shell_of}
-use Rattle.solid_verdict.specs.Closed.{IsClosed}
 use Rattle.solid_data.specs.Obligations.{AllHold}
 use Rattle.open_commands.specs.Verdict.{IsOpenAcceptedFor}
 use Rattle.open_commands.specs.Verdict.{open_checked}
@@ -35,15 +32,6 @@ abbrev pub AcceptedIsChecked : Type 0
 AcceptedIsChecked = (f : Contents) (certificate : List ℕ) (n : ℕ)
     → IsOpenAcceptedFor f certificate n ↔
     ((lines : List (List ℕ)) × OpensShell certificate n lines × AllHold (open_checked f n) × IsOpenLegal (shell_solid_of f n) lines)
-
--- Where the places of a solid hold, so do those of each of its shells as an open one.
-abbrev pub ShellsHavePlaces : Type 0
-ShellsHavePlaces = (f : Contents) (n m : ℕ) (flag : Bool) → AllHold (places f n) → Contains (shells f (pos n)) (pos m, flag) → AllHold (open_places f m)
-
--- Where a solid is closed whose one shell is m, with flag 1, this shell is sound as an open one, and has no border row.
-abbrev pub ClosedIsSound : Type 0
-ClosedIsSound = (f : Contents) (n m : ℕ) → IsClosed f n → shells f (pos n) ≡ (pos m, true) ∷ []
-    → IsOpenVerdict f m sound × ((r : ℕ) → ¬ IsBorder (shell_of (shell_solid_of f m)) r)
 
 -- Two answers that are owed are the same, and so are their texts where the answer is No.
 abbrev pub OneOpenAnswer : Type 0

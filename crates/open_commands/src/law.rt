@@ -4,7 +4,7 @@ ghost use Rattle.std.specs.Prelude.{ℕ, List, ◌≡◌};
 ghost use Rattle.command_replies.specs.declared.answer.Answer.{Answer};
 ghost use Rattle.iges_params.specs.Contents.{Contents};
 ghost use Rattle.open_commands.specs.Due.{OfOpen, OfOpenVerify};
-ghost use Rattle.open_commands.specs.Laws.{AcceptedIsChecked, SoundExactlyWhereAccepted, BordersAreCycles, ShellsHavePlaces, ClosedIsSound, OneOpenAnswer, SomeOpenAnswer, OneVerifyAnswer, SomeVerifyAnswer};
+ghost use Rattle.open_commands.specs.Laws.{AcceptedIsChecked, SoundExactlyWhereAccepted, BordersAreCycles, OneOpenAnswer, SomeOpenAnswer, OneVerifyAnswer, SomeVerifyAnswer};
 ghost use Rattle.open_commands.specs.Verdict.{OpenVerdict, IsOpenVerdict};
 
 /// An open shell of a file has exactly one verdict.
@@ -29,13 +29,6 @@ pub fn borders_are_cycles()
 /// from line 2 on are legal.
 pub fn accepted_is_checked()
     ensures { AcceptedIsChecked }
-{}
-
-/// A closed shell is an open one without a border: where the places of a solid hold so do those of each of its shells, and the
-/// shell of a closed solid that has it alone, with flag 1, is sound and has no border row.
-pub fn closed_is_sound()
-    ensures places { ShellsHavePlaces }
-    ensures sound { ClosedIsSound }
 {}
 
 /// Of certifying an open shell one answer is owed, and one text where the answer is No; of verifying a certificate one

@@ -11,7 +11,7 @@ mod verifying;
 
 pub use certifying::certify_shell;
 pub use law::{
-    accepted_is_checked, borders_are_cycles, closed_is_sound, one_open_answer, one_verdict,
-    some_open_answer, sound_exactly_where_accepted,
+    accepted_is_checked, borders_are_cycles, one_open_answer, one_verdict, some_open_answer,
+    sound_exactly_where_accepted,
 };
 pub use verifying::verify_shell;

@@ -1,5 +1,5 @@
-use Rattle.open_commands.proofs.ClosedSolids.{shells_have_places, closed_sound}
-use Rattle.open_commands.proofs.law.closed_is_sound.Goals as goal
+use Rattle.open_laws.proofs.ClosedSolids.{shells_have_places, closed_sound}
+use Rattle.open_laws.proofs.law.closed_is_sound.Goals as goal
 
 pub returns-clause-places : goal.returns-clause-places
 returns-clause-places c = shells_have_places

@@ -1,26 +1,27 @@
 -- What holds of a closed solid holds of its shells as open ones.
-use Rattle.std.specs.Prelude.{◌≡◌, ◌⊎◌, ℕ, ℤ, pos, Bool, true, List, [], ◌∷◌, ◌++◌, flat_map, Contains, Option, Some, None, IsSomeAnd}
-use Rattle.std.proofs.Common.{refl, sym, ◌∙◌, ap, subst, inl, inr}
-use Rattle.iges_base.specs.declared.entry_no.EntryNo.{EntryNo}
+use Rattle.std.specs.Prelude.{◌≡◌, ◌⊎◌, ℕ, ◌+◌, ℤ, pos, Bool, true, false, List, [], ◌∷◌, ◌++◌, map, flat_map, Contains, Option, Some, None, IsSomeAnd}
+use Rattle.std.specs.List.{enumerate_from}
+use Rattle.std.proofs.Common.{refl, sym, ap, subst, inl, inr}
 use Rattle.iges_params.specs.Contents.{Contents}
 use Rattle.iges_params.specs.Named.{named}
 use Rattle.brep_lists.specs.declared.entity_kind.EntityKind.TheVariants.{Shell as shell}
+use Rattle.brep_numbering.specs.Keys.{Keys}
 use Rattle.brep_walk.specs.OpenPlaces.{NamesShell, open_places, shell_solid_of}
 use Rattle.brep_walk.specs.Places.{NamesKind, shells, faces, loops, numbers, loop_places, face_places, shell_places}
 use Rattle.brep_walk.specs.SolidOf.{shell_by, keys_in, solid_of, solid_listing}
-use Rattle.brep_walk.proofs.Found.{shells_hold, solid_lists}
+use Rattle.brep_walk.proofs.Found.{shells_hold, solid_lists, edges_found, listed_solid}
 use Rattle.solid_data.specs.Obligations.{Obligation, AllHold, after_each}
 use Rattle.solid_data.specs.SolidData.{SolidData}
 use Rattle.solid_data.specs.declared.solid.Shell.{Shell}
-use Rattle.solid_data.proofs.Members.{Has, Has-from_Contains, Contains-from_Has, has_left, has_right, has_append, has_flat_map, from_flat_map}
+use Rattle.solid_data.proofs.Members.{Has, Has-from_Contains, Contains-from_Has, All-at, has_left, has_right, has_append, has_flat_map, from_flat_map, map_has}
 use Rattle.solid_data.proofs.ObligationLemmas.{AllHold-append, AllHold-append_left, AllHold-append_right}
-use Rattle.edge_uses.specs.ShellRows.{shell_rows}
 use Rattle.shell_rules.specs.Closed.{IsClosedShell, IsClosedSolid}
-use Rattle.open_certificate.specs.Sound.{IsBorder, IsSoundShell}
-use Rattle.open_certificate.specs.Stand.{shell_of}
+use Rattle.shell_laws.proofs.TurnedShell.{turned_shell}
+use Rattle.open_certificate.specs.Sound.{IsBorder}
 use Rattle.open_certificate.proofs.ClosedShells.{closed_is_sound}
 use Rattle.open_certificate.proofs.Sound.{hold_of_shell, rows_are}
-use Rattle.open_commands.specs.Laws.{ShellsHavePlaces, ClosedIsSound}
+use Rattle.open_laws.specs.Laws.{ShellsHavePlaces, ClosedIsSound}
+use Rattle.open_laws.proofs.Renumbers.{mine, closed_alone}
 
 -- Places hold where fewer numbers were named before.
 
@@ -94,52 +95,45 @@ shells_have_places f n m flag all listed =
     let s = shells_hold f n all (pos m, flag) (Has-from_Contains (shells f (pos n)) (pos m, flag) listed) in
     shell_opens f (pos n) s.0 m flag s.1
 
--- The entity's number is no part of what is sound.
+-- Each item of a list has a number.
+numbered : {A : Type 0} (base : ℕ) (xs : List A) (x : A) → Has xs x → (k : ℕ) × Has (enumerate_from base xs) (k, x)
+numbered base [] x h = absurd h
+numbered base (y ∷ xs) x (inl same) = (base, inl (ap (λ z. (base, z)) same))
+numbered base (y ∷ xs) x (inr h) = let k = numbered (base + 1) xs x h in (k.0, inr k.1)
 
-abbrev renamed : SolidData → EntryNo → SolidData
-renamed s entity = record { entity = entity; shells = s.shells; edges = s.edges; vertices = s.vertices }
+shells_are : (f : Contents) (n : ℕ) (items : List (ℤ × Bool)) → (solid_listing f n items).shells ≡ map (shell_by f (keys_in f items)) items
+unfolding solid_listing
+shells_are f n items = refl
 
-still_sound : (s : SolidData) (entity : EntryNo) (h : Shell) → IsSoundShell s h → IsSoundShell (renamed s entity) h
-unfolding shell_rows
-still_sound s entity h x = record { joined = x.joined; once = x.once; reached = x.reached; fanned = x.fanned }
+alone : (f : Contents) (m : ℕ) → (shell_solid_of f m).shells ≡ mine f m ∷ []
+unfolding solid_listing
+alone f m = refl
 
-same_rows : (s : SolidData) (entity : EntryNo) (h : Shell) → shell_rows (renamed s entity) h ≡ shell_rows s h
-unfolding shell_rows
-same_rows s entity h = refl
+-- A listed shell of a closed solid is closed, and stays so with the flag 1.
+closed_with_flag : (s : SolidData) (f : Contents) (keys : Keys) (m : ℤ) (flag : Bool) (k : ℕ) → IsClosedShell s k (shell_by f keys (m, flag))
+    → IsClosedShell s k (shell_by f keys (m, true))
+closed_with_flag s f keys m true k closed = closed
+closed_with_flag s f keys m false k closed = turned_shell s k (shell_by f keys (m, false)) closed
 
-module _ (f : Contents) (n m : ℕ) where
-  abbrev one : List (ℤ × Bool)
-  one = (pos m, true) ∷ []
-
-  abbrev the_shell : Shell
-  the_shell = shell_by f (keys_in f one) (pos m, true)
-
-  renames : shell_solid_of f m ≡ renamed (solid_listing f n one) (record { 0 = m })
-  unfolding solid_listing
-  renames = refl
-
-  alone : (shell_solid_of f m).shells ≡ the_shell ∷ []
-  unfolding solid_listing
-  alone = refl
-
-  closed_shell : IsClosedSolid (solid_listing f n one) → IsClosedShell (solid_listing f n one) 0 the_shell
-  unfolding solid_listing
-  closed_shell closed = closed.0
-
-  sound_alone : IsClosedSolid (solid_listing f n one) → IsSoundShell (shell_solid_of f m) the_shell × ((r : ℕ) → ¬ IsBorder (shell_of (shell_solid_of f m)) r)
-  sound_alone closed =
-      let s : SolidData = solid_listing f n one in
-      let x = closed_is_sound s 0 the_shell (closed_shell closed) in
-      let rows : shell_of (shell_solid_of f m) ≡ shell_rows s the_shell =
-      rows_are (shell_solid_of f m) the_shell alone ∙ (ap (λ t. shell_rows t the_shell) renames ∙ same_rows s (record { 0 = m }) the_shell) in (
-        subst (λ t. IsSoundShell t the_shell) (sym renames) (still_sound s (record { 0 = m }) the_shell x.0),
-        λ r. subst (λ d. ¬ IsBorder d r) (sym rows) (x.1 r),
-      )
+listed_closed : (f : Contents) (n : ℕ) (items : List (ℤ × Bool)) (item : ℤ × Bool) → Has items item → IsClosedSolid (solid_listing f n items)
+    → (k : ℕ) × IsClosedShell (solid_listing f n items) k (shell_by f (keys_in f items) item)
+listed_closed f n items item listed closed =
+    let s : SolidData = solid_listing f n items in
+    let h : Shell = shell_by f (keys_in f items) item in
+    let here : Has s.shells h = subst (λ hs. Has hs h) (sym (shells_are f n items)) (map_has (shell_by f (keys_in f items)) items item listed) in
+    let k = numbered 0 s.shells h here in
+    (k.0, All-at (λ (x : ℕ × Shell). IsClosedShell s x.0 x.1) (enumerate_from 0 s.shells) closed (k.0, h) k.1)
 
 pub closed_sound : ClosedIsSound
-closed_sound f n m closed only =
-    let listed : Has (shells f (pos n)) (pos m, true) = subst (λ is. Has is (pos m, true)) (sym only) (inl refl) in
-    let placed = shells_have_places f n m true closed.placed (Contains-from_Has (shells f (pos n)) (pos m, true) listed) in
-    let alike : solid_of f n ≡ solid_listing f n ((pos m, true) ∷ []) = solid_lists f n ∙ ap (solid_listing f n) only in
-    let x = sound_alone f n m (subst IsClosedSolid alike closed.closed) in
-    ((placed, hold_of_shell (shell_solid_of f m) (shell_by f (keys_in f ((pos m, true) ∷ [])) (pos m, true)) (alone f n m) x.0), x.1)
+closed_sound f n m flag closed contains =
+    let items : List (ℤ × Bool) = shells f (pos n) in
+    let listed : Has items (pos m, flag) = Has-from_Contains items (pos m, flag) contains in
+    let c = listed_closed f n items (pos m, flag) listed (subst IsClosedSolid (solid_lists f n) closed.closed) in
+    let s : SolidData = shell_solid_of f m in
+    let shell : Shell = mine f m in
+    let one : IsClosedShell s 0 shell = closed_alone f n items m flag (edges_found f items (listed_solid f n closed.placed)) listed c.0
+    (closed_with_flag (solid_listing f n items) f (keys_in f items) (pos m) flag c.0 c.1) in
+    let x = closed_is_sound s 0 shell one in (
+      (shells_have_places f n m flag closed.placed contains, hold_of_shell s shell (alone f m) x.0),
+      λ r border. x.1 r (subst (λ d. IsBorder d r) (rows_are s shell (alone f m)) border),
+    )

@@ -1,0 +1,4 @@
+pub mod LineLists
+pub mod SameParts
+pub mod SameLines
+pub mod Differ

@@ -1,0 +1,4 @@
+pub mod TurnedRows
+pub mod TurnedShell
+pub mod RenumberedRows
+pub mod RenumberedShell
