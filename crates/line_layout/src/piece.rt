@@ -43,12 +43,12 @@ fn has_byte_by_parts(bytes: &[u8], byte: u8) -> bool
     has_byte(front, byte) || has_byte(back, byte)
 }
 
-// Whether the first end byte comes after so many bytes.
+// Whether the first end byte comes after so many bytes. An empty line is told by its first byte.
 #[inline(always)]
 fn ends_at(bytes: &[u8], end: u8, len: usize) -> bool
     ensures { IsTrue result → len ≡ prefix_len (λ b. not (b == end)) bytes.now }
 {
-    if bytes.len() <= len || bytes[len] != end {
+    if bytes.len() <= len || bytes[len] != end || bytes[0] == end {
         return false;
     }
     !has_byte_by_parts(&bytes[..len], end)
