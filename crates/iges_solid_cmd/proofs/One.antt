@@ -4,7 +4,7 @@ use Rattle.std.specs.Prelude.{◌*◌, MatchOption, IsSomeAnd}
 use Rattle.iges_params.specs.Contents.{Contents}
 use Rattle.iges_params.proofs.Answers.{ok_is}
 use Rattle.iges_params.proofs.FileExact.{IsFile-read_file}
-use Rattle.iges_solid_cmd.proofs.WrittenFiles.{text_is}
+use Rattle.file_replies.proofs.WrittenFiles.{text_is}
 use Rattle.cert_maker.proofs.OneText.{one_text as one_certificate}
 use Rattle.sample_solids.specs.Sample.{sample}
 use Rattle.iges_solid_cmd.specs.declared.form.Command.{Command}

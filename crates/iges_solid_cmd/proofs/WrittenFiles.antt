@@ -1,4 +1,4 @@
--- Of a file that is written, of a solid that is extracted, and of one that is compacted, one answer and text are owed.
+-- Of a solid that is extracted, and of one that is compacted, one answer and text are owed.
 use Rattle.std.specs.Prelude.{◌≡◌, ◌⊎◌, ℕ, ◌<◌, ◌≤◌, List, [], length, Ok}
 use Rattle.std.proofs.Common.{refl, sym, ap, subst, ◌∙◌, arith, inl, inr}
 use Rattle.iges_base.specs.declared.TheConstants.{FILE_LIMIT}
@@ -21,29 +21,12 @@ use Rattle.list_compact.proofs.OneAnswer.{only_file}
 use Rattle.command_replies.specs.declared.answer.Answer.{Answer}
 use Rattle.command_replies.specs.declared.answer.Answer.TheVariants as answer
 use Rattle.command_replies.specs.Texts.{fail_line}
-use Rattle.iges_solid_cmd.specs.Texts.{no_extract_line}
-use Rattle.iges_solid_cmd.specs.Due.{OfWritten, too_large, written, OfExtract, not_extracted, extracted, OfCompact, not_compacted, misplaced, compacted}
+use Rattle.file_replies.specs.Written.{OfWritten, no_extract_line}
+use Rattle.file_replies.proofs.WrittenFiles.{one_written, refused_line, some_written}
+use Rattle.iges_solid_cmd.specs.Due.{OfExtract, not_extracted, extracted, OfCompact, not_compacted, misplaced, compacted}
 use Rattle.iges_solid_cmd.proofs.ExtractionDecided.{extracted_or_refused}
 
 -- ---- two that are owed are one
-
--- a file has one text
-pub text_is : (f : Contents) (t u : List ℕ) → IsText f t → IsText f u → t ≡ u
-text_is f t u p q = let one = one_text f in one.2 t p ∙ sym (one.2 u q)
-
-one_written : (f : Contents) (a b : Answer) (t u : List ℕ) → OfWritten f a t → OfWritten f b u → (a ≡ b) × (t ≡ u)
-one_written f a b t u (too_large text is many) (too_large other at more) = (refl, refl)
-one_written f a b t u (too_large text is many) (written other at few) = let same = ap (λ (xs : List ℕ). length xs) (text_is f text other is at) in absurd
-    (omega (arith, many, few, same))
-one_written f a b t u (written text is few) (too_large other at many) = let same = ap (λ (xs : List ℕ). length xs) (text_is f text other is at) in absurd
-    (omega (arith, many, few, same))
-one_written f a b t u (written text is few) (written other at fewer) = (refl, text_is f text other is at)
-
--- a refusal has one line
-refused_line : (n : ℕ) (f : Contents) (e k : ℕ) (r s : ExtractReason) → IsRefused f n e r → IsRefused f n k s → no_extract_line e r ≡ no_extract_line k s
-refused_line n f e k r s p q =
-    let same = IsRefused-unique f n e k r s p q in
-    ap (λ i. no_extract_line i r) same.0 ∙ ap (no_extract_line k) same.1
 
 -- two answers that are owed of extracting a solid agree
 pub one_extract : (n : ℕ) (f : Contents) (a b : Answer) (t u : List ℕ) → OfExtract n f a t → OfExtract n f b u → (a ≡ b) × (t ≡ u)
@@ -67,13 +50,6 @@ one_compact n f a b t u (compacted new p owed) (compacted other q due) =
     one_written other a b t u (subst (λ (g : Contents). OfWritten g a t) (only_file f n (Ok new) other p tt q) owed) due
 
 -- ---- something is owed
-
-some_written : (f : Contents) → (a : Answer) × (t : List ℕ) × OfWritten f a t
-some_written f = by_limit (one_text f).0 (one_text f).1 (decided_within (length (one_text f).0) FILE_LIMIT)
-  where
-    by_limit : (text : List ℕ) → IsText f text → Decided (length text ≤ FILE_LIMIT) → (a : Answer) × (t : List ℕ) × OfWritten f a t
-    by_limit text is (inl few) = (answer.Done, text, written text is few)
-    by_limit text is (inr more) = let above : FILE_LIMIT < length text = omega (arith, more) in (answer.TooLarge, [], too_large text is above)
 
 -- some answer is owed of extracting a solid
 pub some_extract : (n : ℕ) (f : Contents) → (a : Answer) × (t : List ℕ) × OfExtract n f a t

@@ -7,8 +7,6 @@ use Rattle.solid_data.specs.SolidData.{SolidData}
 use Rattle.solid_data.specs.declared.solid.FaceUse.{FaceUse}
 use Rattle.solid_data.specs.declared.solid.Shell.{Shell}
 use Rattle.edge_uses.specs.ShellRows.{ShellRows, shell_rows}
-use Rattle.entry_references.specs.declared.fault.ExtractReason.{ExtractReason}
-use Rattle.entry_references.specs.declared.fault.ExtractReason.TheVariants as extracting
 
 -- a line with the number of a solid
 abbrev pub solid_line : ℕ → List ℕ
@@ -17,15 +15,6 @@ solid_line n = decimal n ++ codes "\n"
 -- one for each solid, in directory order
 abbrev pub solids_text : Contents → List ℕ
 solids_text f = flat_map solid_line (solids_of f)
-
-abbrev pub extract_word : ExtractReason → List ℕ
-extract_word extracting.NotSolid = codes "not-solid"
-extract_word extracting.Unlisted = codes "unlisted"
-extract_word extracting.Layout = codes "layout"
-extract_word extracting.Dangling = codes "dangling"
-
-abbrev pub no_extract_line : ℕ → ExtractReason → List ℕ
-no_extract_line entity why = codes "no extract " ++ decimal entity ++ codes " " ++ extract_word why ++ codes "\n"
 
 -- a word and a number, each after a space
 abbrev pub counted : List ℕ → ℕ → List ℕ

@@ -1,8 +1,8 @@
 ghost use Rattle.iges_solid_cmd.specs.Due.{OfCompact};
 ghost use Rattle.std.specs.Prelude.{IfOk};
 
-use crate::extracting::{refused, written};
 use command_replies::{Reply, failed};
+use file_replies::{refused, written};
 use iges_fields::{EntryNo, NoMemory};
 use iges_params::File;
 use list_compact::{CompactFault, into_compact};

@@ -1,56 +1,12 @@
-ghost use Rattle.iges_solid_cmd.specs.Due.{OfExtract, OfWritten};
-ghost use Rattle.iges_solid_cmd.specs.Texts.{extract_word, no_extract_line};
-ghost use Rattle.std.specs.Prelude.{◌≡◌, IfOk};
+ghost use Rattle.iges_solid_cmd.specs.Due.{OfExtract};
+ghost use Rattle.std.specs.Prelude.{IfOk};
 
-use command_replies::{Answer, Reply, too_large};
-use entry_references::ExtractReason;
-use iges_fields::{EntryNo, FILE_LIMIT, NoMemory, Out, write_number};
+use command_replies::Reply;
+use file_replies::{refused, written};
+use iges_fields::{EntryNo, NoMemory};
 use iges_params::File;
-use iges_write::{WriteFileFault, write_file};
 use solid_extract::{ExtractFault, into_extract};
 use std::alloc::Global;
-
-fn word_of(reason: ExtractReason) -> &'static str
-    ensures { result.now ≡ extract_word reason }
-{
-    match reason {
-        ExtractReason::NotSolid => "not-solid",
-        ExtractReason::Unlisted => "unlisted",
-        ExtractReason::Layout => "layout",
-        ExtractReason::Dangling => "dangling",
-    }
-}
-
-/// The reply for a solid that can't be extracted.
-pub fn refused(alloc: Global, entity: EntryNo, reason: ExtractReason) -> Result<Reply, NoMemory>
-    ensures { IfOk result (λ reply. (reply.answer ≡ Answer.NoExtract)
-        × (reply.text ≡ no_extract_line entity.0 reason)) }
-{
-    let mut out = Out::new(alloc);
-    out.put(b"no extract ")?;
-    write_number(&mut out, u64::from(entity.0))?;
-    out.put(b" ")?;
-    out.put(word_of(reason).as_bytes())?;
-    out.put(b"\n")?;
-    Ok(Reply {
-        answer: Answer::NoExtract,
-        text: out.into_bytes(),
-    })
-}
-
-/// The reply that is the text of a file, or that this is too large.
-pub fn written(alloc: Global, file: File) -> Result<Reply, NoMemory>
-    ensures { IfOk result (λ reply. OfWritten file reply.answer reply.text) }
-{
-    match write_file(alloc, &file, FILE_LIMIT) {
-        Ok(text) => Ok(Reply {
-            answer: Answer::Done,
-            text,
-        }),
-        Err(WriteFileFault::TooLarge) => Ok(too_large(alloc)),
-        Err(WriteFileFault::NoMemory) => Err(NoMemory),
-    }
-}
 
 /// The file of a solid alone, with all that it refers to, or why there is none.
 pub fn extract_solid(alloc: Global, file: File, no: u32) -> Result<Reply, NoMemory>

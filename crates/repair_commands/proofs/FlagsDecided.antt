@@ -37,10 +37,10 @@ use Rattle.command_replies.specs.declared.answer.Answer.{Answer}
 use Rattle.command_replies.specs.declared.answer.Answer.TheVariants as answer
 use Rattle.cert_lines.specs.Line.{cut_lines}
 use Rattle.orient_commands.specs.Laws.{AreSameOrRings}
-use Rattle.repair_commands.specs.SolidTexts.{no_extract_line}
-use Rattle.repair_commands.specs.SolidDue.{OfWritten, OfReorient, unoriented, not_reoriented, reoriented}
+use Rattle.repair_commands.specs.SolidDue.{OfReorient, unoriented, not_reoriented, reoriented}
 use Rattle.repair_commands.proofs.ExtractionDecided.{extracted_or_refused}
-use Rattle.repair_commands.proofs.WrittenFiles.{one_written, refused_line, some_written}
+use Rattle.file_replies.specs.Written.{OfWritten, no_extract_line}
+use Rattle.file_replies.proofs.WrittenFiles.{one_written, refused_line, some_written}
 
 pub reorient_one : (n : ℕ) (f : Contents) (a b : Answer) (t u : List ℕ) → OfReorient n f a t → OfReorient n f b u
     → (a ≡ b) × ((t ≡ u) ⊎ AllZip AreSameOrRings (cut_lines t) (cut_lines u))

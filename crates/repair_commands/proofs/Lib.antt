@@ -1,5 +1,4 @@
 mod ExtractionDecided
-mod WrittenFiles
 pub mod FlagsDecided
 pub mod NeverDone
 pub mod ShortWords

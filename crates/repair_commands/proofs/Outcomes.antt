@@ -12,7 +12,9 @@ use Rattle.command_replies.specs.Due.{Exactly, OfNoFile}
 use Rattle.iges_params.specs.Contents.{Contents}
 use Rattle.orient_commands.specs.Due.{OfOrient, IsAnswerOf}
 use Rattle.orient_commands.specs.Due as orient
-use Rattle.repair_commands.specs.SolidDue.{OfReorient, OfWritten}
+use Rattle.repair_commands.specs.SolidDue.{OfReorient}
+use Rattle.file_replies.specs.Written as writing
+use Rattle.file_replies.specs.Written.{OfWritten}
 use Rattle.repair_commands.specs.SolidDue as reorient
 use Rattle.command_replies.specs.Replies.{IsFileTold, IsReply}
 use Rattle.repair_commands.specs.declared.asked.LineCommand.{LineCommand}
@@ -99,8 +101,8 @@ unoriented_judgement n f a t (orient.unready all x first) = tt
 unoriented_judgement n f a t (orient.oriented all ready is) = orient_judgement is.lines a is.answer
 
 written_judgement : (f : Contents) (a : Answer) (t : List ℕ) → OfWritten f a t → IsJudgement a
-written_judgement f a t (reorient.too_large text is many) = tt
-written_judgement f a t (reorient.written text is few) = tt
+written_judgement f a t (writing.too_large text is many) = tt
+written_judgement f a t (writing.written text is few) = tt
 
 reorient_judgement : (n : ℕ) (f : Contents) (a : Answer) (t : List ℕ) → OfReorient n f a t → IsJudgement a
 reorient_judgement n f a t (reorient.unoriented none owed) = unoriented_judgement n f a t owed

@@ -1,6 +1,5 @@
 pub mod Asked
 pub mod Texts
-pub mod SolidTexts
 pub mod SolidDue
 pub mod Due
 pub mod Outcome

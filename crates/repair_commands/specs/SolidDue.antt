@@ -10,14 +10,7 @@ use Rattle.solid_reorient.specs.Reoriented.{IsReoriented}
 use Rattle.command_replies.specs.declared.answer.Answer.{Answer}
 use Rattle.command_replies.specs.declared.answer.Answer.TheVariants as answer
 use Rattle.orient_commands.specs.Due.{OfOrient}
-use Rattle.repair_commands.specs.SolidTexts.{no_extract_line}
-
--- what is owed of writing a file
-pub data OfWritten (f : Contents) : Answer → List ℕ → Type 0 where
-  -- its text is too large
-  too_large : (text : List ℕ) → IsText f text → FILE_LIMIT < length text → OfWritten f answer.TooLarge []
-  -- it is not, and is the text that is owed
-  written : (text : List ℕ) → IsText f text → length text ≤ FILE_LIMIT → OfWritten f answer.Done text
+use Rattle.file_replies.specs.Written.{OfWritten, no_extract_line}
 
 -- what is owed of reorienting a solid
 pub data OfReorient (n : ℕ) (f : Contents) : Answer → List ℕ → Type 0 where

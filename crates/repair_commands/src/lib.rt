@@ -3,7 +3,6 @@
 
 mod asked;
 mod command;
-mod extracting;
 mod law;
 mod reorienting;
 mod replies;

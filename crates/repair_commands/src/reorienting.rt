@@ -1,8 +1,8 @@
 ghost use Rattle.repair_commands.specs.SolidDue.{OfReorient};
 ghost use Rattle.std.specs.Prelude.{IfOk};
 
-use crate::extracting::{refused, written};
 use command_replies::Reply;
+use file_replies::{refused, written};
 use iges_fields::{EntryNo, NoMemory};
 use iges_params::File;
 use orient_commands::orient_solid;

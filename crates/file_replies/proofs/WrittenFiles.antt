@@ -1,4 +1,4 @@
--- Of a file that is written, of a solid that is extracted, and of one that is compacted, one answer and text are owed.
+-- Of a file that is written one answer and text are owed, and a refusal has one line.
 use Rattle.std.specs.Prelude.{◌≡◌, ℕ, ◌<◌, ◌≤◌, List, [], length}
 use Rattle.std.proofs.Common.{refl, sym, ap, ◌∙◌, arith, inl, inr}
 use Rattle.iges_base.specs.declared.TheConstants.{FILE_LIMIT}
@@ -11,8 +11,7 @@ use Rattle.solid_extract.specs.Extracted.{IsRefused}
 use Rattle.solid_extract.proofs.One.{IsRefused-unique}
 use Rattle.command_replies.specs.declared.answer.Answer.{Answer}
 use Rattle.command_replies.specs.declared.answer.Answer.TheVariants as answer
-use Rattle.repair_commands.specs.SolidTexts.{no_extract_line}
-use Rattle.repair_commands.specs.SolidDue.{OfWritten, too_large, written}
+use Rattle.file_replies.specs.Written.{OfWritten, too_large, written, no_extract_line}
 
 -- ---- two that are owed are one
 

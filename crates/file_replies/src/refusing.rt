@@ -1,12 +1,9 @@
-ghost use Rattle.repair_commands.specs.SolidDue.{OfWritten};
-ghost use Rattle.repair_commands.specs.SolidTexts.{extract_word, no_extract_line};
+ghost use Rattle.file_replies.specs.Written.{extract_word, no_extract_line};
 ghost use Rattle.std.specs.Prelude.{◌≡◌, IfOk};
 
-use command_replies::{Answer, Reply, too_large};
+use command_replies::{Answer, Reply};
 use entry_references::ExtractReason;
-use iges_fields::{EntryNo, FILE_LIMIT, NoMemory, Out, write_number};
-use iges_params::File;
-use iges_write::{WriteFileFault, write_file};
+use iges_fields::{EntryNo, NoMemory, Out, write_number};
 use std::alloc::Global;
 
 fn word_of(reason: ExtractReason) -> &'static str
@@ -35,18 +32,4 @@ pub fn refused(alloc: Global, entity: EntryNo, reason: ExtractReason) -> Result<
         answer: Answer::NoExtract,
         text: out.into_bytes(),
     })
-}
-
-/// The reply that is the text of a file, or that this is too large.
-pub fn written(alloc: Global, file: File) -> Result<Reply, NoMemory>
-    ensures { IfOk result (λ reply. OfWritten file reply.answer reply.text) }
-{
-    match write_file(alloc, &file, FILE_LIMIT) {
-        Ok(text) => Ok(Reply {
-            answer: Answer::Done,
-            text,
-        }),
-        Err(WriteFileFault::TooLarge) => Ok(too_large(alloc)),
-        Err(WriteFileFault::NoMemory) => Err(NoMemory),
-    }
 }
