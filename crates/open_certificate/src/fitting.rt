@@ -11,10 +11,10 @@ ghost use Rattle.open_certificate.specs.Kept.{IsMarked, HoldsRows, AreCounts};
 ghost use Rattle.open_certificate.specs.Walks.{FitsPathLine, FitsBorderLine, IsBorderRing};
 
 use crate::words::OpenCounts;
+use cert_state::{is_above, named_row, turns_to};
 use cert_text::next_number;
 use edge_uses::Rows;
 use solid_data::{EdgeId, VertexId};
-use cert_state::{is_above, named_row, turns_to};
 
 /// Whether these are the counts of the shell.
 pub(crate) fn fits_counts(rows: &Rows, words: &OpenCounts) -> bool

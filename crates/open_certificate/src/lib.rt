@@ -15,13 +15,13 @@ mod verdict;
 mod words;
 mod writing;
 
+pub use cert_lines::ReachRows;
+pub use cert_text::{Illegal, Misfit};
 pub use checker::OpenChecker;
 pub use law::{
     borders_are_cycles, closed_is_sound, legal_or_first_bad, one_first_false, one_line, soundness,
 };
 pub use opening::{open_head, shell_number};
 pub use parts::{Borders, OpenCertificate, OpenCorner, OpenCorners, OpenEdge, OpenEdges};
-pub use cert_lines::ReachRows;
-pub use cert_text::{Illegal, Misfit};
 pub use verdict::{OpenFailing, OpenRule};
 pub use writing::write_open;

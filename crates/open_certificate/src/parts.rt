@@ -1,8 +1,8 @@
 //! A certificate of an open shell as its parts.
 
+use cert_lines::ReachRows;
 use iges_base::{EntryNo, ItemList};
 use solid_data::{LoopAt, RowId, RowList};
-use cert_lines::ReachRows;
 
 /// The rows of an edge.
 #[derive(Clone, Copy, Debug, PartialEq, Eq)]

@@ -2,11 +2,11 @@
 
 use crate::fitting::{fits_counts, fitting_border, fitting_lone, fitting_path, lists_all};
 use crate::words::{OpenCounts, OpenWords};
+use cert_state::{fitting_corner, fitting_edge, fitting_face, fitting_point, sizes_of};
 use edge_uses::Rows;
 use iges_base::{EntryNo, NoMemory};
 use std::alloc::Global;
 use std::marker::Model;
-use cert_state::{fitting_corner, fitting_edge, fitting_face, fitting_point, sizes_of};
 
 /// What is kept of the shell: its rows, what its lines are compared with, and what the lines so far said. Places in the
 /// lists count from 0; rows that are in them count from 1, as in the lines.
