@@ -1,5 +1,5 @@
 -- A shell that is taken alone is the shell of its solid, with other numbers of its edges and vertices.
-use Rattle.std.specs.Prelude.{◌≡◌, ℕ, ◌<◌, Bool, true, false, ℤ, pos, List, [], ◌∷◌, ◌++◌, length, map, flat_map, Contains, Option, Some, None, slice_get}
+use Rattle.std.specs.Prelude.{◌≡◌, ℕ, ◌<◌, Bool, true, false, ℤ, pos, List, [], ◌∷◌, length, map, flat_map, Option, Some, None, slice_get}
 use Rattle.std.specs.Prelude.{if◌then◌else◌}
 use Rattle.std.specs.List.{AllZip}
 use Rattle.std.proofs.Common.{refl, sym, ◌∙◌, ap, subst, inl, inr}
@@ -10,7 +10,7 @@ use Rattle.brep_numbering.specs.Keys.{Keys}
 use Rattle.brep_numbering.proofs.SameKeys.{edge_sound, edge_itself, vertex_sound, vertex_itself}
 use Rattle.brep_walk.specs.Places.{faces, loops, tuples, edge_at, numbers}
 use Rattle.brep_walk.specs.SolidOf.{edge_key, vertex_key, edge_named, ends_named, vertices_named, use_by, loop_by, face_by, shell_by, numbered_by, edge_by}
-use Rattle.brep_walk.specs.SolidOf.{tuples_in, edges_in, vertices_in, keys_in, solid_listing}
+use Rattle.brep_walk.specs.SolidOf.{tuples_in, keys_in, solid_listing}
 use Rattle.brep_walk.proofs.Numbered.{EdgesFound, by_key, uses_listed}
 use Rattle.solid_data.specs.Ring.{place_of}
 use Rattle.solid_data.specs.Obligations.{entry_number}
@@ -21,7 +21,7 @@ use Rattle.solid_data.specs.declared.solid.VertexKey.{VertexKey}
 use Rattle.solid_data.specs.declared.solid.LoopUse.{LoopUse}
 use Rattle.solid_data.specs.declared.solid.LoopUse.TheVariants.{EdgeUse, VertexUse}
 use Rattle.solid_data.specs.declared.solid.Shell.{Shell}
-use Rattle.solid_data.proofs.Members.{Has, Has-from_Contains, has_left, has_flat_map, from_flat_map, has_map, map_has, length-singles, get_single}
+use Rattle.solid_data.proofs.Members.{Has, Has-from_Contains, has_left, has_flat_map, from_flat_map, has_map, map_has, get_single}
 use Rattle.solid_data.proofs.Keys.{to_distinct, from_distinct, place_below, at_place, one_place}
 use Rattle.shell_rules.specs.Closed.{IsClosedShell}
 use Rattle.shell_laws.proofs.RenumberedShell.{renumbered_shell}
