@@ -18,7 +18,8 @@ use Rattle.cert_lines.specs.Line.{cut_lines}
 use Rattle.open_commands.proofs.Shells.{open_shell}
 use Rattle.open_line_laws.specs.Laws.{AlikeButReach, AcceptedDifferInReach}
 use Rattle.open_line_laws.proofs.LineLists.{some_here, some_later}
-use Rattle.open_line_laws.proofs.SameLines.{kind, next_kind, kind_at, kind_due, waits_for_shell, tests_tell, kinds_count, kinds_any, the_shell, shell_is, edge_lines}
+use Rattle.open_line_laws.proofs.SameLines.{kind, next_kind, kind_at, kind_due, waits_for_shell, tests_tell, kinds_count, kinds_any, the_shell, shell_is}
+use Rattle.open_line_laws.proofs.SameLines.{edge_lines}
 use Rattle.open_line_laws.proofs.SameLines.{corner_lines, border_lines}
 use Rattle.open_line_laws.proofs.SameParts.{fit_at, no_test}
 
@@ -207,7 +208,8 @@ spelled_alike : (x y : List ℕ) (l m : OpenLine) → IsSpelled x l → IsSpelle
 spelled_alike x y l m p q (inl e) = inl (p.1 ∙ (ap spelling e ∙ sym q.1))
 spelled_alike x y l m p q (inr (r, t, is_r, is_t)) = inr ((r, subst (IsSpelled x) is_r p), (t, subst (IsSpelled y) is_t q))
 
-texts_alike : (xs ys : List (List ℕ)) (ls ms : List OpenLine) → AllZip IsSpelled xs ls → AllZip IsSpelled ys ms → AllZip Alike ls ms → AllZip AlikeButReach xs ys
+texts_alike : (xs ys : List (List ℕ)) (ls ms : List OpenLine) → AllZip IsSpelled xs ls → AllZip IsSpelled ys ms → AllZip Alike ls ms
+    → AllZip AlikeButReach xs ys
 texts_alike [] [] ls ms p q z = tt
 texts_alike [] (y ∷ ys) [] [] p q z = absurd q
 texts_alike [] (y ∷ ys) [] (m ∷ ms) p q z = absurd z

@@ -324,10 +324,12 @@ firsts_in d alone firsts rows others there apart rings more facts into r m =
     let a = rings r m in
     let b = facts.first r (into r a.1) in
     let f : ℕ = b.0 in
-    let in_ring : Has (r ∷ a.0) f = keeps_steps (Goes d alone) (Has (r ∷ a.0)) (λ x y k g. kept_by_ring d alone apart r a.0 a.2 x y k g) b.2.0 r f b.2.1 (inl refl) in
+    let in_ring : Has (r ∷ a.0) f = keeps_steps (Goes d alone) (Has (r ∷ a.0)) (λ x y k g. kept_by_ring d alone apart r a.0 a.2 x y k g) b.2.0 r f b.2.1
+    (inl refl) in
     let back : LeadsTo (Goes d alone) f r = leads_on (Goes d alone) r a.0 r a.2 f in_ring in
     let c = more f b.1 in
-    let in_other : Has (f ∷ c.0) r = keeps_steps (Goes d alone) (Has (f ∷ c.0)) (λ x y k g. kept_by_ring d alone apart f c.0 c.2 x y k g) back.0 f r back.1 (inl refl) in
+    let in_other : Has (f ∷ c.0) r = keeps_steps (Goes d alone) (Has (f ∷ c.0))
+    (λ x y k g. kept_by_ring d alone apart f c.0 c.2 x y k g) back.0 f r back.1 (inl refl) in
     let same : f ≡ r = omega (arith, least_of r a.0 f a.3 in_ring, least_of f c.0 r c.3 in_other) in
     subst (Has others) same b.1
 

@@ -22,7 +22,8 @@ use Rattle.topo_certificate.proofs.Corner.{MatesHold, mates_named, StartsNamed, 
 use Rattle.topo_certificate.proofs.Segment.{AreGoodRows, named_has}
 use Rattle.open_certificate.specs.Sound.{IsOnce, row_total}
 use Rattle.open_certificate.specs.Line.{OpenLine, head, shell, edge, lone, cycle, path, point, reach, border, end}
-use Rattle.open_certificate.specs.Stand.{stand_from_latest, shell_of, FitsLine, IsChain, last_of, GoesOnTo, lone_in, mates_in, edge_in, vertex_in, border_in, is_edge}
+use Rattle.open_certificate.specs.Stand.{stand_from_latest, shell_of, FitsLine, IsChain, last_of, GoesOnTo, lone_in, mates_in, edge_in, vertex_in, border_in}
+use Rattle.open_certificate.specs.Stand.{is_edge}
 use Rattle.open_certificate.specs.Stand.{is_corner, is_border}
 use Rattle.open_certificate.proofs.Borders.{AreBorder, StartApart, Goes, goes_one}
 use Rattle.open_certificate.proofs.Facts.{AllFit}
