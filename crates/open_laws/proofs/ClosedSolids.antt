@@ -8,7 +8,7 @@ use Rattle.brep_lists.specs.declared.entity_kind.EntityKind.TheVariants.{Shell a
 use Rattle.brep_numbering.specs.Keys.{Keys}
 use Rattle.brep_walk.specs.OpenPlaces.{NamesShell, open_places, shell_solid_of}
 use Rattle.brep_walk.specs.Places.{NamesKind, shells, faces, loops, numbers, loop_places, face_places, shell_places}
-use Rattle.brep_walk.specs.SolidOf.{shell_by, keys_in, solid_of, solid_listing}
+use Rattle.brep_walk.specs.SolidOf.{shell_by, keys_in, solid_listing}
 use Rattle.brep_walk.proofs.Found.{shells_hold, solid_lists, edges_found, listed_solid}
 use Rattle.solid_data.specs.Obligations.{Obligation, AllHold, after_each}
 use Rattle.solid_data.specs.SolidData.{SolidData}

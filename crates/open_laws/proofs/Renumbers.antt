@@ -1,5 +1,5 @@
 -- A shell that is taken alone is the shell of its solid, with other numbers of its edges and vertices.
-use Rattle.std.specs.Prelude.{◌≡◌, ℕ, ◌<◌, Bool, true, false, ℤ, pos, List, [], ◌∷◌, ◌++◌, length, map, flat_map, Contains, Option, Some, None, slice_get}
+use Rattle.std.specs.Prelude.{◌≡◌, ℕ, ◌<◌, Bool, true, false, ℤ, pos, List, [], ◌∷◌, length, map, flat_map, Option, Some, None, slice_get}
 use Rattle.std.specs.Prelude.{if◌then◌else◌}
 use Rattle.std.specs.List.{AllZip}
 use Rattle.std.proofs.Common.{refl, sym, ◌∙◌, ap, subst, inl, inr}
@@ -10,7 +10,7 @@ use Rattle.brep_numbering.specs.Keys.{Keys}
 use Rattle.brep_numbering.proofs.SameKeys.{edge_sound, edge_itself, vertex_sound, vertex_itself}
 use Rattle.brep_walk.specs.Places.{faces, loops, tuples, edge_at, numbers}
 use Rattle.brep_walk.specs.SolidOf.{edge_key, vertex_key, edge_named, ends_named, vertices_named, use_by, loop_by, face_by, shell_by, numbered_by, edge_by}
-use Rattle.brep_walk.specs.SolidOf.{tuples_in, edges_in, vertices_in, keys_in, solid_listing}
+use Rattle.brep_walk.specs.SolidOf.{tuples_in, keys_in, solid_listing}
 use Rattle.brep_walk.proofs.Numbered.{EdgesFound, by_key, uses_listed}
 use Rattle.solid_data.specs.Ring.{place_of}
 use Rattle.solid_data.specs.Obligations.{entry_number}
@@ -21,7 +21,7 @@ use Rattle.solid_data.specs.declared.solid.VertexKey.{VertexKey}
 use Rattle.solid_data.specs.declared.solid.LoopUse.{LoopUse}
 use Rattle.solid_data.specs.declared.solid.LoopUse.TheVariants.{EdgeUse, VertexUse}
 use Rattle.solid_data.specs.declared.solid.Shell.{Shell}
-use Rattle.solid_data.proofs.Members.{Has, Has-from_Contains, has_left, has_flat_map, from_flat_map, has_map, map_has, length-singles, get_single}
+use Rattle.solid_data.proofs.Members.{Has, Has-from_Contains, has_left, has_flat_map, from_flat_map, has_map, map_has, get_single}
 use Rattle.solid_data.proofs.Keys.{to_distinct, from_distinct, place_below, at_place, one_place}
 use Rattle.shell_rules.specs.Closed.{IsClosedShell}
 use Rattle.shell_laws.proofs.RenumberedShell.{renumbered_shell}
@@ -100,7 +100,8 @@ module _ (f : Contents) (n : ℕ) (items : List (ℤ × Bool)) (found : EdgesFou
   vertices_are = refl
 
   pub vertex_below : (key : VertexKey) → Has keys.vertices key → place_of same_vertex keys.vertices key < length (solid_listing f n items).vertices
-  vertex_below key h = subst (λ vs. place_of same_vertex keys.vertices key < length vs) (sym vertices_are) (place_below same_vertex vertex_itself keys.vertices key h)
+  vertex_below key h = subst (λ vs. place_of same_vertex keys.vertices key < length vs) (sym vertices_are)
+      (place_below same_vertex vertex_itself keys.vertices key h)
 
 -- ---- one of its shells alone
 
@@ -139,7 +140,11 @@ module _ (f : Contents) (n : ℕ) (items : List (ℤ × Bool)) (m : ℕ) (flag :
   whole = shell_by f there (pos m, true)
 
   abbrev numbering : Renumbering
-  numbering = record { edge = λ e. number_of_edge there.edges (slice_get here.edges e); vertex = λ v. number_of_vertex there.vertices (slice_get here.vertices v) }
+  numbering = record {
+    edge = λ e. number_of_edge there.edges (slice_get here.edges e);
+    vertex = λ v. number_of_vertex there.vertices
+        (slice_get here.vertices v);
+  }
 
   -- the tuples of the shell are tuples of the solid
   tuple_there : (u : LoopTuple) → Has (tuples_in f one) u → Has (tuples_in f items) u
@@ -172,7 +177,8 @@ module _ (f : Contents) (n : ℕ) (items : List (ℤ × Bool)) (m : ℕ) (flag :
   edge_number : (key : EdgeKey) → Has here.edges key → numbering.edge (place_of same_edge here.edges key) ≡ place_of same_edge there.edges key
   edge_number key h = ap (number_of_edge there.edges) (at_place same_edge edge_sound edge_itself here.edges key h)
 
-  vertex_number : (key : VertexKey) → Has here.vertices key → numbering.vertex (place_of same_vertex here.vertices key) ≡ place_of same_vertex there.vertices key
+  vertex_number : (key : VertexKey) → Has here.vertices key → numbering.vertex (place_of same_vertex here.vertices key)
+      ≡ place_of same_vertex there.vertices key
   vertex_number key h = ap (number_of_vertex there.vertices) (at_place same_vertex vertex_sound vertex_itself here.vertices key h)
 
   -- ---- faces and loops
@@ -187,7 +193,8 @@ module _ (f : Contents) (n : ℕ) (items : List (ℤ × Bool)) (m : ℕ) (flag :
       of_case : (b : Bool) → u.is_vertex ≡ b → pick there b ≡ renumbered_use numbering (pick here b)
       of_case true v =
           let named : Has here.vertices (vertex_key u.«list» u.index) = vertex_is_named f m one found_here u (vertex_key u.«list» u.index) h
-          (subst (λ b. Has (if b then vertex_key u.«list» u.index ∷ [] else ends_named (edge_at f u.«list» (entry_number u.index))) (vertex_key u.«list» u.index))
+          (subst (λ b. Has (if b then vertex_key u.«list» u.index ∷ [] else ends_named (edge_at f u.«list» (entry_number u.index)))
+          (vertex_key u.«list» u.index))
           (sym v) (inl refl)) in
           ap (λ k. VertexUse (record { 0 = k })) (sym (vertex_number (vertex_key u.«list» u.index) named))
       of_case false v = ap (λ k. EdgeUse (record { 0 = k }) u.flag) (sym (edge_number (edge_key u.«list» u.index) (key_named f m one found_here u h v)))
@@ -195,7 +202,8 @@ module _ (f : Contents) (n : ℕ) (items : List (ℤ × Bool)) (m : ℕ) (flag :
       by_case : (b : Bool) → u.is_vertex ≡ b → pick there u.is_vertex ≡ renumbered_use numbering (pick here u.is_vertex)
       by_case b v = of_case u.is_vertex refl
 
-  uses_as : (us : List LoopTuple) → ((u : LoopTuple) → Has us u → Has (tuples_in f one) u) → map (use_by there) us ≡ map (renumbered_use numbering) (map (use_by here) us)
+  uses_as : (us : List LoopTuple) → ((u : LoopTuple) → Has us u → Has (tuples_in f one) u)
+      → map (use_by there) us ≡ map (renumbered_use numbering) (map (use_by here) us)
   uses_as [] h = refl
   uses_as (u ∷ us) h = λ i. use_as u (h u (inl refl)) i ∷ uses_as us (λ w k. h w (inr k)) i
 
@@ -204,7 +212,8 @@ module _ (f : Contents) (n : ℕ) (items : List (ℤ × Bool)) (m : ℕ) (flag :
   loops_as [] h = tt
   loops_as (l ∷ ls) h = (uses_as (tuples f l) (h l (inl refl)), loops_as ls (λ k g. h k (inr g)))
 
-  faces_as : (cs : List (ℤ × Bool)) → ((c : ℤ × Bool) → Has cs c → (l : ℤ) → Has (loops f c.0) l → (u : LoopTuple) → Has (tuples f l) u → Has (tuples_in f one) u)
+  faces_as : (cs : List (ℤ × Bool)) → ((c : ℤ × Bool) → Has cs c → (l : ℤ) → Has (loops f c.0) l → (u : LoopTuple) → Has (tuples f l) u
+      → Has (tuples_in f one) u)
       → AllZip (IsRenumberedFace numbering) (map (face_by f here) cs) (map (face_by f there) cs)
   faces_as [] h = tt
   faces_as (c ∷ cs) h = (record { flag = refl; loops = loops_as (loops f c.0) (h c (inl refl)) }, faces_as cs (λ d k. h d (inr k)))
@@ -254,8 +263,10 @@ module _ (f : Contents) (n : ℕ) (items : List (ℤ × Bool)) (m : ℕ) (flag :
       let x = use_named u.0 u.1 in
       of_tuple x.0 x.1 x.0.is_vertex refl (subst (λ y. Has (vertices_used s y) w) (sym x.2) u.2)
     where
-      of_ends : (e : EdgeTuple) (key : EdgeKey) → Has here.vertices (vertex_key e.start_list e.start_index) → Has here.vertices (vertex_key e.end_list e.end_index)
-          → Has (ends_of (Some (edge_with f m one found_here key e))) w → (key : VertexKey) × Has here.vertices key × (place_of same_vertex here.vertices key ≡ w)
+      of_ends : (e : EdgeTuple) (key : EdgeKey) → Has here.vertices (vertex_key e.start_list e.start_index)
+          → Has here.vertices (vertex_key e.end_list e.end_index)
+          → Has (ends_of (Some (edge_with f m one found_here key e))) w
+          → (key : VertexKey) × Has here.vertices key × (place_of same_vertex here.vertices key ≡ w)
       of_ends e key a b (inl same) = (vertex_key e.start_list e.start_index, a, same)
       of_ends e key a b (inr (inl same)) = (vertex_key e.end_list e.end_index, b, same)
       of_ends e key a b (inr (inr k)) = absurd k
@@ -274,7 +285,8 @@ module _ (f : Contents) (n : ℕ) (items : List (ℤ × Bool)) (m : ℕ) (flag :
           by_case true v (inl same) = (
             vertex_key x.«list» x.index,
             vertex_is_named f m one found_here x (vertex_key x.«list» x.index) h
-                (subst (λ b. Has (if b then vertex_key x.«list» x.index ∷ [] else ends_named (edge_at f x.«list» (entry_number x.index))) (vertex_key x.«list» x.index))
+                (subst (λ b. Has (if b then vertex_key x.«list» x.index ∷ [] else ends_named (edge_at f x.«list» (entry_number x.index)))
+                (vertex_key x.«list» x.index))
                 (sym v) (inl refl)),
             same,
           )

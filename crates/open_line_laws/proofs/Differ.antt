@@ -17,19 +17,15 @@ use Rattle.open_certificate.proofs.Sound.{good_shell}
 use Rattle.cert_lines.specs.Line.{cut_lines}
 use Rattle.open_commands.proofs.Shells.{open_shell}
 use Rattle.open_line_laws.specs.Laws.{AlikeButReach, AcceptedDifferInReach}
-use Rattle.open_line_laws.proofs.SameLines.{kind, next_kind, kind_at, kind_due, waits_for_shell, tests_tell, kinds_count, kinds_any, the_shell, shell_is, edge_lines}
+use Rattle.open_line_laws.proofs.LineLists.{some_here, some_later}
+use Rattle.open_line_laws.proofs.SameLines.{kind, next_kind, kind_at, kind_due, waits_for_shell, tests_tell, kinds_count, kinds_any, the_shell, shell_is}
+use Rattle.open_line_laws.proofs.SameLines.{edge_lines}
 use Rattle.open_line_laws.proofs.SameLines.{corner_lines, border_lines}
-use Rattle.open_line_laws.proofs.SameParts.{fit_at}
+use Rattle.open_line_laws.proofs.SameParts.{fit_at, no_test}
 
 -- the same, or both reach lines
 abbrev Alike : OpenLine → OpenLine → Type 0
 Alike x y = (x ≡ y) ⊎ ((r t : ℕ) × (x ≡ reach r) × (y ≡ reach t))
-
-kind_here : (m n : ℕ) (ms ns : List ℕ) → m ∷ ms ≡ n ∷ ns → m ≡ n
-kind_here m n ms ns e = cc
-
-kind_later : (m n : ℕ) (ms ns : List ℕ) → m ∷ ms ≡ n ∷ ns → ms ≡ ns
-kind_later m n ms ns e = cc
 
 -- ---- lines in order
 
@@ -68,9 +64,6 @@ zip_turned R (l ∷ ls) (m ∷ ms) us ws e z =
 kind_of_shell : (x : OpenLine) → is_shell x ≡ true → kind x ≡ 0
 kind_of_shell x t = eqb-true (kind x) 0 (sym (tests_tell x).0 ∙ t)
 
-false_is_true : false ≡ true → ⊥
-false_is_true e = cc
-
 module _ (s : SolidData) where
   ends_same : (us ws : List OpenLine) → map kind us ≡ map kind ws → (stand_from_latest s us).ended ≡ (stand_from_latest s ws).ended
   unfolding stand_from_latest
@@ -89,8 +82,8 @@ module _ (s : SolidData) where
       → ((x y : OpenLine) → Has ls x → Has ms y → is_shell x ≡ true → is_shell y ≡ true → x ≡ y) → map kind us ≡ map kind ws
       → find is_shell us ≡ find is_shell ws → (map kind (turned ls us) ≡ map kind (turned ms ws)) × (length ls ≡ length ms)
   kinds_same us ws [] [] run go one same heads = (same, refl)
-  kinds_same us ws [] (m ∷ ms) run go one same heads = absurd (false_is_true (sym go.0.0 ∙ (sym (ends_same us ws same) ∙ run)))
-  kinds_same us ws (l ∷ ls) [] run go one same heads = absurd (false_is_true (sym run.0.0 ∙ (ends_same us ws same ∙ go)))
+  kinds_same us ws [] (m ∷ ms) run go one same heads = absurd (no_test (sym go.0.0 ∙ (sym (ends_same us ws same) ∙ run)))
+  kinds_same us ws (l ∷ ls) [] run go one same heads = absurd (no_test (sym run.0.0 ∙ (ends_same us ws same ∙ go)))
   kinds_same us ws (l ∷ ls) (m ∷ ms) run go one same heads =
       let next : kind l ≡ kind m = kind_due s (stand_from_latest s us) (waits_for_shell s us) l run.0.1
       ∙ (due_same us ws same heads ∙ sym (kind_due s (stand_from_latest s ws) (waits_for_shell s ws) m go.0.1)) in
@@ -120,10 +113,10 @@ by_kinds [] [] e pairs told = tt
 by_kinds [] (y ∷ ys) e pairs told = absurd cc
 by_kinds (x ∷ xs) [] e pairs told = absurd cc
 by_kinds (x ∷ xs) (y ∷ ys) e pairs told =
-    let same : kind x ≡ kind y = kind_here (kind x) (kind y) (map kind xs) (map kind ys) e in (
+    let same : kind x ≡ kind y = some_here (kind x) (kind y) (map kind xs) (map kind ys) e in (
       ⊎_elim (λ a. a) (λ t. inl (first (of_kind (kind x) xs) (of_kind (kind x) ys) (kind x == kind x) (kind y == kind x) (eq-eqb (kind x) (kind x) refl)
           (eq-eqb (kind y) (kind x) (sym same)) (told (kind x) t))) (pairs x y (inl refl) (inl refl) same),
-      by_kinds xs ys (kind_later (kind x) (kind y) (map kind xs) (map kind ys) e) (λ u w m n. pairs u w (inr m) (inr n))
+      by_kinds xs ys (some_later (kind x) (kind y) (map kind xs) (map kind ys) e) (λ u w m n. pairs u w (inr m) (inr n))
           (λ k t. others (of_kind k xs) (of_kind k ys) (kind x == k) (kind y == k) (ap (λ n. n == k) same) (told k t)),
     )
   where
@@ -189,10 +182,10 @@ module _ (s : SolidData) (good : AreGoodRows (shell_of s)) (f g : FitsAll s) whe
   pairs end y m n e = inl (inl (sym (end_of_kind y (sym e))))
 
   alike_but_end : map kind (end ∷ f.lines) ≡ map kind (end ∷ g.lines) → AllZip Alike (end ∷ f.lines) (end ∷ g.lines)
-  alike_but_end e = (inl refl, by_kinds f.lines g.lines (kind_later 5 5 (map kind f.lines) (map kind g.lines) e) pairs told_lines)
+  alike_but_end e = (inl refl, by_kinds f.lines g.lines (some_later 5 5 (map kind f.lines) (map kind g.lines) e) pairs told_lines)
 
 end_no_shell : (x : OpenLine) → end ≡ x → is_shell x ≡ true → ⊥
-end_no_shell x e t = false_is_true (ap is_shell e ∙ t)
+end_no_shell x e t = no_test (ap is_shell e ∙ t)
 
 -- The lines of two runs for one shell are alike.
 runs_alike : (s : SolidData) → AreGoodRows (shell_of s) → (ls ms : List OpenLine) → IsRun s [] ls → IsRun s [] ms → AllZip Alike ls ms
@@ -215,7 +208,8 @@ spelled_alike : (x y : List ℕ) (l m : OpenLine) → IsSpelled x l → IsSpelle
 spelled_alike x y l m p q (inl e) = inl (p.1 ∙ (ap spelling e ∙ sym q.1))
 spelled_alike x y l m p q (inr (r, t, is_r, is_t)) = inr ((r, subst (IsSpelled x) is_r p), (t, subst (IsSpelled y) is_t q))
 
-texts_alike : (xs ys : List (List ℕ)) (ls ms : List OpenLine) → AllZip IsSpelled xs ls → AllZip IsSpelled ys ms → AllZip Alike ls ms → AllZip AlikeButReach xs ys
+texts_alike : (xs ys : List (List ℕ)) (ls ms : List OpenLine) → AllZip IsSpelled xs ls → AllZip IsSpelled ys ms → AllZip Alike ls ms
+    → AllZip AlikeButReach xs ys
 texts_alike [] [] ls ms p q z = tt
 texts_alike [] (y ∷ ys) [] [] p q z = absurd q
 texts_alike [] (y ∷ ys) [] (m ∷ ms) p q z = absurd z

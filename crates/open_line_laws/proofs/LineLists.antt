@@ -1,6 +1,6 @@
 -- Lists that are told by numbers, and walks that go one way.
 use Rattle.std.specs.Prelude.{◌≡◌, ℕ, zero, suc, ◌+◌, ◌≤◌, ◌<◌, Bool, true, false, cond, List, [], ◌∷◌, length, filter, filter_map, Option, Some, None}
-use Rattle.std.specs.List.{cons_option}
+use Rattle.std.specs.List.{AllByRecursion, cons_option}
 use Rattle.std.proofs.Common.{refl, sym, ◌∙◌, ap, subst, arith, inl, inr, ⊎_elim}
 use Rattle.solid_data.specs.Chain.{Steps}
 use Rattle.solid_data.proofs.Members.{Has, All-at, covers}
@@ -32,12 +32,17 @@ pub all_of_one : (all xs ys : List ℕ) → Falls xs → Falls ys → ((x : ℕ)
 all_of_one all xs ys a b p q many_x many_y =
     falls_same xs ys a b (λ x m. covers ys all (falls_none ys b) q many_y x (p x m)) (λ x m. covers xs all (falls_none xs a) p many_x x (q x m))
 
+-- the first, with greater ones behind it, is the least
+pub least_of : (r : ℕ) (rs : List ℕ) (x : ℕ) → AllByRecursion (λ y. r < y) rs → Has (r ∷ rs) x → r ≤ x
+least_of r rs x least (inl e) = omega (arith, e)
+least_of r rs x least (inr m) = let lt : r < x = All-at (λ y. r < y) rs least x m in omega (arith, lt)
+
 -- ---- items with keys
 
-some_here : (j k : ℕ) (js ks : List ℕ) → j ∷ js ≡ k ∷ ks → j ≡ k
+pub some_here : (j k : ℕ) (js ks : List ℕ) → j ∷ js ≡ k ∷ ks → j ≡ k
 some_here j k js ks e = cc
 
-some_later : (j k : ℕ) (js ks : List ℕ) → j ∷ js ≡ k ∷ ks → js ≡ ks
+pub some_later : (j k : ℕ) (js ks : List ℕ) → j ∷ js ≡ k ∷ ks → js ≡ ks
 some_later j k js ks e = cc
 
 -- Q tells the item of a key.

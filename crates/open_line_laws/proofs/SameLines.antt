@@ -8,7 +8,7 @@ use Rattle.solid_data.specs.Chain.{LeadsTo}
 use Rattle.solid_data.proofs.Members.{Has, Has-from_Contains, Contains-from_Has, All-at, All-from, covers, has_flat_map, has_map}
 use Rattle.solid_data.proofs.Trail.{Trail, leads_on, next_on}
 use Rattle.edge_uses.specs.ShellRows.{ShellRows}
-use Rattle.cert_state.proofs.Segment.{AreGoodRows, Falls, falls_more}
+use Rattle.cert_state.proofs.Segment.{AreGoodRows}
 use Rattle.open_certificate.specs.Sound.{IsOnce}
 use Rattle.open_certificate.specs.Line.{OpenLine, head, shell, edge, lone, cycle, path, point, reach, border, end}
 use Rattle.open_certificate.specs.Stand.{OpenStand, stand_from_latest, shell_of, FitsOpen, lone_in, mates_in, edge_in, vertex_in, border_in}
@@ -16,27 +16,11 @@ use Rattle.open_certificate.specs.Stand.{border_rows, is_shell, is_edge, is_corn
 use Rattle.open_certificate.proofs.Borders.{AreBorder, StartApart, Goes, RingFacts, start_apart, goes_one, keeps_steps, no_rings, ring_step}
 use Rattle.open_certificate.proofs.Facts.{AllFit, FitsAll, facts_listed, proper_of}
 use Rattle.open_certificate.proofs.Once.{AreListed, once_rows, lone_border}
-use Rattle.open_line_laws.proofs.LineLists.{all_of_one, falls_same, keyed_same, keys_of_passing, passing}
+use Rattle.open_line_laws.proofs.LineLists.{all_of_one, falls_same, keyed_same, keys_of_passing, passing, least_of, some_here, some_later}
 use Rattle.open_line_laws.proofs.SameParts.{EdgeIs, CornerIs, BorderIs, ring, one_edge, one_corner, one_border, edge_line_is, corner_line_is, border_line_is}
 use Rattle.open_line_laws.proofs.SameParts.{FitsAt, fit_at}
 
 -- ---- the border lines, the latest first
-
-firsts_fall : (s : SolidData) (lines : List OpenLine) → AllFit s lines → Falls (filter_map border_in lines)
-unfolding stand_from_latest
-firsts_fall s [] fit = tt
-firsts_fall s (head ∷ ls) fit = absurd fit.0.1
-firsts_fall s (shell n a b c e f ∷ ls) fit = firsts_fall s ls fit.1
-firsts_fall s (edge a b ∷ ls) fit = firsts_fall s ls fit.1
-firsts_fall s (lone a ∷ ls) fit = firsts_fall s ls fit.1
-firsts_fall s (cycle rs ∷ ls) fit = firsts_fall s ls fit.1
-firsts_fall s (path rs ∷ ls) fit = firsts_fall s ls fit.1
-firsts_fall s (point face l ∷ ls) fit = firsts_fall s ls fit.1
-firsts_fall s (reach r ∷ ls) fit = firsts_fall s ls fit.1
-firsts_fall s (border [] ∷ ls) fit = absurd fit.0.1
-firsts_fall s (border (r ∷ rs) ∷ ls) fit =
-    (falls_more (filter_map border_in ls) r fit.0.1.1.rises (firsts_fall s ls fit.1), firsts_fall s ls fit.1)
-firsts_fall s (end ∷ ls) fit = firsts_fall s ls fit.1
 
 -- what all lines show of the rows that border lines list
 rings_of : (s : SolidData) (alone : List ℕ) (lines : List OpenLine) → StartApart (shell_of s) alone → AllFit s lines
@@ -76,10 +60,6 @@ first_line (border [] ∷ ls) r m = let k = first_line ls r m in (k.0, inr k.1)
 first_line (border (q ∷ qs) ∷ ls) r (inl e) = (qs, inl (ap (λ n. border (n ∷ qs)) e))
 first_line (border (q ∷ qs) ∷ ls) r (inr m) = let k = first_line ls r m in (k.0, inr k.1)
 first_line (end ∷ ls) r m = let k = first_line ls r m in (k.0, inr k.1)
-
-above_first : (r : ℕ) (rs : List ℕ) → AllByRecursion (λ x. r < x) rs → (x : ℕ) → Has (r ∷ rs) x → r ≤ x
-above_first r rs all x (inl e) = omega (arith, e)
-above_first r rs all x (inr m) = let lt : r < x = All-at (λ y. r < y) rs all x m in omega (arith, lt)
 
 -- a ring of border rows keeps what goes on from it
 kept_by_ring : (d : ShellRows) (alone : List ℕ) → StartApart d alone → (r : ℕ) (rs : List ℕ) → Trail (Goes d alone) r rs r → (x y : ℕ) → Has (r ∷ rs) x
@@ -127,15 +107,9 @@ kinds_count test k h [] [] e = refl
 kinds_count test k h [] (y ∷ ys) e = absurd cc
 kinds_count test k h (x ∷ xs) [] e = absurd cc
 kinds_count test k h (x ∷ xs) (y ∷ ys) e =
-    step (test x) (test y) (h x ∙ (ap (λ n. n == k) (kind_here (kind x) (kind y) (map kind xs) (map kind ys) e) ∙ sym (h y)))
-    (kinds_count test k h xs ys (kind_later (kind x) (kind y) (map kind xs) (map kind ys) e))
+    step (test x) (test y) (h x ∙ (ap (λ n. n == k) (some_here (kind x) (kind y) (map kind xs) (map kind ys) e) ∙ sym (h y)))
+    (kinds_count test k h xs ys (some_later (kind x) (kind y) (map kind xs) (map kind ys) e))
   where
-    kind_here : (m n : ℕ) (ms ns : List ℕ) → m ∷ ms ≡ n ∷ ns → m ≡ n
-    kind_here m n ms ns e = cc
-
-    kind_later : (m n : ℕ) (ms ns : List ℕ) → m ∷ ms ≡ n ∷ ns → ms ≡ ns
-    kind_later m n ms ns e = cc
-
     step : (b c : Bool) → b ≡ c → length (filter test xs) ≡ length (filter test ys)
         → length (cond b (x ∷ filter test xs) (filter test xs)) ≡ length (cond c (y ∷ filter test ys) (filter test ys))
     step true true e same = ap suc same
@@ -350,11 +324,13 @@ firsts_in d alone firsts rows others there apart rings more facts into r m =
     let a = rings r m in
     let b = facts.first r (into r a.1) in
     let f : ℕ = b.0 in
-    let in_ring : Has (r ∷ a.0) f = keeps_steps (Goes d alone) (Has (r ∷ a.0)) (λ x y k g. kept_by_ring d alone apart r a.0 a.2 x y k g) b.2.0 r f b.2.1 (inl refl) in
+    let in_ring : Has (r ∷ a.0) f = keeps_steps (Goes d alone) (Has (r ∷ a.0)) (λ x y k g. kept_by_ring d alone apart r a.0 a.2 x y k g) b.2.0 r f b.2.1
+    (inl refl) in
     let back : LeadsTo (Goes d alone) f r = leads_on (Goes d alone) r a.0 r a.2 f in_ring in
     let c = more f b.1 in
-    let in_other : Has (f ∷ c.0) r = keeps_steps (Goes d alone) (Has (f ∷ c.0)) (λ x y k g. kept_by_ring d alone apart f c.0 c.2 x y k g) back.0 f r back.1 (inl refl) in
-    let same : f ≡ r = omega (arith, above_first r a.0 a.3 f in_ring, above_first f c.0 c.3 r in_other) in
+    let in_other : Has (f ∷ c.0) r = keeps_steps (Goes d alone) (Has (f ∷ c.0))
+    (λ x y k g. kept_by_ring d alone apart f c.0 c.2 x y k g) back.0 f r back.1 (inl refl) in
+    let same : f ≡ r = omega (arith, least_of r a.0 f a.3 in_ring, least_of f c.0 r c.3 in_other) in
     subst (Has others) same b.1
 
 module _ (s : SolidData) (good : AreGoodRows (shell_of s)) where
@@ -471,7 +447,7 @@ module _ (s : SolidData) (good : AreGoodRows (shell_of s)) where
         let there = begin_rings g mates_there alone_there long in
         let facts_f = rings f (λ p c. c) (λ a c. c) refl in
         let facts_g = rings g mates_there alone_there long in
-        falls_same (filter_map border_in f.lines) (filter_map border_in g.lines) (firsts_fall s f.lines f.fit) (firsts_fall s g.lines g.fit)
+        falls_same (filter_map border_in f.lines) (filter_map border_in g.lines) facts_f.falls facts_g.falls
         (firsts_in d (alone_of f) (filter_map border_in f.lines) (flat_map border_rows f.lines) (filter_map border_in g.lines) (flat_map border_rows g.lines)
         starts here there facts_g (λ x m. rows_whole g mates_there alone_there long x (facts_f.within x m)))
         (firsts_in d (alone_of f) (filter_map border_in g.lines) (flat_map border_rows g.lines) (filter_map border_in f.lines) (flat_map border_rows f.lines)

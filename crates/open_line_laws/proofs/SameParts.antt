@@ -23,13 +23,14 @@ use Rattle.cert_state.proofs.Corner.{MatesHold, mates_named, StartsNamed, turn_s
 use Rattle.cert_state.proofs.Segment.{AreGoodRows, named_has}
 use Rattle.open_certificate.specs.Sound.{IsOnce, row_total}
 use Rattle.open_certificate.specs.Line.{OpenLine, head, shell, edge, lone, cycle, path, point, reach, border, end}
-use Rattle.open_certificate.specs.Stand.{stand_from_latest, shell_of, FitsLine, IsChain, last_of, GoesOnTo, lone_in, mates_in, edge_in, vertex_in, border_in, is_edge}
+use Rattle.open_certificate.specs.Stand.{stand_from_latest, shell_of, FitsLine, IsChain, last_of, GoesOnTo, lone_in, mates_in, edge_in, vertex_in, border_in}
+use Rattle.open_certificate.specs.Stand.{is_edge}
 use Rattle.open_certificate.specs.Stand.{is_corner, is_border}
 use Rattle.open_certificate.proofs.Borders.{AreBorder, StartApart, Goes, goes_one}
 use Rattle.open_certificate.proofs.Facts.{AllFit}
 use Rattle.open_certificate.proofs.Fans.{counted_way, both_ways_counted, turns_one, lone_no_turn, chain_no_repeat}
 use Rattle.open_certificate.proofs.Once.{OnceRows, way_one}
-use Rattle.open_line_laws.proofs.LineLists.{trail_same, chain_same}
+use Rattle.open_line_laws.proofs.LineLists.{least_of, trail_same, chain_same}
 
 -- ---- edges
 
@@ -94,10 +95,6 @@ rest_of_chain R x [] c y (inr m) = absurd m
 rest_of_chain R x (w ∷ ws) c y (inr m) =
     let k = rest_of_chain R w ws c.1 y m in
     (k.0, k.1, k.2, omega (arith, k.3), λ same. absurd (omega (arith, same, k.3)))
-
-least_of : (r : ℕ) (rs : List ℕ) (x : ℕ) → AllByRecursion (λ y. r < y) rs → Has (r ∷ rs) x → r ≤ x
-least_of r rs x least (inl e) = omega (arith, e)
-least_of r rs x least (inr m) = let lt : r < x = All-at (λ y. r < y) rs least x m in omega (arith, lt)
 
 -- the point that is named, and that one at most lies at a vertex
 found_point : (test : LoopAt × ℕ → Bool) (ps : List (LoopAt × ℕ)) (q : LoopAt × ℕ) → find test ps ≡ Some q → Has ps q × (test q ≡ true)
@@ -304,7 +301,7 @@ has_filter_map {B} g (l ∷ ls) x y (inr m) e = behind (g l) (filter_map g ls) (
     behind None ys h = h
     behind (Some z) ys h = inr h
 
-no_test : false ≡ true → ⊥
+pub no_test : false ≡ true → ⊥
 no_test e = cc
 
 module _ (s : SolidData) (mates : List (ℕ × ℕ)) (alone : List ℕ) (lines : List OpenLine) (fit : AllFit s lines) (borders : AreBorder (shell_of s) alone)

@@ -20,7 +20,7 @@ use Rattle.solid_data.proofs.Members.{Has, Contains-from_Has, has_flat_map}
 use Rattle.edge_uses.specs.declared.row.Row.{Row}
 use Rattle.edge_uses.specs.ShellRows.{ShellRows, row_of_edge, row_of, loop_rows, follows_from, point_of, shell_rows}
 use Rattle.shell_laws.specs.Renumbered.{Renumbering, renumbered_use, IsRenumberedLoop, IsRenumberedFace, IsRenumberedEdge, IsRenumberedShell, IsRenumbered}
-use Rattle.shell_laws.proofs.TurnedRows.{map_cons}
+use Rattle.shell_laws.proofs.TurnedRows.{placed_at, map_cons}
 
 abbrev pub vertex_as : Renumbering → VertexId → VertexId
 vertex_as r v = record { 0 = r.vertex v.0 }
@@ -51,8 +51,7 @@ module _ (r : Renumbering) where
   in_face a b same n f g h = each 0 f.loops g.loops h.loops
     where
       each : (k : ℕ) (ls ms : List Loop) → AllZip (IsRenumberedLoop r) ls ms → AllZip (IsRenumberedPlaced r)
-          (map (λ (l : ℕ × Loop). let p : PlacedLoop = record { at = record { face = record { 0 = n }; place = l.0 }; forwards = same_flag f.flag a; loop = l.1 } in p) (enumerate_from k ls))
-          (map (λ (l : ℕ × Loop). let p : PlacedLoop = record { at = record { face = record { 0 = n }; place = l.0 }; forwards = same_flag g.flag b; loop = l.1 } in p) (enumerate_from k ms))
+          (map (placed_at n (same_flag f.flag a)) (enumerate_from k ls)) (map (placed_at n (same_flag g.flag b)) (enumerate_from k ms))
       each k [] [] z = tt
       each k [] (m ∷ ms) z = absurd z
       each k (l ∷ ls) [] z = absurd z
@@ -144,7 +143,8 @@ module _ (r : Renumbering) where
     follows_same base (p ∷ ps) [] m z = absurd z
     follows_same base (p ∷ ps) (q ∷ qs) m z =
         ap (λ n. (if q.forwards then next_of_each (numbers_from base n) else previous_of_each (numbers_from base n)) ++ follows_from t (base + n) qs) as_many
-        ∙ (ap (λ c. (if c then next_of_each (numbers_from base n) else previous_of_each (numbers_from base n)) ++ follows_from t (base + n) qs) (sym z.0.forwards)
+        ∙ (ap (λ c. (if c then next_of_each (numbers_from base n) else previous_of_each (numbers_from base n)) ++ follows_from t (base + n) qs)
+        (sym z.0.forwards)
         ∙ ap (λ ns. (if p.forwards then next_of_each (numbers_from base n) else previous_of_each (numbers_from base n)) ++ ns)
         (follows_same (base + n) ps qs (λ x k. m x (inr k)) z.1))
       where

@@ -17,7 +17,8 @@ use Rattle.solid_data.specs.declared.solid.LoopAt.{LoopAt}
 use Rattle.solid_data.specs.declared.solid.LoopUse.{LoopUse}
 use Rattle.solid_data.specs.declared.solid.LoopUse.TheVariants.{EdgeUse, VertexUse}
 use Rattle.solid_data.specs.declared.solid.Shell.{Shell}
-use Rattle.solid_data.proofs.Members.{Has, Has-from_Contains, Contains-from_Has, All-at, All-from, has_get, has_append, has_flat_map, from_flat_map, has_map, map_has}
+use Rattle.solid_data.proofs.Members.{Has, Has-from_Contains, Contains-from_Has, All-at, All-from, has_get, has_append, has_flat_map, from_flat_map, has_map}
+use Rattle.solid_data.proofs.Members.{map_has}
 use Rattle.solid_data.proofs.Members.{total, count_by-total}
 use Rattle.solid_data.proofs.Occurring.{occurs, VerticesKnown}
 use Rattle.edge_uses.specs.declared.row.Row.{Row}
@@ -45,7 +46,8 @@ pub occurring_in : (ns ids : List ℕ) (v : ℕ) → Has (occurring ns ids) v �
 occurring_in [] ids v h = absurd h
 occurring_in (n ∷ ns) ids v h = by_test (list_any (λ m. m == n) ids) refl h (occurring_in ns ids v)
   where
-    by_test : (b : Bool) → list_any (λ m. m == n) ids ≡ b → Has (if b then n ∷ occurring ns ids else occurring ns ids) v → (Has (occurring ns ids) v → Has ids v)
+    by_test : (b : Bool) → list_any (λ m. m == n) ids ≡ b → Has (if b then n ∷ occurring ns ids else occurring ns ids) v → (Has (occurring ns ids) v
+        → Has ids v)
         → Has ids v
     by_test true e (inl same) more = subst (Has ids) same (any_has ids n e)
     by_test true e (inr m) more = more m
@@ -143,7 +145,8 @@ module _ (r : Renumbering) (s t : SolidData) (a b : Shell) (h : IsRenumbered r s
       of_use : (u : LoopUse) → Has (shell_uses a) u → Has (vertices_used s u) v → Has (shell_vertices t b) (r.vertex v)
       of_use (VertexUse vertex) m (inr k) = absurd k
       of_use (VertexUse vertex) m (inl same) =
-          has_flat_map (vertices_used t) (shell_uses b) (renumbered_use r (VertexUse vertex)) (r.vertex v) (use_there (VertexUse vertex) m) (inl (ap r.vertex same))
+          has_flat_map (vertices_used t) (shell_uses b) (renumbered_use r (VertexUse vertex)) (r.vertex v) (use_there (VertexUse vertex) m)
+          (inl (ap r.vertex same))
       of_use (EdgeUse edge along) m k =
           let used = has_flat_map edge_used (shell_uses a) (EdgeUse edge along) edge.0 m (inl refl) in
           let x = h.edges edge.0 (Contains-from_Has (shell_edges a) edge.0 used) in
@@ -179,7 +182,8 @@ module _ (r : Renumbering) (s t : SolidData) (a b : Shell) (h : IsRenumbered r s
 
     edge_of : (edge : EdgeId) (along : Bool) → Has (shell_uses a) (EdgeUse edge along)
         → (x y : Edge) × (slice_get s.edges edge.0 ≡ Some x) × (slice_get t.edges (r.edge edge.0) ≡ Some y) × IsRenumberedEdge r x y
-    edge_of edge along m = h.edges edge.0 (Contains-from_Has (shell_edges a) edge.0 (has_flat_map edge_used (shell_uses a) (EdgeUse edge along) edge.0 m (inl refl)))
+    edge_of edge along m = h.edges edge.0 (Contains-from_Has (shell_edges a) edge.0 (has_flat_map edge_used (shell_uses a) (EdgeUse edge along) edge.0 m
+        (inl refl)))
 
   edge_begins : (edge : EdgeId) (along way : Bool) → Has (shell_uses a) (EdgeUse edge along)
       → Has (shell_vertices s a) (begin_of (slice_get s.edges edge.0) way)
@@ -206,7 +210,8 @@ module _ (r : Renumbering) (s t : SolidData) (a b : Shell) (h : IsRenumbered r s
 
   still_joined : (p q : PlacedLoop) → Has (placed_loops a) p → IsRenumberedPlaced r p q → IsJoined t q.loop → IsJoined s p.loop
   still_joined p q here k joined =
-      let in_shell : (u : LoopUse) → Has p.loop.uses u → Has (shell_uses a) u = λ u m. has_flat_map (λ (x : PlacedLoop). x.loop.uses) (placed_loops a) p u here m in
+      let in_shell : (u : LoopUse) → Has p.loop.uses u → Has (shell_uses a) u = λ u m. has_flat_map (λ (x : PlacedLoop). x.loop.uses)
+      (placed_loops a) p u here m in
       let ends = each_as (end_of s) (end_of t) end_as p.loop.uses in_shell in
       let starts = each_as (start_of s) (start_of t) start_as p.loop.uses in_shell in
       apart_lists r.vertex (Has (shell_vertices s a)) one_vertex (map (end_of s) p.loop.uses) (next_of_each (map (start_of s) p.loop.uses))
@@ -232,7 +237,8 @@ module _ (r : Renumbering) (s t : SolidData) (a b : Shell) (h : IsRenumbered r s
       ap (count_by (λ (x : Row). (x.edge.0 == r.edge e) && way x)) rows.rows
       ∙ (count_by-total (λ (x : Row). (x.edge.0 == r.edge e) && way x) (map (renumbered_row r) c.rows)
       ∙ (total-map (renumbered_row r) (λ (x : Row). cond ((x.edge.0 == r.edge e) && way x) 1 0) c.rows
-      ∙ (total_alike (λ (x : Row). cond ((r.edge x.edge.0 == r.edge e) && way (renumbered_row r x)) 1 0) (λ (x : Row). cond ((x.edge.0 == e) && way x) 1 0) c.rows
+      ∙ (total_alike (λ (x : Row). cond ((r.edge x.edge.0 == r.edge e) && way (renumbered_row r x)) 1 0)
+      (λ (x : Row). cond ((x.edge.0 == e) && way x) 1 0) c.rows
       (λ x m. ap (λ k. cond (k && way (renumbered_row r x)) 1 0)
       (same_test x.edge.0 e (r.edge x.edge.0) (r.edge e) (λ z. ap r.edge z) (λ z. one_edge x.edge.0 e (row_edge x m) used z))
       ∙ ap (λ k. cond ((x.edge.0 == e) && k) 1 0) (same_way x))

@@ -45,24 +45,15 @@ not_same : (a b : Bool) → same_flag a (not b) ≡ not (same_flag a b)
 not_same true b = refl
 not_same false b = refl
 
+abbrev pub placed_at : ℕ → Bool → ℕ × Loop → PlacedLoop
+placed_at face forwards l = record { at = record { face = record { 0 = face }; place = l.0 }; forwards = forwards; loop = l.1 }
+
 in_face_turned : (flag : Bool) (n : ℕ) (f : FaceUse) → placed_in_face (not flag) (n, f) ≡ map turned_loop (placed_in_face flag (n, f))
 in_face_turned flag n f = each (enumerate_from 0 f.loops)
   where
-    at_place : Bool → ℕ × Loop → PlacedLoop
-    at_place b l = record { at = record { face = record { 0 = n }; place = l.0 }; forwards = same_flag f.flag b; loop = l.1 }
-
-    each : (ls : List (ℕ × Loop)) → map (λ (l : ℕ × Loop). let p : PlacedLoop = record {
-      at = record { face = record { 0 = n }; place = l.0 };
-      forwards = same_flag f.flag (not flag);
-      loop = l.1;
-    } in p) ls
-        ≡ map turned_loop (map (λ (l : ℕ × Loop). let p : PlacedLoop = record {
-          at = record { face = record { 0 = n }; place = l.0 };
-          forwards = same_flag f.flag flag;
-          loop = l.1;
-        } in p) ls)
+    each : (ls : List (ℕ × Loop)) → map (placed_at n (same_flag f.flag (not flag))) ls ≡ map turned_loop (map (placed_at n (same_flag f.flag flag)) ls)
     each [] = refl
-    each (l ∷ ls) = λ i. (record { at = record { face = record { 0 = n }; place = l.0 }; forwards = not_same f.flag flag i; loop = l.1 }) ∷ each ls i
+    each (l ∷ ls) = λ i. placed_at n (not_same f.flag flag i) l ∷ each ls i
 
 pub loops_turned : (h : Shell) → placed_loops (turned h) ≡ map turned_loop (placed_loops h)
 loops_turned h = each (enumerate_from 0 h.faces)
@@ -160,7 +151,8 @@ next_goes_back base n m e i t h =
 previous_goes_back : (base n m : ℕ) → n ≡ suc m → GoesBack false base n
 previous_goes_back base n m e i t h = by_place i (subst (λ xs. slice_get xs i ≡ Some t) (ring_backwards base n m e) h)
   where
-    back : (j k : ℕ) → slice_get (numbers_from (base + 1) m ++ base ∷ []) j ≡ Some (base + k) → slice_get (next_of_each (numbers_from base n)) j ≡ Some (base + k)
+    back : (j k : ℕ) → slice_get (numbers_from (base + 1) m ++ base ∷ []) j ≡ Some (base + k)
+        → slice_get (next_of_each (numbers_from base n)) j ≡ Some (base + k)
     back j k g = subst (λ xs. slice_get xs j ≡ Some (base + k)) (sym (ring_forwards base n m e)) g
 
     by_place : (k : ℕ) → slice_get ((base + m) ∷ numbers_from base m) k ≡ Some t

@@ -1,5 +1,6 @@
 -- A closed shell stays closed if it is turned.
-use Rattle.std.specs.Prelude.{◌≡◌, ℕ, zero, suc, ◌+◌, ◌==◌, ◌&&◌, Bool, true, false, not, List, [], ◌∷◌, map, cond, count_by, Option, Some, None, option_map, slice_get}
+use Rattle.std.specs.Prelude.{◌≡◌, ℕ, zero, suc, ◌+◌, ◌==◌, ◌&&◌, Bool, true, false, not, List, [], ◌∷◌, map, cond, count_by, Option, Some, None, option_map}
+use Rattle.std.specs.Prelude.{slice_get}
 use Rattle.std.specs.List.{AllByRecursion}
 use Rattle.std.proofs.Common.{refl, sym, ◌∙◌, ap, subst, inl, inr}
 use Rattle.std.proofs.lemmas.Option.{same_Some, slice_get-map}
@@ -25,7 +26,8 @@ use Rattle.shell_laws.specs.Turned.{turned, TurnedStaysClosed}
 use Rattle.shell_laws.proofs.TurnedRows.{AreTurned, turned_row, turned_loop, loops_turned, shell_rows_turned}
 
 -- what a map gives at a place
-pub get_mapped : {A B : Type 0} (f : A → B) (xs : List A) (ys : List B) → ys ≡ map f xs → (k : ℕ) (x : A) → slice_get xs k ≡ Some x → slice_get ys k ≡ Some (f x)
+pub get_mapped : {A B : Type 0} (f : A → B) (xs : List A) (ys : List B) → ys ≡ map f xs → (k : ℕ) (x : A) → slice_get xs k ≡ Some x
+    → slice_get ys k ≡ Some (f x)
 get_mapped f xs ys e k x at = ap (λ zs. slice_get zs k) e ∙ (slice_get-map f xs k ∙ ap (option_map f) at)
 
 pub get_unmapped : {A B : Type 0} (f : A → B) (xs : List A) (ys : List B) → ys ≡ map f xs → (k : ℕ) (y : B) → slice_get ys k ≡ Some y
