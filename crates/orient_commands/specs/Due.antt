@@ -51,6 +51,10 @@ pub data OfOrient (n : ℕ) (f : Contents) : Answer → List ℕ → Type 0 wher
   -- none does: an orientation
   oriented : {a : Answer} {text : List ℕ} → AllHold (places f n) → OfAllShells IsReady (solid_of f n) → IsOriented (solid_of f n) n a text → OfOrient n f a text
 
+-- what is owed of orienting a solid, whichever file has it
+abbrev pub IsOwedOf : SolidData → Answer → List ℕ → Type 0
+IsOwedOf s a text = (f : Contents) (n : ℕ) → s ≡ solid_of f n → AllHold (places f n) → OfOrient n f a text
+
 -- what is owed of lines from line 2 on, after one that names solid n
 pub data OfOrientLines (n : ℕ) (lines : List (List ℕ)) (f : Contents) : Answer → List ℕ → Type 0 where
   -- a place is false: the first that is

@@ -17,5 +17,5 @@ mod verifying;
 pub use law::{
     fitting_flags_close, one_orient_answer, orientations_are_accepted, some_orient_answer,
 };
-pub use orienting::orient_solid;
+pub use orienting::{orient_solid, orient_walked};
 pub use verifying::verify_orientation;

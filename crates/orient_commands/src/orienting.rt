@@ -1,7 +1,7 @@
 //! Orienting a solid of a file.
 
 ghost use Rattle.std.specs.Prelude.{◌≡◌, IfOk};
-ghost use Rattle.orient_commands.specs.Due.{OfOrient, orient_fail_line};
+ghost use Rattle.orient_commands.specs.Due.{IsOwedOf, OfOrient, orient_fail_line};
 ghost use Rattle.command_replies.specs.declared.answer.Answer.TheVariants as answer;
 
 use crate::making::orientation;
@@ -10,6 +10,7 @@ use command_replies::{Reply, failed, failed_by};
 use face_orient::{OrientFailing, OrientFault};
 use iges_base::{EntryNo, NoMemory};
 use iges_params::File;
+use solid_data::Solid;
 use std::alloc::Global;
 
 /// The reply for a rule that fails of a shell.
@@ -20,10 +21,21 @@ pub(crate) fn shell_failed(alloc: Global, failing: OrientFailing) -> Result<Repl
     failed_by(alloc, failing.rule.name(), failing.entity, failing.place)
 }
 
-/// An orientation of a solid: for each shell flags for its faces, the first face's its own, under which the two uses of
-/// each edge run in opposite directions, or a ring of rows that no flags satisfy. It is Done where all shells have flags.
-/// What is first false of the solid's records, or first fails of a shell, is reported instead. The file's room is given
-/// back before the shells are oriented. It errs only where memory runs out.
+/// An orientation of a solid that was walked: for each shell flags for its faces, the first face's its own, under which
+/// the two uses of each edge run in opposite directions, or a ring of rows that no flags satisfy. It is Done where all
+/// shells have flags. What first fails of a shell is reported instead. It errs only where memory runs out.
+pub fn orient_walked(alloc: Global, solid: &Solid) -> Result<Reply, NoMemory>
+    ensures { IfOk result (λ reply. IsOwedOf solid.now reply.answer reply.text) }
+{
+    match orientation(alloc, solid) {
+        Ok(reply) => Ok(reply),
+        Err(OrientFault::Fails(failing)) => shell_failed(alloc, failing),
+        Err(OrientFault::NoMemory) => Err(NoMemory),
+    }
+}
+
+/// An orientation of a solid of a file, or what is first false of its records. The file's room is given back before the
+/// shells are oriented. It errs only where memory runs out.
 pub fn orient_solid(alloc: Global, file: File, no: u32) -> Result<Reply, NoMemory>
     ensures { IfOk result (λ reply. OfOrient no file reply.answer reply.text) }
 {
@@ -33,9 +45,5 @@ pub fn orient_solid(alloc: Global, file: File, no: u32) -> Result<Reply, NoMemor
         Err(WalkFault::NoMemory) => return Err(NoMemory),
     };
     drop(file);
-    match orientation(alloc, &solid) {
-        Ok(reply) => Ok(reply),
-        Err(OrientFault::Fails(failing)) => shell_failed(alloc, failing),
-        Err(OrientFault::NoMemory) => Err(NoMemory),
-    }
+    orient_walked(alloc, &solid)
 }
