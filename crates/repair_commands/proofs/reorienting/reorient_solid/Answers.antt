@@ -30,4 +30,4 @@ returns-in_default c =
 pub requires-with_flags : goal.requires-with_flags
 requires-with_flags c =
     let suit : AllSuit c.in-Ok.solid c.in-Some.flags = rw c.in-Some.is at c.in_ok-flags.ensures.found in
-    record { places = c.in-Ok.ensures.holds; suit = subst (λ (s : SolidData). AllSuit s c.in-Some.flags) c.in-Ok.ensures.solid suit; }
+    record { places = c.in-Ok.ensures.holds; suit = subst (λ (s : SolidData). AllSuit s c.in-Some.flags) c.in-Ok.ensures.solid suit }
