@@ -11,4 +11,4 @@ pub use law::{
     one_reorientation, reflagged_is_extracted, reflagged_is_made, reflagged_solid_is_turned,
 };
 pub use reflagging::reflagged;
-pub use reorienting::{into_reorient, solid_flags};
+pub use reorienting::into_reorient;

@@ -3,29 +3,14 @@
 ghost use Rattle.solid_extract.specs.Making.{IsExtractFault};
 ghost use Rattle.solid_reorient.specs.Fitting.{HasFlags};
 ghost use Rattle.solid_reorient.specs.Reoriented.{IsReoriented};
-ghost use Rattle.std.specs.Prelude.{Bool, IfErr, IfNone, IfOk, IfSome, List};
+ghost use Rattle.std.specs.Prelude.{IfErr, IfOk};
 
 use crate::reflagging::reflagged;
-use brep_walk::{WalkFault, walk};
-use flag_choice::{FlagLists, fitting_flags};
+use flag_choice::FlagLists;
 use iges_fields::{EntryNo, NoMemory};
 use iges_params::File;
 use solid_extract::{ExtractFault, into_extract_numbered};
 use std::alloc::Global;
-
-/// Flags for the shells of a solid of a file; None where an obligation on the records' places doesn't hold, or some shell
-/// has no flags.
-pub fn solid_flags(alloc: Global, file: &File, no: EntryNo) -> Result<Option<FlagLists>, NoMemory>
-    ensures found { IfOk result (λ o. IfSome o (HasFlags file.now no.0)) }
-    ensures none { IfOk result
-        (λ o. IfNone o ((x : List (List Bool)) → ¬ HasFlags file.now no.0 x)) }
-{
-    match walk(alloc, file, no) {
-        Ok(solid) => fitting_flags(alloc, &solid),
-        Err(WalkFault::Fails(_failing)) => Ok(None),
-        Err(WalkFault::NoMemory) => Err(NoMemory),
-    }
-}
 
 /// The file of a solid as `extract` gives it, with these flags for the faces of its shells, or the refusal of `extract`.
 pub fn into_reorient(

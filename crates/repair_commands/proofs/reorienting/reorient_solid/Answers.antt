@@ -5,7 +5,6 @@ use Rattle.solid_data.specs.Obligations.{FirstFalse}
 use Rattle.solid_data.specs.SolidData.{SolidData}
 use Rattle.brep_walk.specs.Places.{places}
 use Rattle.flag_choice.specs.Suiting.{AllSuit}
-use Rattle.solid_reorient.specs.Fitting.{HasFlags}
 use Rattle.command_replies.specs.Texts.{fail_line}
 use Rattle.command_replies.specs.declared.answer.Answer.TheVariants as answer
 use Rattle.command_replies.proofs.Replying.{reply_owed}
@@ -27,7 +26,7 @@ returns-in_default c =
     (λ reply owed. unoriented (λ flags has. none flags (subst (λ (s : SolidData). AllSuit s flags) (sym c.in-Ok.ensures.solid) has.suit))
     (owed c.args.file c.args.no c.in-Ok.ensures.solid c.in-Ok.ensures.holds)) c.orient_walked.ensures
 
-pub requires-with_flags : goal.requires-with_flags
-requires-with_flags c =
+pub with_flags-requires : goal.with_flags-requires
+with_flags-requires c =
     let suit : AllSuit c.in-Ok.solid c.in-Some.flags = rw c.in-Some.is at c.in_ok-flags.ensures.found in
     record { places = c.in-Ok.ensures.holds; suit = subst (λ (s : SolidData). AllSuit s c.in-Some.flags) c.in-Ok.ensures.solid suit }
