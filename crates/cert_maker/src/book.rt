@@ -16,11 +16,11 @@ ghost use Rattle.cert_maker.specs.Book.{uses_of, IsMade, AllMade, IsCertificateO
 use crate::fault::MakeFault;
 use crate::making::certify;
 use brep_walk::{WalkFault, Walker};
+use cert_state::use_count;
 use iges_fields::{EntryNo, NoMemory};
 use iges_params::File;
 use solid_data::{Failing, Solid};
 use std::alloc::Global;
-use cert_state::use_count;
 use topo_certificate::{Certificate, Certificates};
 
 /// The most loop uses that the solids of a book may have together.

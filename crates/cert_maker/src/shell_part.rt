@@ -15,13 +15,13 @@ ghost use Rattle.cert_maker.specs.Certified.{IsPart};
 use crate::fault::MakeFault;
 use crate::judging::{linked, mated, reached};
 use crate::pairs::edge_pairs;
+use cert_state::loop_count;
 use edge_uses::{Paired, VerticesBefore, rows};
 use iges_fields::NoMemory;
 use shell_reach::ReachList;
 use shell_rules::{apart, join};
 use solid_data::{Shell, ShellAt, Solid};
 use std::alloc::Global;
-use cert_state::loop_count;
 use topo_certificate::ShellPart;
 use vertex_link::Links;
 
