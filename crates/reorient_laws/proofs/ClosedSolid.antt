@@ -24,7 +24,7 @@ use Rattle.extraction_laws.proofs.KeptVerdicts.{keeps_verdict}
 use Rattle.extraction_laws.proofs.RelabelledSolids.{solids_alike, shell_rows_same}
 use Rattle.flag_choice.specs.Suiting.{FlagsSuit, AllSuit}
 use Rattle.flag_choice.specs.Turned.{turned_shells, turned}
-use Rattle.flag_choice.proofs.OtherFlags.{new_paired, new_reached}
+use Rattle.flag_choice.proofs.OtherFlags.{suited_sewn}
 use Rattle.solid_reorient.specs.Reoriented.{IsReoriented}
 use Rattle.reorient_laws.specs.Closed.{number_in, ReorientedIsPaired, ClosedWithFlags, ReorientedIsClosed}
 use Rattle.reorient_laws.proofs.TurnedSolid.{places_new, relabelled}
@@ -45,8 +45,8 @@ shells_closed s all n (x ∷ flags) (h ∷ shells) suit at (here, j) =
     let suits : FlagsSuit s n x = subst (λ i. FlagsSuit s i x) first (suit 0 x refl) in (
       record {
         joined = here.joined;
-        paired = new_paired s all n h x there suits;
-        reached = new_reached s all n h x there suits;
+        paired = (suited_sewn s all n h x there suits).0;
+        reached = (suited_sewn s all n h x there suits).1;
         linked = here.linked;
         apart = here.apart;
       },
@@ -98,7 +98,7 @@ module _ (f : Contents) (n : ℕ) (new : Contents) (r : IsReoriented f n new) wh
       let p = shell_at r.flags s.shells k b.0 b.1 in
       let suit : FlagsSuit s k p.0 = r.fit.suit.suit k p.0 p.2 in
       let here : AllByRecursion (IsPaired (shell_rows t (shell_with p.0 p.1))) (let d = shell_rows t (shell_with p.0 p.1) in d.edges) =
-      new_paired s r.flags k p.1 p.0 p.3 suit in
+      (suited_sewn s r.flags k p.1 p.0 p.3 suit).0 in
       let there : AllByRecursion (IsPaired (shell_rows t b.0)) (let d = shell_rows t b.0 in d.edges) = subst
       (λ (x : Shell). AllByRecursion (IsPaired (shell_rows t x)) (let d = shell_rows t x in d.edges)) p.4 here in
       subst (λ (d : ShellRows). AllByRecursion (IsPaired d) d.edges) (shell_rows_same (kept_names r.extracted.kept) t u rel b.0 h b.2) there
@@ -110,7 +110,7 @@ module _ (f : Contents) (n : ℕ) (new : Contents) (r : IsReoriented f n new) wh
       let p = shell_at r.flags s.shells k b.0 b.1 in
       let suit : FlagsSuit s k p.0 = r.fit.suit.suit k p.0 p.2 in
       let here : AllByRecursion (IsReached (shell_rows t (shell_with p.0 p.1))) (numbers_from 0 (let x = shell_with p.0 p.1 in length x.faces)) =
-      new_reached s r.flags k p.1 p.0 p.3 suit in
+      (suited_sewn s r.flags k p.1 p.0 p.3 suit).1 in
       let there : AllByRecursion (IsReached (shell_rows t b.0)) (numbers_from 0 (length b.0.faces)) = subst
       (λ (x : Shell). AllByRecursion (IsReached (shell_rows t x)) (numbers_from 0 (length x.faces))) p.4 here in
       subst (λ (m : ℕ). AllByRecursion (IsReached (shell_rows u h)) (numbers_from 0 m))
