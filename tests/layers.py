@@ -25,8 +25,8 @@ CHAIN, LINES, FUNCTIONS = 8, 1500, 100
 # record_paths and where_records, which say in which face a record fails; the laws of reoriented
 # files stand on those of extracted ones, and nothing on them. See docs/DECISIONS.md.
 LONGER = {"where_command": 9, "reorient_laws": 9}
-# Still larger than the limits, and to be parted: the checker of lines, and all faults of a shell.
-LARGER = {"topo_certificate", "solid_faults"}
+# Still larger than the limits, and to be parted: the checker of lines.
+LARGER = {"topo_certificate"}
 # What says yes to certificates and orientations, and what makes them or parts of them.
 CHECKS = "topo_certificate", "cert_accept", "open_certificate", "orient_certificate"
 MAKES = {"vertex_link", "shell_reach", "cert_maker", "open_shells", "face_orient"}

@@ -1,0 +1,8 @@
+pub mod Placing
+pub mod FaceSteps
+pub mod UpTo
+pub mod TurnSteps
+pub mod EdgeRows
+pub mod Placed
+pub mod PartSteps
+pub mod LowSteps

@@ -1,0 +1,4 @@
+pub mod Steps
+pub mod ItemSteps
+pub mod ReachSteps
+pub mod SharedBelow
