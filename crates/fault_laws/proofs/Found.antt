@@ -98,7 +98,7 @@ turns_decided d whole a b = by_row (decided_below a (length d.rows))
     by_row : Decided (a < length d.rows) → Decided (Turns d a b)
     by_row (inl lt) = decided_alike (λ e. subst (Turns d a) e (turns_on d a whole lt)) (λ t. sym (turn_is d a b (mates_involute d whole) t))
         (decided_same (turn_of d a) b)
-    by_row (inr no) = inr (λ t. no (slice_get_within d.rows a t.1.row t.1.at_r))
+    by_row (inr never) = inr (λ t. never (slice_get_within d.rows a t.1.row t.1.at_r))
 
 steps_back : (d : ShellRows) (n a b : ℕ) → ArePaired d → Steps (Turns d) n a b → LeadsTo (Turns d) b a
 steps_back d zero a b whole e = subst (λ x. LeadsTo (Turns d) x a) e (leads_here (Turns d) a)

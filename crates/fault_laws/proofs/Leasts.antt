@@ -12,8 +12,8 @@ not_below P i m none p =
     ⊎_elim (λ e. omega (arith, e)) (λ other. ⊎_elim (λ below. absurd (none m below p)) (λ above. omega (arith, above)) other) (cases_order m i)
 
 none_more : (P : ℕ → Type 0) (i m : ℕ) → ((n : ℕ) → n < i → P n → ⊥) → (P i → ⊥) → m < i + 1 → P m → ⊥
-none_more P i m none no lt p =
-    ⊎_elim (λ e. no (subst P e p)) (λ other. ⊎_elim (λ below. none m below p) (λ above. absurd (omega (arith, lt, above))) other) (cases_order m i)
+none_more P i m none never lt p =
+    ⊎_elim (λ e. never (subst P e p)) (λ other. ⊎_elim (λ below. none m below p) (λ above. absurd (omega (arith, lt, above))) other) (cases_order m i)
 
 least_up : (P : ℕ → Type 0) → ((n : ℕ) → Decided (P n)) → (fuel i : ℕ) → ((n : ℕ) → n < i → P n → ⊥) → P (i + fuel)
     → (n : ℕ) × P n × ((m : ℕ) → P m → n ≤ m)
@@ -21,7 +21,7 @@ least_up P each zero i none p = let z : i + 0 ≡ i = omega arith in (i, subst P
 least_up P each (suc fuel) i none p =
     let z : i + suc fuel ≡ i + 1 + fuel = omega arith in
     ⊎_elim (λ here. (i, here, λ m q. not_below P i m none q))
-    (λ no. least_up P each fuel (i + 1) (λ n lt q. none_more P i n none no lt q) (subst P z p)) (each i)
+    (λ never. least_up P each fuel (i + 1) (λ n lt q. none_more P i n none never lt q) (subst P z p)) (each i)
 
 -- the least number of which it holds
 least_of : (P : ℕ → Type 0) → ((n : ℕ) → Decided (P n)) → (k : ℕ) → P k → (n : ℕ) × P n × ((m : ℕ) → P m → n ≤ m)

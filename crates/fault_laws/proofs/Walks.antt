@@ -21,7 +21,7 @@ use Rattle.fault_laws.specs.Rounds.{IsRound}
 use Rattle.fault_laws.proofs.Listed.{place_has, place_is, places_once}
 
 -- the row that n turns lead to
-turned : ShellRows → ℕ → ℕ → ℕ
+abbrev turned : ShellRows → ℕ → ℕ → ℕ
 turned d zero r = r
 turned d (suc n) r = turned d n (turn_of d r)
 
