@@ -110,9 +110,9 @@ walk_within d leasts f (suc m) q x whole fans at (inr h) =
 too_early : (d : ShellRows) (leasts : List ℕ) (f m q : ℕ) → ArePaired d → AreFans d leasts → slice_get leasts q ≡ Some f → turned d (suc m) q ≡ q
     → length (places_of f leasts) ≤ suc m
 too_early d leasts f m q whole fans at back =
-    let no = no_longer (places_of f leasts) (by_turns d (suc m) q) (places_once f leasts) (λ x h.
+    let few = no_longer (places_of f leasts) (by_turns d (suc m) q) (places_once f leasts) (λ x h.
     let reached = all_reached d leasts q x f fans at (place_is f x leasts h) in round_has d m q reached.0 q x whole back reached.1 (inl refl)) in
-    omega (arith, no, walk_long d (suc m) q)
+    omega (arith, few, walk_long d (suc m) q)
 
 pub walk_once : (d : ShellRows) (leasts : List ℕ) (f m q : ℕ) → ArePaired d → AreFans d leasts → m ≤ length (places_of f leasts)
     → slice_get leasts q ≡ Some f → NoRepeat (by_turns d m q)
