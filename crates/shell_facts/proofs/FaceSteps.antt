@@ -26,7 +26,7 @@ use Rattle.edge_uses.proofs.Whole.{vertices_known}
 use Rattle.shell_components.specs.Groups.{places_of}
 use Rattle.solid_faults.proofs.GapSteps.{flat_of_map}
 use Rattle.shell_facts.proofs.PartSteps.{all_from}
-use Rattle.shell_facts.proofs.Placing.{places_read}
+use Rattle.shell_facts.proofs.AtPlaces.{places_read}
 use Rattle.shell_facts.specs.FaceTable.{at_vertex, face_touches, shell_touches, touches_of, vertex_of}
 use Rattle.shell_facts.specs.VertexFaces.{face_if, numbered_faces, faces_up_to}
 use Rattle.shell_facts.specs.declared.faces.FaceAtVertex.{FaceAtVertex}

@@ -1,4 +1,4 @@
-pub mod Placing
+pub mod AtPlaces
 pub mod FaceSteps
 pub mod UpTo
 pub mod TurnSteps

@@ -26,7 +26,7 @@ use Rattle.solid_faults.proofs.GapSteps.{piece_more}
 use Rattle.shell_facts.proofs.PartSteps.{all_from}
 use Rattle.shell_facts.specs.FanFacts.{mate_if, mates_of, turn_of, least_if, by_turns, on_fan, on_fans, fan_rows, alone_if, alone_numbered, alone_at}
 use Rattle.shell_facts.specs.declared.turning.AtVertex.{AtVertex}
-use Rattle.shell_facts.proofs.Placing.{all_at, places_read, place_below}
+use Rattle.shell_facts.proofs.AtPlaces.{all_at, places_read, place_below}
 
 enumerated_has : {A : Type 0} (i k : ℕ) (xs : List A) (x : A) → slice_get xs k ≡ Some x → Has (enumerate_from i xs) (i + k, x)
 enumerated_has i k [] x at = absurd cc
