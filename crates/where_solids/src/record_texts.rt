@@ -50,21 +50,21 @@ pub fn put_record_rest(
     alloc: Global,
     out: &mut Out,
     file: &File,
-    record: FailingRecord,
+    fault: FailingRecord,
     listing: Listing,
 ) -> Result<(), NoMemory>
     ensures { OnOk result (out.new ≡ out.old
-        ++ record_rest listing file.now record.solid record.failing record.path) }
+        ++ record_rest listing file.now fault.solid fault.failing fault.path) }
 {
     let mut named = ItemList::new(alloc);
-    put_start(alloc, out, file, record.path, listing)?;
+    put_start(alloc, out, file, fault.path, listing)?;
     put_record(
         out,
         &mut named,
         file,
-        record.solid,
-        record.failing,
-        record.path,
+        fault.solid,
+        fault.failing,
+        fault.path,
     )?;
     put_entities(alloc, out, file, &named)
 }

@@ -44,7 +44,7 @@ fn of_records(
     requires { FirstFalse (places file.now no.0) failing }
     ensures { IfOk result (λ told. IsToldOf listing file.now no told.verdict told.text) }
 {
-    let record = FailingRecord {
+    let fault = FailingRecord {
         solid: no,
         failing,
         path: path_of(file, no, failing),
@@ -52,7 +52,7 @@ fn of_records(
     let verdict = Verdict::Fails(failing);
     let mut out = Out::new(alloc);
     put_verdict(&mut out, no, verdict)?;
-    put_record_rest(alloc, &mut out, file, record, listing)?;
+    put_record_rest(alloc, &mut out, file, fault, listing)?;
     Ok(Told {
         verdict,
         text: out.into_bytes(),
