@@ -68,8 +68,15 @@ share_decided d a b = decided_alike (λ h. to h) (λ h. from h)
         record { r = r; q = q; row = row; other = other; at_r = at_r; at_q = at_q; one_edge = e; on_a = on_a; on_b = on_b }
 
     from : ShareEdge d a b → (r : ℕ) × (r < length d.rows) × SharedFrom d a b r
-    from h = (h.r, slice_get_within d.rows h.r h.row h.at_r, (h.q, slice_get_within d.rows h.q h.other h.at_q,
-        (h.row, h.at_r, (h.other, h.at_q, (h.one_edge, h.on_a, h.on_b)))))
+    from h = (
+      h.r,
+      slice_get_within d.rows h.r h.row h.at_r,
+      (
+        h.q,
+        slice_get_within d.rows h.q h.other h.at_q,
+        (h.row, h.at_r, (h.other, h.at_q, (h.one_edge, h.on_a, h.on_b))),
+      ),
+    )
 
 share_below : (d : ShellRows) → AreRows d → (a b : ℕ) → ShareEdge d a b → b < d.face_count
 share_below d rows a b h =
@@ -77,12 +84,14 @@ share_below d rows a b h =
 
 some_parts : (d : ShellRows) → AreRows d → (firsts : List ℕ) × AreParts d firsts
 some_parts d rows =
-    let found = leasts_of (ShareEdge d) (leads_decided (ShareEdge d) (share_decided d) d.face_count (share_below d rows)) d.face_count in
-    (found.0, record {
-      each = found.1;
-      connected = λ f p at. let h = found.2 f p at in h.0;
-      least = λ f p g at chain. let h = found.2 f p at in h.1 g chain;
-    })
+    let found = leasts_of (ShareEdge d) (leads_decided (ShareEdge d) (share_decided d) d.face_count (share_below d rows)) d.face_count in (
+      found.0,
+      record {
+        each = found.1;
+        connected = λ f p at. let h = found.2 f p at in h.0;
+        least = λ f p g at chain. let h = found.2 f p at in h.1 g chain;
+      },
+    )
 
 -- ---- fans
 
@@ -110,13 +119,15 @@ steps_back d (suc n) a b whole (c, turn, rest) =
 some_fans : (d : ShellRows) → ArePaired d → (leasts : List ℕ) × AreFans d leasts
 some_fans d whole =
     let found = leasts_of (Turns d)
-    (leads_decided (Turns d) (turns_decided d whole) (length d.rows) (λ a b t. turn_inside d a b whole.rows t)) (length d.rows) in
-    (found.0, record {
-      each = found.1;
-      down = λ r f at. let h = found.2 r f at in h.0;
-      back = λ r f at. let h = found.2 r f at in steps_back d h.0.0 r f whole h.0.1;
-      least = λ r f q at chain. let h = found.2 r f at in h.1 q chain;
-    })
+    (leads_decided (Turns d) (turns_decided d whole) (length d.rows) (λ a b t. turn_inside d a b whole.rows t)) (length d.rows) in (
+      found.0,
+      record {
+        each = found.1;
+        down = λ r f at. let h = found.2 r f at in h.0;
+        back = λ r f at. let h = found.2 r f at in steps_back d h.0.0 r f whole h.0.1;
+        least = λ r f q at chain. let h = found.2 r f at in h.1 q chain;
+      },
+    )
 
 -- ---- all that fails
 
@@ -144,6 +155,7 @@ some_faults s k h numbered at =
     let d : ShellRows = shell_rows s h in
     let rows : AreRows d = rows_whole s k h numbered at in
     let parts = some_parts d rows in
-    let linking = some_linkings s k h (gaps_of s h) (unpaired_of d) rows at refl refl in
-    (record { gaps = gaps_of s h; unpaired = unpaired_of d; firsts = parts.0; linking = linking.0; shared = shared_of s k d },
-    record { gaps = refl; unpaired = refl; firsts = parts.1; linking = linking.1; shared = refl })
+    let linking = some_linkings s k h (gaps_of s h) (unpaired_of d) rows at refl refl in (
+      record { gaps = gaps_of s h; unpaired = unpaired_of d; firsts = parts.0; linking = linking.0; shared = shared_of s k d },
+      record { gaps = refl; unpaired = refl; firsts = parts.1; linking = linking.1; shared = refl },
+    )

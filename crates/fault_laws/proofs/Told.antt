@@ -140,7 +140,8 @@ are_rounds d leasts v whole fans =
       fans = λ f h.
           let fan = fan_at d leasts v f fans (Has-from_Contains (fans_at d leasts v) f h) in fan_round d leasts f whole fans fan.own;
       each = λ r. (
-          λ h. told_starts d leasts v r whole fans (subst (λ xs. Has xs r) (told_is d leasts v) (Has-from_Contains (rows_told d leasts v) r h)),
-          λ at. Contains-from_Has (rows_told d leasts v) r (subst (λ xs. Has xs r) (sym (told_is d leasts v)) (starts_told d leasts v r whole fans at)));
+        λ h. told_starts d leasts v r whole fans (subst (λ xs. Has xs r) (told_is d leasts v) (Has-from_Contains (rows_told d leasts v) r h)),
+        λ at. Contains-from_Has (rows_told d leasts v) r (subst (λ xs. Has xs r) (sym (told_is d leasts v)) (starts_told d leasts v r whole fans at)),
+      );
       once = λ i j r at there. one_place (rows_told d leasts v) i j r none at there;
     }

@@ -118,10 +118,11 @@ pub walk_once : (d : ShellRows) (leasts : List ℕ) (f m q : ℕ) → ArePaired 
     → slice_get leasts q ≡ Some f → NoRepeat (by_turns d m q)
 walk_once d leasts f zero q whole fans few at = tt
 walk_once d leasts f (suc m) q whole fans few at =
-    let next = same_fan d leasts q (turn_of d q) f whole fans (turns_on d leasts q f whole fans at) at in
-    ((λ h. let g = walk_at d m (turn_of d q) q h in
-    absurd (omega (arith, few, g.1, too_early d leasts f g.0 q whole fans at g.2))),
-    walk_once d leasts f m (turn_of d q) whole fans (omega (arith, few)) next)
+    let next = same_fan d leasts q (turn_of d q) f whole fans (turns_on d leasts q f whole fans at) at in (
+      (λ h. let g = walk_at d m (turn_of d q) q h in
+          absurd (omega (arith, few, g.1, too_early d leasts f g.0 q whole fans at g.2))),
+      walk_once d leasts f m (turn_of d q) whole fans (omega (arith, few)) next,
+    )
 
 -- a walk of as many rows as the fan has lists the whole fan
 pub walk_whole : (d : ShellRows) (leasts : List ℕ) (f q x : ℕ) → ArePaired d → AreFans d leasts → slice_get leasts q ≡ Some f → slice_get leasts x ≡ Some f

@@ -6,9 +6,9 @@ ghost use Rattle.solid_faults.specs.Edges.{rows_on_edge};
 ghost use Rattle.shell_components.specs.Groups.{places_of};
 ghost use Rattle.solid_data.specs.declared.TheConstants.{PART_LIMIT};
 
-use shell_components::{Groups, grouped};
 use edge_uses::{Rows, row_at};
 use iges_base::NoMemory;
+use shell_components::{Groups, grouped};
 use std::alloc::Global;
 
 fn edges_of_rows(alloc: Global, rows: &Rows) -> Result<Vec<u32>, NoMemory>

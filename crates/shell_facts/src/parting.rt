@@ -18,9 +18,9 @@ ghost use Rattle.solid_data.specs.declared.solid.FaceUse.{FaceUse as AnyFace};
 ghost use Rattle.std.specs.Option.{option_to_list};
 ghost use Rattle.solid_faults.specs.declared.edge.Unpaired.{Unpaired as AnyUnpaired};
 
-use shell_components::{Groups, Used, add_face, grouped, nothing_used, rise, used_by};
 use edge_uses::{Cells, Rows, Span};
 use iges_base::{EntryNo, NoMemory};
+use shell_components::{Groups, Used, add_face, grouped, nothing_used, rise, used_by};
 use solid_data::{FaceUse, Shell, ShellAt, Solid};
 use solid_faults::Unpaired;
 use std::alloc::Global;

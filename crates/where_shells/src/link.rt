@@ -187,7 +187,11 @@ fn put_unlinked_lines(
 {
     let count = view.listing.count(facts.len());
     page.out.put(b"vertex")?;
-    put_vertex(&mut page.out, view.file, view.solid.vertex_key(vertex.vertex))?;
+    put_vertex(
+        &mut page.out,
+        view.file,
+        view.solid.vertex_key(vertex.vertex),
+    )?;
     put_count(&mut page.out, " fans", vertex.fans as usize)?;
     put_count(&mut page.out, " points", vertex.points as usize)?;
     page.out.put(b"\n")?;
