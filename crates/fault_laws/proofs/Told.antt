@@ -49,7 +49,8 @@ told_is d leasts v =
 
 -- ---- rows that start at the vertex
 
-start_at : (rows : List Row) (r v : ℕ) → slice_get (map (λ (x : Row). x.from.0) rows) r ≡ Some v → (row : Row) × (slice_get rows r ≡ Some row) × (row.from.0 ≡ v)
+start_at : (rows : List Row) (r v : ℕ) → slice_get (map (λ (x : Row). x.from.0) rows) r ≡ Some v → (row : Row) × (slice_get rows r
+    ≡ Some row) × (row.from.0 ≡ v)
 start_at [] r v at = absurd cc
 start_at (x ∷ rows) zero v at = (x, refl, same_Some x.from.0 v at)
 start_at (x ∷ rows) (suc r) v at = start_at rows r v at
