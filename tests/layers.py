@@ -24,7 +24,7 @@ CHAIN, LINES, FUNCTIONS = 8, 1500, 100
 # The longer chains: open_certificate stands on topo_certificate, whose functions on the rows of a line it uses; where's text goes through
 # record_paths and where_records, which say in which face a record fails; the laws of reoriented
 # files stand on those of extracted ones, and nothing on them. See docs/DECISIONS.md.
-LONGER = {"where_command": 9, "reorient_laws": 9}
+LONGER = {"where_command": 9, "where_laws": 10, "reorient_laws": 9}
 # Still larger than the limits, and to be parted: the checker of lines.
 LARGER = {"topo_certificate"}
 # What says yes to certificates and orientations, and what makes them or parts of them.
