@@ -86,9 +86,11 @@ fn put_part(
     let faces = part.faces.as_slice();
     let touching = part.touching.as_slice();
     let face_count = listing.count(faces.len());
+    let touch_count = Listing::Few.count(touching.len());
     put_part_head(out, number, part)?;
     put_vertex_line(out, file, solid, "  at", least(part.vertices.as_slice()))?;
-    put_touches(out, file, solid, &touching[..listing.count(touching.len())])?;
+    put_touches(out, file, solid, &touching[..touch_count])?;
+    put_more_facts(out, touching.len() - touch_count)?;
     put_faces(out, named, file, &faces[..face_count])?;
     put_more_facts(out, faces.len() - face_count)
 }
