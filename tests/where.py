@@ -37,7 +37,7 @@ HEADS = {
     "shells": f"shells {N} failing {N}",
     "shell": f"shell {N} entity {N} flag [01] faces {N} edges {N} vertices {N} JOIN {N} PAIR {N} REACH {N} LINK (?:{N}|-) APART {N}",
     "more": f"more {N}",
-    "hint": f"hint (?:face-flags faces {N}|solids(?: {N})+|no-solid)",
+    "hint": f"hint (?:face-flags faces {N}|solids(?: {N})+(?: more {N})?|no-solid|other-form form {Z}|shell|empty-solid)",
     "rule": RULE,
     "item": f"item {N} {N}",
     "gap": f"gap {N} {N}",
@@ -48,7 +48,7 @@ HEADS = {
     "entity": f"entity {N} {T}(?: surface {N} {T})?",
     "solid": f"solid {N} (?:closed|fail [A-Z]+ {N} {N})",
 }
-OF_ENTITY = rf"level {Z}|colour {Z}.*|matrix {Z}|label .+|subscript {Z}|name .*"
+OF_ENTITY = rf"level {Z}|colour {Z}.*|matrix {Z}|label .+|subscript {Z}|name .*|more {N}"
 FACTS = {
     "item": f"value {N} found .*|due {T}(?: form [01](?: 1)?)?|why (?:zero|negative|even|beyond|null)|entry {N} {T} form {Z}|values {N}"
     f"|first {N} item {N}|list {N} {T} items {N}|in (?:solid {N}|(?:shell|face|loop) {N} item {N})",

@@ -31,8 +31,8 @@ const HEADS = {
   units: `units (?<flag>${WORD}) (?<unit>.*)`,
   shells: named({ shells: N, failing: N }),
   shell: named({ shell: N, ...COUNTS }),
-  hint: `hint (?<hint>face-flags) ${named({ faces: N })}|hint (?<list>solids)(?<solids>(?: ${N})+)`
-    + "|hint (?<none>no-solid)",
+  hint: `hint (?<hint>face-flags) ${named({ faces: N })}|hint (?<list>solids)(?<solids>(?: ${N})+)(?: more ${N})?`
+    + `|hint (?<none>no-solid|shell|empty-solid)|hint (?<other>other-form) form -?${N}`,
   rule: `rule (?<record_rule>${RECORD_RULES}) faults 1|rule (?<rule>${SHELL_RULES}) `
     + `${named({ shell: N, faults: N })}(?: once ${N} same-way ${N} many ${N}| parts ${N})?`,
   item: `item (?<entity>-?${N}) (?<place>${N})`,
@@ -56,7 +56,7 @@ const FACTS = {
   part: `(?:at|(?<touches>touches)) (?<vertex>${VERTEX})|${FACE}|more ${N}`,
   vertex: `fan (?<fan>${N}) ${USE} ${EDGE} to ${N} ${N} ${WORD} ${WORD} ${WORD}`
     + `|(?<point>point) ${FACE} loop ${N}|in shell (?<shell>${N}) ${FACE}|more ${N}`,
-  entity: `level -?${N}|colour -?${N}.*|matrix -?${N}|label .*|subscript -?${N}|name .*`,
+  entity: `level -?${N}|colour -?${N}.*|matrix -?${N}|label .*|subscript -?${N}|name .*|more ${N}`,
 };
 
 /** A shape of lines. A name may stand in several of its alternatives: each gets a number. */

@@ -27,7 +27,8 @@ HEADS = {
     "units": f"units (?P<flag>{WORD}) (?P<unit>.*)",
     "shells": named(shells=N, failing=N),
     "shell": named(shell=N, entity=N, flag="[01]", faces=N, edges=N, vertices=N, JOIN=N, PAIR=N, REACH=N, LINK=f"{N}|-", APART=N),
-    "hint": f"hint (?P<hint>face-flags) {named(faces=N)}|hint (?P<list>solids)(?P<solids>(?: {N})+)|hint (?P<none>no-solid)",
+    "hint": f"hint (?P<hint>face-flags) {named(faces=N)}|hint (?P<list>solids)(?P<solids>(?: {N})+)(?: more {N})?|hint (?P<none>no-solid|shell|empty-solid)"
+    f"|hint (?P<other>other-form) form -?{N}",
     "rule": f"rule (?P<record_rule>{'|'.join(RECORD_RULES)}) faults 1|rule (?P<rule>JOIN|PAIR|REACH|LINK|APART) {named(shell=N, faults=N)}"
     f"(?: once {N} same-way {N} many {N}| parts {N})?",
     "item": f"item (?P<entity>-?{N}) (?P<place>{N})",
@@ -46,7 +47,7 @@ FACTS = {
     "edge": f"{CURVE}|(?:start|end) (?P<vertex>{VERTEX})|(?P<way>along|against) {USE} flags [01] [01] [01]|more {N}",
     "part": f"(?:at|(?P<touches>touches)) (?P<vertex>{VERTEX})|{FACE}|more {N}",
     "vertex": f"fan (?P<fan>{N}) {USE} {EDGE} to {N} {N} {WORD} {WORD} {WORD}|(?P<point>point) {FACE} loop {N}|in shell (?P<shell>{N}) {FACE}|more {N}",
-    "entity": f"level -?{N}|colour -?{N}.*|matrix -?{N}|label .*|subscript -?{N}|name .*",
+    "entity": f"level -?{N}|colour -?{N}.*|matrix -?{N}|label .*|subscript -?{N}|name .*|more {N}",
 }
 
 
