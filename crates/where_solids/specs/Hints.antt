@@ -45,7 +45,7 @@ unfoldable pub solids_sentence : List ℕ
 solids_sentence = codes "  The solids of this file are these. Take one of their numbers.\n"
 
 unfoldable pub no_solid_hint : List ℕ
-no_solid_hint = codes "hint no-solid\n  This file holds no solid (entity 186 of form 0); it may hold trimmed surfaces\n  or a shell alone.\n"
+no_solid_hint = codes "hint no-solid\n  This file holds no solid (entity 186 of form 0); it may hold trimmed\n  surfaces or a shell alone.\n"
 
 -- the first 20 of these solids, or that there is none
 unfoldable pub solids_hint : List EntryNo → List ℕ

@@ -24,7 +24,7 @@ const FLAGS: &str =
 const SOLIDS: &str = "  The solids of this file are these. Take one of their numbers.\n";
 
 const NO_SOLID: &str =
-    "hint no-solid\n  This file holds no solid (entity 186 of form 0); it may hold trimmed surfaces\n  or a shell alone.\n";
+    "hint no-solid\n  This file holds no solid (entity 186 of form 0); it may hold trimmed\n  surfaces or a shell alone.\n";
 
 // How many of the faces have the flag 0.
 fn unset_in(faces: &[FaceUse]) -> usize
