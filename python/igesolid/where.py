@@ -24,10 +24,11 @@ HEADS = {
     "closed": f"closed (?P<solid>{N})",
     "fail": f"fail (?P<rule>{'|'.join(RECORD_RULES + SHELL_RULES)}) (?P<entity>-?{N}) (?P<place>{N})",
     "bad": f"bad file line (?P<line>{N}) (?P<reason>[a-z-]+)",
+    "line": f"line {N} bytes {N} end (?:lf|crlf|cr|none)",
     "units": f"units (?P<flag>{WORD}) (?P<unit>.*)",
     "shells": named(shells=N, failing=N),
     "shell": named(shell=N, entity=N, flag="[01]", faces=N, edges=N, vertices=N, JOIN=N, PAIR=N, REACH=N, LINK=f"{N}|-", APART=N),
-    "hint": f"hint (?P<hint>face-flags) {named(faces=N)}|hint (?P<list>solids)(?P<solids>(?: {N})+)(?: more {N})?|hint (?P<none>no-solid|shell|empty-solid)"
+    "hint": f"hint (?P<hint>face-flags) {named(faces=N)}|hint (?P<list>solids)(?P<solids>(?: {N})+)(?: more {N})?|hint (?P<none>no-solid|shell|empty-solid|layout)|hint (?P<look>looks-like) [a-z0-9-]+"
     f"|hint (?P<other>other-form) form -?{N}",
     "rule": f"rule (?P<record_rule>{'|'.join(RECORD_RULES)}) faults 1|rule (?P<rule>JOIN|PAIR|REACH|LINK|APART) {named(shell=N, faults=N)}"
     f"(?: once {N} same-way {N} many {N}| parts {N})?",
@@ -43,6 +44,7 @@ HEADS = {
 FACTS = {
     "item": rf"value (?P<value>{N}) found (?P<found>.*)|due (?:{FORMS_DUE}|{VALUES_DUE})|why (?:zero|negative|even|beyond|null)|entry {N} {T} form -?{N}"
     f"|values {N}|first {N} item {N}|list {N} {T} items {N}|in (?:solid {N}|(?:shell|face|loop) {N} item {N})",
+    "line": rf"hex(?: [0-9a-f]{{2}})+|column {N}|text .*|mark  *\^+",
     "gap": f"{FACE}|(?P<which>this|next) tuple (?P<tuple>{N}) (?:{EDGE} flag (?P<flag>[01]) {CURVE}|vertex {N} {N})|(?:ends|starts) (?P<vertex>{VERTEX})",
     "edge": f"{CURVE}|(?:start|end) (?P<vertex>{VERTEX})|(?P<way>along|against) {USE} flags [01] [01] [01]|more {N}",
     "part": f"(?:at|(?P<touches>touches)) (?P<vertex>{VERTEX})|{FACE}|more {N}",

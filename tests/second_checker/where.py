@@ -4,6 +4,7 @@ import textwrap
 from dataclasses import dataclass
 from typing import NamedTuple
 
+from .bad_lines import told
 from .certificates import certificate
 from .extraction import Layout, groups_of, topology_layout
 from .fields import Real
@@ -19,7 +20,7 @@ DOC = {}
 
 def sentences(page):
     """The sentences and the words for types, as the page has them."""
-    for name, sentence in re.findall(r"(?m)^\| ([A-Z]+|[a-z-]+) \| (.*) \|$", page):
+    for name, sentence in re.findall(r"(?m)^\| ([A-Z]+|[a-z0-9-]+) \| (.*) \|$", page):
         DOC[name] = sentence
     words = page[page.index("## 7."):]
     DOC["types"] = {int(kind): word for kind, word in re.findall(r"(\d+) ([a-z-]+)", words)}
@@ -711,5 +712,9 @@ def answer(words, data):
         status = overview(text, file) if not words else whole(text, file, int(words[0]))
     except BadFile as bad:
         text.lines += [f"bad file line {bad.line} {bad.reason}", *cut(DOC[bad.reason])]
+        lines, hints = told(data, bad.line, bad.reason)
+        text.lines += lines
+        for hint in hints:
+            text.lines += [f"hint {hint}", *cut(DOC[hint.split(" ")[-1]])]
         status = 3
     return status, "".join(line + "\n" for line in text.lines).encode("latin-1")

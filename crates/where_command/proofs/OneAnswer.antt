@@ -113,7 +113,7 @@ no_file_one bytes a b t u (file_too_large p) (file_too_large q) = (refl, refl)
 no_file_one bytes a b t u (file_too_large p) (bad_file few fault q) = absurd (omega (arith, p, few))
 no_file_one bytes a b t u (bad_file few fault p) (file_too_large q) = absurd (omega (arith, few, q))
 no_file_one bytes a b t u (bad_file few fault p) (bad_file less other q) =
-    (refl, ap bad_file_text (err_is {X = Contents} fault other (sym (Refusal-read_file bytes fault p) ∙ Refusal-read_file bytes other q)))
+    (refl, ap (bad_file_text bytes) (err_is {X = Contents} fault other (sym (Refusal-read_file bytes fault p) ∙ Refusal-read_file bytes other q)))
 
 owed_none : (bytes : List ℕ) (a : Answer) (t : List ℕ) → OfNoFile bytes a t → IsNoFile bytes
 owed_none bytes a t (file_too_large p) = inl p
