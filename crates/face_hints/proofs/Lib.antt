@@ -1,0 +1,3 @@
+pub mod MateLemmas
+pub mod TornLemmas
+pub mod BodyLemmas
