@@ -34,7 +34,6 @@ pub struct Bodies {
 
 impl Model for Bodies {
     ghost use Rattle.face_hints.specs.Bodies.{Bodies as Found};
-
     ghost use Rattle.std.specs.Prelude.{◌≡◌};
 
     ghost Value = { Found };

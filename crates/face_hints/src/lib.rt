@@ -5,9 +5,11 @@
 #![tactic(auto)]
 
 mod bodies;
+mod extra;
 mod pieces;
 mod themselves;
 
 pub use bodies::{Bodies, bodies};
+pub use extra::extra_faces;
 pub use pieces::pieces;
 pub use themselves::are_closed;

@@ -99,9 +99,11 @@ no_sides d x p h on faces t =
     not_false : (b : Bool) → not b ≡ false → b ≡ true
     not_false true e = refl
     not_false false e = absurd cc
+
     ends : (u : Bool) (b : ℕ) → node d.face_count u b ≡ p → p < d.face_count → (b ≡ p) × (u ≡ false)
     ends true b e lt = absurd (omega (arith, e, lt))
     ends false b e lt = (e, refl)
+
     never : (b : Bool) → flipped true b ≡ flipped false b → ⊥
     never true e = cc
     never false e = cc
@@ -257,6 +259,7 @@ off_one d x p xs h sided le t = by_first (t.turn p) refl
         let e : xs ≡ side_faces x p false = listed_as d x p xs true h sided t is in
         absurd
         (⊎_elim (λ k. omega (arith, k, le, sides_whole x p, ap (length {A = ℕ}) e)) (λ k. clash (sym is ∙ k.1)) t.smaller)
+
     clash : true ≡ false → ⊥
     clash e = cc
 

@@ -96,7 +96,7 @@ link_step d a s b t h =
       nodes = inr (
         ap (node d.face_count t) k.0,
         ap (λ u. node d.face_count u h.two.other.at.face.0) (ap (flipped (one_way h.two)) h.turns ∙ flipped_twice (one_way h.two) s)
-        ∙ ap (node d.face_count s) k.1,
+            ∙ ap (node d.face_count s) k.1,
       );
     })
     h.on

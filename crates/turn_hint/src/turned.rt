@@ -53,11 +53,7 @@ fn chosen(
 
 /// The faces of a patch, which is named by its first face, that are inside out against the others: the smaller of the two sides,
 /// of equal ones that without the first face. None where no flags make the rows of the patch agree.
-pub fn turned(
-    alloc: Global,
-    sides: &Sides,
-    patch: u32,
-) -> Result<Option<Vec<u32>>, NoMemory>
+pub fn turned(alloc: Global, sides: &Sides, patch: u32) -> Result<Option<Vec<u32>>, NoMemory>
     requires { Has (parts_of sides.now.firsts) patch }
     ensures { IfOk result (λ answer. (d : ShellRows) → AreSides d sides.now → MatchOption answer
         ((xs : List ℕ) → ¬ AreTurned d sides.now.firsts patch xs)

@@ -74,5 +74,11 @@ pub fn put_hints(
         listing,
     };
     put_first(out, named, &on, hints)?;
-    put_counted_if(out, Hint::TouchingShells, " vertices", shell.0, hints.shared)
+    put_counted_if(
+        out,
+        Hint::TouchingShells,
+        " vertices",
+        shell.0,
+        hints.shared,
+    )
 }
