@@ -12,7 +12,7 @@ ghost use Rattle.shell_hints.specs.Exactly.{AreThose, IsExactly};
 ghost use Rattle.face_hints.specs.Pieces.{ArePieces, piece_faces};
 ghost use Rattle.face_hints.specs.Bodies.{AreBodies, AreClosed, IsTorn, stray_if, strays_of as all_strays};
 
-use crate::pieces::pieces;
+use crate::cutting::pieces;
 use crate::themselves::are_closed;
 use edge_components::{Groups, grouped};
 use edge_uses::{Rows, Seen, Span, row_at, tally_of};
@@ -250,7 +250,7 @@ fn with_strays(
 /// The bodies of a shell: the pieces that are closed by themselves, where there is more than one piece, each other piece has
 /// an edge that isn't paired, and fewer faces are left over than bodies have. The rows of the shell are given. Each piece is
 /// judged at the cost of its own faces.
-pub fn bodies(
+pub fn bodies_of(
     alloc: Global,
     solid: &Solid,
     shell: ShellAt,

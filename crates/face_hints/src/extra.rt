@@ -8,7 +8,7 @@ ghost use Rattle.edge_components.specs.Trees.{AreTrees};
 ghost use Rattle.face_hints.specs.Pieces.{piece_faces};
 ghost use Rattle.face_hints.specs.Extra.{AreExtra, IsBest, IsBetter, IsExtra, other_faces, other_if, piece_of_row, pieces_at};
 
-use crate::pieces::pieces;
+use crate::cutting::pieces;
 use crate::themselves::are_closed;
 use edge_components::{Groups, rise};
 use edge_uses::Rows;

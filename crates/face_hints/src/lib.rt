@@ -5,11 +5,11 @@
 #![tactic(auto)]
 
 mod bodies;
+mod cutting;
 mod extra;
-mod pieces;
 mod themselves;
 
-pub use bodies::{Bodies, bodies};
+pub use bodies::{Bodies, bodies_of};
+pub use cutting::pieces;
 pub use extra::extra_faces;
-pub use pieces::pieces;
 pub use themselves::are_closed;

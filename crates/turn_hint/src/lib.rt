@@ -5,8 +5,8 @@
 //! other, with whose flags changed all rows of the patch agree; or there is none, as in a Moebius band.
 #![tactic(auto)]
 
+mod choosing;
 mod sides;
-mod turned;
 
-pub use sides::{Sides, sides};
-pub use turned::turned;
+pub use choosing::turned;
+pub use sides::{Sides, sides_of};

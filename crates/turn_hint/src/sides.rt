@@ -171,7 +171,7 @@ fn pairs_of(alloc: Global, rows: &Rows, by_edge: &Groups) -> Result<Pairs, NoMem
 }
 
 /// The patches of a shell, and the two sides of each. It goes once over the rows.
-pub fn sides(alloc: Global, rows: &Rows) -> Result<Sides, NoMemory>
+pub fn sides_of(alloc: Global, rows: &Rows) -> Result<Sides, NoMemory>
     ensures { IfOk result (λ s. AreSides rows.now s) }
 {
     let _kept = rows.len();

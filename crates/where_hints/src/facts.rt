@@ -7,7 +7,7 @@ ghost use Rattle.solid_faults.specs.Faults.{AreFaults};
 ghost use Rattle.where_hints.specs.Facts.{AreHints};
 
 use edge_uses::Rows;
-use face_hints::{Bodies, bodies};
+use face_hints::{Bodies, bodies_of};
 use iges_base::NoMemory;
 use open_hint::missing_faces;
 use shell_hints::{crowded, pinch, touching, touching_shells};
@@ -53,7 +53,7 @@ pub fn hints_of(
     solid.recall_numbering();
     let unpaired = faults.unpaired();
     Ok(Hints {
-        bodies: bodies(alloc, solid, shell, rows)?,
+        bodies: bodies_of(alloc, solid, shell, rows)?,
         missing: missing_faces(alloc, solid, shell, unpaired)?,
         touching: touching(unpaired),
         crowded: crowded(unpaired),

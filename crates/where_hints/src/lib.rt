@@ -4,9 +4,9 @@
 mod bodies;
 mod counts;
 mod facts;
-mod hints;
 mod sentences;
+mod writing;
 
 pub use facts::{Hints, hints_of};
-pub use hints::put_hints;
 pub use sentences::Hint;
+pub use writing::put_hints;

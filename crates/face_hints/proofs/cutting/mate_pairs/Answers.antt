@@ -1,7 +1,7 @@
 use Rattle.std.proofs.Common.{◌∙◌, ap, ◌++◌}
 use Rattle.solid_faults.proofs.GapSteps.{plain_step}
 use Rattle.face_hints.specs.Pieces.{edge_mates, mate_faces}
-use Rattle.face_hints.proofs.pieces.mate_pairs.Goals as goal
+use Rattle.face_hints.proofs.cutting.mate_pairs.Goals as goal
 
 pub edges-preserved : goal.edges-preserved
 edges-preserved c =

@@ -3,7 +3,7 @@ use Rattle.edge_components.specs.Components.{AreInside, AreComponents}
 use Rattle.solid_faults.specs.Tallied.{AreTallied}
 use Rattle.face_hints.specs.Pieces.{mate_pairs}
 use Rattle.face_hints.proofs.MateLemmas.{mates_inside, pieces_of_labels}
-use Rattle.face_hints.proofs.pieces.pieces.Goals as goal
+use Rattle.face_hints.proofs.cutting.pieces.Goals as goal
 
 pub components-requires-clause-inside : goal.components-requires-clause-inside
 components-requires-clause-inside c =
