@@ -302,6 +302,12 @@ def comparisons(copy, skipped):
     yield "dist/check: another source", copy.run("dist/check", kit=True)[0] == 1
     listed.write_text(text)
     yield "dist/check: the sources again", copy.run("dist/check", kit=True)[0] == 0
+    named = copy.top / "dist" / "BUILT"
+    text = named.read_text()
+    named.write_text(text.replace("kit a kit for tests", "kit another"))
+    status, told, _ = copy.run("dist/check", kit=True)
+    yield "dist/check: another kit that builds the same bytes", status == 0 and b"BUILT names the kit another; a kit for tests built the same bytes" in told
+    named.write_text(text)
     if shutil.which("git", path=clone.PLAIN_PATH) is None:
         skipped("dist/make beside git, which isn't installed")
     else:

@@ -1,4 +1,4 @@
-//! Tests of the calls on solids and shells, each with ample memory.
+//! Tests of the calls on shells, each with ample memory.
 #![tactic(auto)]
 
 #[cfg(test)]
@@ -9,5 +9,3 @@ mod edges;
 mod links;
 #[cfg(test)]
 mod reach;
-#[cfg(test)]
-mod walking;

@@ -1,6 +1,6 @@
-//! Tests of `run`, of the sources and sinks that it takes, and of samples, each with ample memory. Each read and each write
-//! of each command fails in turn: `run` then answers that, and has written the front of its text that came before, which is
-//! nothing where a read failed.
+//! Tests of `run` and of the sources and sinks that it takes, each with ample memory. Each read and each write of each
+//! command fails in turn: `run` then answers that, and has written the front of its text that came before, which is nothing
+//! where a read failed.
 #![tactic(auto)]
 
 #[cfg(test)]
@@ -13,7 +13,5 @@ mod files;
 mod memory;
 #[cfg(test)]
 mod outcomes;
-#[cfg(test)]
-mod samples;
 #[cfg(test)]
 mod streams;

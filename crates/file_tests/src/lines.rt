@@ -3,17 +3,9 @@ ghost use Rattle.std.specs.Prelude.{◌≡◌, ◌≤◌, ◌+◌, length, OnOk}
 use crate::comparing::same;
 use crate::texts::tiny;
 use iges_fields::NoMemory;
-use iges_lines::{LineFault, LineFeed, Reason, Sections, SectionsFault, sections};
+use iges_lines::{LineFault, LineFeed, Reason, Sections, SectionsFault};
 use std::alloc::Global;
 use std::test::Fail;
-
-/// The lines of a text by section; no clause goes further.
-pub fn sections_of(alloc: Global, text: &[u8]) -> Result<Sections, SectionsFault> {
-    if text.len() > 600 {
-        return Err(SectionsFault::NoMemory);
-    }
-    sections(alloc, text)
-}
 
 // How many lines the sections have before the last one.
 fn counts(s: &Sections) -> (usize, usize, usize, usize) {
@@ -23,23 +15,6 @@ fn counts(s: &Sections) -> (usize, usize, usize, usize) {
         s.directory_count(),
         s.param_count(),
     )
-}
-
-#[test]
-fn five_sections(rt: HostRuntime) -> Result<(), Fail> {
-    let s = sections_of(rt.alloc(), tiny())?;
-    same(&rt, &counts(&s), &(1, 1, 2, 1));
-    Ok(())
-}
-
-#[test]
-fn word_and_number(rt: HostRuntime) {
-    same(
-        &rt,
-        &Reason::TypesDiffer.word(),
-        &b"types-differ".as_slice(),
-    );
-    same(&rt, &Reason::TypesDiffer.number(), &10);
 }
 
 // Gives a feed its next bytes; only its length goes further.
