@@ -12,7 +12,7 @@ mod opening;
 mod parts;
 mod state;
 mod verdict;
-mod words;
+mod parsed;
 mod writing;
 
 pub use cert_lines::ReachRows;

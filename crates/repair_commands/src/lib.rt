@@ -1,7 +1,7 @@
 //! The commands of `igesolid-repair`: what they owe for the words and the bytes that they are given.
 #![tactic(auto)]
 
-mod asked;
+mod request;
 mod command;
 mod law;
 mod reorienting;
@@ -9,7 +9,7 @@ mod replies;
 mod report;
 mod words;
 
-pub use asked::{Asked, LineCommand};
+pub use request::{Request, LineCommand};
 pub use command::run_repair;
 pub use law::{in_layout_is_told, one_answer, one_reorient_answer, some_answer, unoriented_is_no};
 pub use words::Words;

@@ -1,5 +1,5 @@
 use Rattle.std.proofs.Common.{◌∙◌}
-use Rattle.cert_state.specs.Stand.{FitsLine}
+use Rattle.cert_state.specs.Progress.{FitsLine}
 use Rattle.topo_certificate.proofs.FedLines.{left_next, left_bad}
 use Rattle.topo_certificate.proofs.checker.Checker.feed.Goals as goal
 
