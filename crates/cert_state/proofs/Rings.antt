@@ -112,7 +112,7 @@ pub walked_whole : (d : ShellRows) (pairs : List (ℕ × ℕ)) (first last : ℕ
     → Walked d pairs first last rest all stop count → IsRing d pairs first first all × (count ≡ length (first ∷ all)) × (rest ≡ stop)
 walked_whole d pairs first last rest all stop count never turns w =
     let e = none_before rest w.left stop never w.numbers in
-    (w.on (subst (IsRing d pairs first last) (sym e.0) ((turns, tt), tt)), (omega (arith, w.whole, ap (λ xs. length xs) e.0), e.1))
+    (w.on (subst (IsRing d pairs first last) (sym e.0) ((turns, tt), tt)), omega (arith, w.whole, ap (λ xs. length xs) e.0), e.1)
 
 pub walked_broken : (d : ShellRows) (pairs : List (ℕ × ℕ)) (first last : ℕ) (rest all stop : List ℕ) (count : ℕ)
     → ((n : ℕ) (after : List ℕ) → ¬ Begins rest n after) → (TurnsTo d pairs last first → ⊥)

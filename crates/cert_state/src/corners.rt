@@ -62,10 +62,10 @@ pub fn fitting_corner(
     ensures { (at : Progress) (rs : List ℕ) → HoldsMates mates.now at.mates → at.last_vertex ≡ last → AreNumbers numbers.now rs →
         MatchOption result (¬ FitsCornerLine rows.now at rs) (λ v. FitsCornerLine rows.now at rs × (vertex_of rows.now (corner rs) ≡ Some v.0)) }
 {
-    match read_corner(rows, sizes, mates, last, numbers) {
-        Some((vertex, rest)) if rest.is_empty() => Some(vertex),
-        _ => None,
-    }
+    let Some((vertex, rest)) = read_corner(rows, sizes, mates, last, numbers) else {
+        return None;
+    };
+    if rest.is_empty() { Some(vertex) } else { None }
 }
 
 /// The vertex of a point line that fits after one at the last vertex.

@@ -1,4 +1,4 @@
-use Rattle.std.proofs.Common.{arith, ◌≡◌, subst, sym}
+use Rattle.std.proofs.Common.{subst, sym}
 use Rattle.cert_lines.specs.Line.{corner}
 use Rattle.cert_state.specs.CheckState.{HoldsMates}
 use Rattle.cert_state.specs.Matching.{TakesNext}
@@ -21,7 +21,7 @@ returns-clause-line c =
     c.in-Some-after_byte.ensures in
     let new = with_vertex (the_view c.self.inside) c.in-Some-read_corner.vertex.0 in
     subst (λ k. TakesNext k new c.args.limit c.args.text.now c.in-Some-after_byte.after.now) c.self.view_is
-    (takes_next (the_view c.self.inside) new c.args.limit c.args.text.now c.in-Some-after_byte.after.now (corner rs) tt leads c.if-limit.false
+    (takes_next (the_view c.self.inside) new c.args.limit c.args.text.now c.in-Some-after_byte.after.now (corner rs) tt leads c.if-text-after.false
     (corner_takes (the_view c.self.inside) rs c.in-Some-read_corner.vertex.0 (c.has_corner.ensures.0 c.if-not-has_corner.false)
     (λ at hm same. let f = c.in-Some-read_corner.ensures.fits at rs c.in-Some-read_corner.rest.now
     (subst (λ ms. HoldsMates ms at.mates) (sym c.deref-2.ensures.value) hm) same n in (f.0, f.1))))
