@@ -468,7 +468,7 @@ abbrev pub EndsPartLine : FedState → List ℕ → FedState → PartLine → Ty
 EndsPartLine old line new told = (v : Version) (s : SolidData) (first : ℕ) (text front : List ℕ) → IsTrue (is_in_line front) → line ≡ ended front
     → IsFedPart v s first text old → IsEndedBy v s first (text ++ line) new told
 
-pub after_shorter : (left front after : List ℕ) → left ≡ front ++ 10 ∷ after → length after ≤ length left
+pub after_shorter : (left front after : List ℕ) → left ≡ front ++ 10 ∷ after → length after < length left
 after_shorter left front after whole = omega (arith, ap length whole, length-append front (10 ∷ after))
 
 -- the bytes up to the end of the line that begins the next part

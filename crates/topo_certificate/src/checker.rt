@@ -1,6 +1,6 @@
 //! The checker of a certificate's lines, which are given whole or in pieces.
 
-ghost use Rattle.std.specs.Prelude.{◌≡◌, ◌+◌, ◌≤◌, ◌<◌, ◌^◌, [], ◌∷◌, ◌++◌, List, ℕ, None, Some, Err, true, false, take, length, IfOk, IfSome, IsTrue, MatchResult, vec_len};
+ghost use Rattle.std.specs.Prelude.{◌≡◌, ◌+◌, ◌≤◌, ◌<◌, ◌^◌, [], ◌∷◌, ◌++◌, List, ℕ, None, Some, Err, true, false, take, length, IfNone, IfOk, IfSome, IsTrue, MatchResult, vec_len};
 ghost use Rattle.cert_lines.specs.Line.{CertLine, IsLine, cut_lines, line_limit};
 ghost use Rattle.iges_base.specs.Ended.{ended};
 ghost use Rattle.iges_base.specs.InLine.{is_in_line};
@@ -13,6 +13,7 @@ ghost use Rattle.cert_text.specs.declared.fault.Illegal.TheVariants.{Missing};
 ghost use Rattle.cert_state.specs.Progress.{progress_after, FitsLine};
 ghost use Rattle.topo_certificate.specs.Legal.{IsLegal, IsFirstBad, IsPartBad, IsBadLine};
 ghost use Rattle.topo_certificate.specs.Matching.{IsOfSame};
+ghost use Rattle.topo_certificate.specs.Part.{TakesNextLine};
 
 use crate::line_checker::{LineChecker, PartLine};
 use cert_lines::{Illegal, Version, first_ended};
@@ -174,8 +175,22 @@ impl<'a> Checker<'a> {
         }
     }
 
-    // Takes the lines at the start of a text as long as they are edge, corner and reach lines that fit, if no unfinished
-    // line came before it, and gives what is left of it.
+    // Takes the edge, corner or reach line at the start of a text where it fits and no unfinished line came before it,
+    // and gives what follows it. Else nothing changes.
+    fn take_line<'t>(&mut self, text: &'t [u8]) -> Option<&'t [u8]>
+        ensures line { IfSome result (λ after. TakesNextLine self.old.checker self.new.checker text.now after.now) }
+        ensures kept { IfSome result (λ _. (self.old.kept ≡ []) × (self.new.kept ≡ [])) }
+        ensures failed { self.new.failed ≡ self.old.failed }
+        ensures refused { IfNone result (self.new ≡ self.old) }
+        ensures same { IsOfSame self.old.checker self.new.checker }
+    {
+        if !self.kept.is_empty() {
+            return None;
+        }
+        self.checker.take_next(text)
+    }
+
+    // Takes the lines at the start of a text one after the other as long as `take_line` does, and gives what is left.
     fn take_lines<'t>(&mut self, text: &'t [u8]) -> &'t [u8]
         requires { self.old.failed ≡ None }
         ensures fed { IsFedUpTo IsFed self.old text.now self.new result.now }
@@ -185,10 +200,7 @@ impl<'a> Checker<'a> {
         ensures same { IsOfSame self.old.checker self.new.checker }
     {
         let mut rest = text;
-        if !self.kept.is_empty() {
-            return rest;
-        }
-        'taken: while let Some(after) = self.checker.take_next(rest) {
+        'taken: while let Some(after) = self.take_line(rest) {
             rest = after;
         }
         rest

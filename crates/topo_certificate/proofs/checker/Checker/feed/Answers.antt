@@ -16,13 +16,13 @@ lines-preserved c =
     let ends = c.in-Some-first_ended.ensures {u = tt} in
     let done = c.in_ok-end_line.ensures {u = tt} in
     record {
-      left = left_on FitsLine c.args.self.now c.end_line.new.self c.take_lines-2.new.self c.args.piece.now c.in-Some-first_ended.after.now
-          c.take_lines-2.result.now
+      left = left_on FitsLine c.args.self.now c.end_line.new.self c.take_lines-rest-in-Some-first_ended.new.self c.args.piece.now c.in-Some-first_ended.after.now
+          c.take_lines-rest-in-Some-first_ended.result.now
           (left_next FitsLine c.args.self.now c.args.piece.now c.lines.self c.end_line.new.self c.lines.rest.now c.in-Some-first_ended.line.now
-          c.in-Some-first_ended.after.now ends.front ends.in_line ends.line_is ends.whole done.fed c.lines.invariant.left) c.take_lines-2.ensures.fed;
-      still = c.take_lines-2.ensures.still;
+          c.in-Some-first_ended.after.now ends.front ends.in_line ends.line_is ends.whole done.fed c.lines.invariant.left) c.take_lines-rest-in-Some-first_ended.ensures.fed;
+      still = c.take_lines-rest-in-Some-first_ended.ensures.still;
       same = (
-        c.take_lines-2.ensures.same.0 ∙ (done.same.0 ∙ c.lines.invariant.same.0),
-        c.take_lines-2.ensures.same.1 ∙ (done.same.1 ∙ c.lines.invariant.same.1),
+        c.take_lines-rest-in-Some-first_ended.ensures.same.0 ∙ (done.same.0 ∙ c.lines.invariant.same.0),
+        c.take_lines-rest-in-Some-first_ended.ensures.same.1 ∙ (done.same.1 ∙ c.lines.invariant.same.1),
       );
     }

@@ -36,15 +36,15 @@ lines-preserved c =
     let done = c.in_ok-told.ensures in
     let more = subst (EndsPartLine c.lines.self c.in-Some-first_ended.line.now c.end_part_line.new.self) c.in-More.is done.fed in
     record {
-      left = left_on FitsPart c.args.self.now c.end_part_line.new.self c.take_lines-2.new.self c.args.piece.now c.in-Some-first_ended.after.now
-          c.take_lines-2.result.now
+      left = left_on FitsPart c.args.self.now c.end_part_line.new.self c.take_lines-left-in-More.new.self c.args.piece.now c.in-Some-first_ended.after.now
+          c.take_lines-left-in-More.result.now
           (left_next FitsPart c.args.self.now c.args.piece.now c.lines.self c.end_part_line.new.self c.lines.left.now c.in-Some-first_ended.line.now
-          c.in-Some-first_ended.after.now ends.front ends.in_line ends.line_is ends.whole more c.lines.invariant.left) c.take_lines-2.ensures.fed_part;
+          c.in-Some-first_ended.after.now ends.front ends.in_line ends.line_is ends.whole more c.lines.invariant.left) c.take_lines-left-in-More.ensures.fed_part;
       within = omega
-          (arith, c.take_lines-2.ensures.within, after_shorter c.lines.left.now ends.front c.in-Some-first_ended.after.now ends.whole, c.lines.invariant.within);
-      still = c.take_lines-2.ensures.still;
+          (arith, c.take_lines-left-in-More.ensures.within, after_shorter c.lines.left.now ends.front c.in-Some-first_ended.after.now ends.whole, c.lines.invariant.within);
+      still = c.take_lines-left-in-More.ensures.still;
       same = (
-        c.take_lines-2.ensures.same.0 ∙ (done.same.0 ∙ c.lines.invariant.same.0),
-        c.take_lines-2.ensures.same.1 ∙ (done.same.1 ∙ c.lines.invariant.same.1),
+        c.take_lines-left-in-More.ensures.same.0 ∙ (done.same.0 ∙ c.lines.invariant.same.0),
+        c.take_lines-left-in-More.ensures.same.1 ∙ (done.same.1 ∙ c.lines.invariant.same.1),
       );
     }

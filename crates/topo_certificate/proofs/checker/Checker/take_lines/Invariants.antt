@@ -1,4 +1,4 @@
-use Rattle.std.proofs.Common.{◌≡◌, ◌≤◌, [], length, None}
+use Rattle.std.proofs.Common.{◌≡◌, ◌≤◌, length, None}
 use Rattle.cert_state.specs.Progress.{FitsLine}
 use Rattle.topo_certificate.specs.Legal.{FitsPart}
 use Rattle.topo_certificate.specs.Matching.{IsOfSame}
@@ -11,7 +11,6 @@ invariant-taken l = record {
   part : IsLeft FitsPart l.fn.self l.text l.self l.rest;
   within : length l.rest ≤ length l.text;
   still : l.self.failed ≡ None;
-  empty : l.self.kept ≡ [];
   same : IsOfSame l.fn.self.checker l.self.checker;
 }
 

@@ -1,5 +1,4 @@
-use Rattle.std.proofs.Common.{refl, ap, ◌∙◌, subst, ◌≡◌, ◌+◌}
-use Rattle.cert_lines.specs.Line.{line_limit}
+use Rattle.std.proofs.Common.{refl, subst, ◌+◌}
 use Rattle.topo_certificate.specs.Matching.{CheckerState}
 use Rattle.topo_certificate.specs.Part.{TakesNextLine}
 use Rattle.topo_certificate.proofs.Checking.{with_current}
