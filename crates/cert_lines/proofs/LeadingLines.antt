@@ -28,6 +28,6 @@ edge_leads text numbers rest last after a b letter first second e = record {
   whole =
       letter
       ∙ ap (λ (x : List ℕ). 69 ∷ x)
-          (number_then numbers rest (spaced (b ∷ []) ++ 10 ∷ []) after a first (one_then rest last after b second e)
-          ∙ ap (λ (x : List ℕ). x ++ after) (spaced_end (b ∷ []) a));
+      (number_then numbers rest (spaced (b ∷ []) ++ 10 ∷ []) after a first (one_then rest last after b second e)
+      ∙ ap (λ (x : List ℕ). x ++ after) (spaced_end (b ∷ []) a));
 }

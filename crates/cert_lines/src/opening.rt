@@ -6,8 +6,8 @@ ghost use Rattle.cert_lines.specs.Opening.{IsHeadLine, IsSolid, Opens, IsBadOpen
 ghost use Rattle.cert_lines.specs.Opening.{IsMisfit, illegal_at};
 
 use crate::cutting::first_line;
-use crate::version::Version;
 use crate::parsed::{Judged, ParsedLine, judge};
+use crate::version::Version;
 use cert_text::{Illegal, Misfit};
 use iges_base::EntryNo;
 

@@ -10,7 +10,9 @@ ghost use Rattle.cert_lines.specs.declared.version.Version.{Version as Edition};
 
 use crate::counts::{ShellCounts, TallyCounts};
 use crate::version::{Version, head_text};
-use cert_text::{after_byte, after_word, are_numbers, is_word, next_number, one_number, two_numbers};
+use cert_text::{
+    after_byte, after_word, are_numbers, is_word, next_number, one_number, two_numbers,
+};
 
 /// What a line says. Rows, faces and loops count from 1 here, as in the text.
 #[derive(Clone, Copy)]

@@ -30,5 +30,5 @@ corner_leads text numbers rest after rs letter n some e = record {
   spelled = (n.short, some);
   whole = letter
       ∙ ap (λ (x : List ℕ). 67 ∷ x)
-          (n.text_is ∙ (ap (λ (x : List ℕ). spaced rs ++ x) e ∙ sym (append_assoc (spaced rs) (10 ∷ []) after)));
+      (n.text_is ∙ (ap (λ (x : List ℕ). spaced rs ++ x) e ∙ sym (append_assoc (spaced rs) (10 ∷ []) after)));
 }

@@ -145,9 +145,13 @@ impl ShellState {
         if !self.due.has_corner() {
             return false;
         }
-        let Some(vertex) =
-            fitting_corner(&self.rows, &self.sizes, &self.mates, self.last_vertex, text)
-        else {
+        let Some(vertex) = fitting_corner(
+            &self.rows,
+            &self.sizes,
+            &self.mates,
+            self.last_vertex,
+            text,
+        ) else {
             return false;
         };
         self.due.corners -= 1;
@@ -216,7 +220,8 @@ impl ShellState {
             ParsedLine::Point(face, place) => self.take_point(face, place),
             ParsedLine::Reach(row) => self.take_reach(row),
             ParsedLine::Tally(counts) => self.take_tally(&counts),
-            ParsedLine::Head(_) | ParsedLine::Solid(_) | ParsedLine::Shell(..) | ParsedLine::End => false,
+            ParsedLine::Head(_) | ParsedLine::Solid(_) | ParsedLine::Shell(..) | ParsedLine::End =>
+                false,
         }
     }
     // Takes the E line at the start of a text, of at most so many bytes, where it fits; else the state stays as it was.
@@ -261,9 +266,13 @@ impl ShellState {
         let Some(numbers) = after_byte(text, b'C') else {
             return None;
         };
-        let Some((vertex, rest)) =
-            read_corner(&self.rows, &self.sizes, &self.mates, self.last_vertex, numbers)
-        else {
+        let Some((vertex, rest)) = read_corner(
+            &self.rows,
+            &self.sizes,
+            &self.mates,
+            self.last_vertex,
+            numbers,
+        ) else {
             return None;
         };
         let Some(after) = after_byte(rest, b'\n') else {

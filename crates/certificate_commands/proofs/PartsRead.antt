@@ -62,7 +62,8 @@ taken_within entry left after came now (Err stop) t few h =
       (let n : length (t.0 ++ h.0) ≤ CERT_LIMIT - came = omega (arith, long, few, k, length-append t.0 h.0) in n),
     )
 
-pub takes_few : (entry left after : Option (List ℕ)) (came now : ℕ) → TakenSince entry left came now → now ≤ CERT_LIMIT → TakesAtMost (CERT_LIMIT - now) left after
+pub takes_few : (entry left after : Option (List ℕ)) (came now : ℕ) → TakenSince entry left came now → now ≤ CERT_LIMIT
+    → TakesAtMost (CERT_LIMIT - now) left after
     → TakesAtMost (CERT_LIMIT - came) entry after
 takes_few entry left after came now t few h =
     let long = t.2 in

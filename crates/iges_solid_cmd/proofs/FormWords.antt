@@ -16,7 +16,8 @@ use Rattle.iges_solid_cmd.specs.declared.form_slot.Operand.{Operand}
 use Rattle.iges_solid_cmd.specs.declared.form_slot.Operand.TheVariants as operand
 use Rattle.iges_solid_cmd.specs.declared.form_slot.FormSlot.{FormSlot as CodeSlot}
 use Rattle.iges_solid_cmd.specs.declared.form.Form.{Form as Row}
-use Rattle.iges_solid_cmd.specs.Forms.{Form, IsSized, FormSlot, all_fit, certificate, command_of, file, fits, form_of, form_text, forms, holds, join_with, number}
+use Rattle.iges_solid_cmd.specs.Forms.{Form, IsSized, FormSlot, all_fit, certificate, command_of, file, fits, form_of, form_text, forms, holds, join_with}
+use Rattle.iges_solid_cmd.specs.Forms.{number}
 use Rattle.iges_solid_cmd.specs.Forms.{number_among, reads_certificate, reads_file, slot_text, takes_certificate, takes_file, usage_line, word, word_in}
 use Rattle.iges_solid_cmd.specs.FormTable.{command_for, form_meant, slot_meant}
 

@@ -4,7 +4,7 @@ ghost use Rattle.std.specs.List.{list_all};
 ghost use Rattle.std.specs.Prelude.{◌≡◌, None, MatchOption, Some, find, map, option_map, position, slice_get, string_bytes, true, zip};
 ghost use Rattle.std.specs.Str.Parse.{digits_value};
 
-use crate::form_slot::{ENTRY_NUMBER, Operand, SAMPLE_NUMBER, FormSlot};
+use crate::form_slot::{ENTRY_NUMBER, FormSlot, Operand, SAMPLE_NUMBER};
 
 /// A command for all of a file.
 #[derive(Clone, Copy, Debug, PartialEq, Eq)]
@@ -98,7 +98,11 @@ const FORMS: &[Form] = &[
         kind: CommandKind::Entity(EntityCommand::Certify),
     },
     Form {
-        slots: &[FormSlot::Word("verify"), FormSlot::File, FormSlot::Certificate],
+        slots: &[
+            FormSlot::Word("verify"),
+            FormSlot::File,
+            FormSlot::Certificate,
+        ],
         kind: CommandKind::Certificate(CertificateCommand::Verify),
     },
     Form {
@@ -110,11 +114,19 @@ const FORMS: &[Form] = &[
         kind: CommandKind::Sample,
     },
     Form {
-        slots: &[FormSlot::Word("upgrade"), FormSlot::File, FormSlot::Certificate],
+        slots: &[
+            FormSlot::Word("upgrade"),
+            FormSlot::File,
+            FormSlot::Certificate,
+        ],
         kind: CommandKind::Certificate(CertificateCommand::Upgrade),
     },
     Form {
-        slots: &[FormSlot::Word("certify"), FormSlot::File, FormSlot::Word("all")],
+        slots: &[
+            FormSlot::Word("certify"),
+            FormSlot::File,
+            FormSlot::Word("all"),
+        ],
         kind: CommandKind::Whole(WholeCommand::CertifyAll),
     },
     Form {
@@ -122,7 +134,11 @@ const FORMS: &[Form] = &[
         kind: CommandKind::Entity(EntityCommand::Open),
     },
     Form {
-        slots: &[FormSlot::Word("open-verify"), FormSlot::File, FormSlot::Certificate],
+        slots: &[
+            FormSlot::Word("open-verify"),
+            FormSlot::File,
+            FormSlot::Certificate,
+        ],
         kind: CommandKind::Certificate(CertificateCommand::OpenVerify),
     },
     Form {
@@ -130,7 +146,11 @@ const FORMS: &[Form] = &[
         kind: CommandKind::Entity(EntityCommand::Orient),
     },
     Form {
-        slots: &[FormSlot::Word("orient-verify"), FormSlot::File, FormSlot::Certificate],
+        slots: &[
+            FormSlot::Word("orient-verify"),
+            FormSlot::File,
+            FormSlot::Certificate,
+        ],
         kind: CommandKind::Certificate(CertificateCommand::OrientVerify),
     },
     Form {

@@ -26,7 +26,8 @@ row_goes_on (reach a) h = tt
 row_goes_on (border rs) h = tt
 row_goes_on end h = h
 
-next_number : (s : SolidData) (lines : List OpenLine) (line : OpenLine) → (progress_from_latest s (line ∷ lines)).number ≡ (progress_from_latest s lines).number + 1
+next_number : (s : SolidData) (lines : List OpenLine) (line : OpenLine)
+    → (progress_from_latest s (line ∷ lines)).number ≡ (progress_from_latest s lines).number + 1
 unfolding progress_from_latest
 next_number s lines line = omega arith
 
@@ -108,7 +109,8 @@ end_comes old n going done more lines at =
       },
     )
 
-pub end_refused : (old new : OpenCheckerState) → ((s : SolidData) (lines : List OpenLine) → MatchesLines s lines old.shell → IsDone (progress_from_latest s lines) → ⊥)
+pub end_refused : (old new : OpenCheckerState) → ((s : SolidData) (lines : List OpenLine) → MatchesLines s lines old.shell
+    → IsDone (progress_from_latest s lines) → ⊥)
     → TakesLine old new end false
 end_refused old new never lines at fits = never old.solid lines at.shell fits.1
 

@@ -308,7 +308,8 @@ legal_fit s before [] fit legal = (before, fit, legal)
 legal_fit s before (bytes ∷ rest) fit (line, is_line, fits, more) = legal_fit s (line ∷ before) rest (fits, fit) more
 
 -- END is the last, with nothing due
-pub last_is_end : (s : SolidData) (l : OpenLine) (lines : List OpenLine) → FitsLine s (progress_from_latest s lines) l → (progress_from_latest s (l ∷ lines)).ended
+pub last_is_end : (s : SolidData) (l : OpenLine) (lines : List OpenLine) → FitsLine s (progress_from_latest s lines) l
+    → (progress_from_latest s (l ∷ lines)).ended
     ≡ true → (l ≡ end) × IsDone (progress_from_latest s lines)
 unfolding progress_from_latest
 last_is_end s head lines fit ended = absurd fit.1

@@ -23,7 +23,8 @@ use Rattle.cert_state.specs.Progress.{FitsReach}
 use Rattle.cert_state.proofs.FitsDecided.{line_decided as closed_line_decided}
 use Rattle.open_certificate.specs.Line.{OpenLine, head, shell, edge, lone, cycle, path, point, reach, border, end, spelling, numbers_of, HasRows, HasSpelling}
 use Rattle.open_certificate.specs.Line.{IsSpelled, IsMisspelt}
-use Rattle.open_certificate.specs.Progress.{OpenProgress, shell_of, shared, progress_from_latest, FitsShell, ListsAll, FitsLone, IsChain, last_of, FitsPath, GoesOnTo}
+use Rattle.open_certificate.specs.Progress.{OpenProgress, shell_of, shared, progress_from_latest, FitsShell, ListsAll, FitsLone, IsChain, last_of, FitsPath}
+use Rattle.open_certificate.specs.Progress.{GoesOnTo}
 use Rattle.open_certificate.specs.Progress.{FitsBorder, CornerDue, ReachDue, BorderDue, IsDone, FitsOpen, FitsLine}
 use Rattle.open_certificate.specs.Legal.{IsLegalAfter, IsFirstBadAfter, IsOpenLegal, IsOpenFirstBad}
 use Rattle.open_certificate.proofs.Spelling.{kind_of, prefix_of, line_from, rebuilt, spelling_parts}

@@ -26,7 +26,8 @@ pub path_vertex : (d : ShellRows) (at : OpenProgress) (first : ℕ) (ms : List �
     → fits.vertex ≡ row.from.0
 path_vertex d at first ms row h fits = same_Some fits.vertex row.from.0 (sym fits.lies_at ∙ ap row_start h)
 
-pub path_low : (d : ShellRows) (at : OpenProgress) (first : ℕ) (ms : List ℕ) (row : Row) (last : Option ℕ) → row_named d first ≡ Some row → at.last_vertex ≡ last
+pub path_low : (d : ShellRows) (at : OpenProgress) (first : ℕ) (ms : List ℕ) (row : Row) (last : Option ℕ) → row_named d first ≡ Some row
+    → at.last_vertex ≡ last
     → (IsAbove last row.from.0 → ⊥) → FitsPath d at first ms → ⊥
 path_low d at first ms row last h same low fits =
     low (subst (λ o. IsAbove o row.from.0) same (subst (IsAbove at.last_vertex) (path_vertex d at first ms row h fits) fits.rises))

@@ -20,7 +20,8 @@ use Rattle.cert_state.proofs.CornerFits.{named_below}
 use Rattle.cert_state.proofs.Progressing.{due_of, progress_of}
 use Rattle.cert_state.proofs.Telling.{not_passed}
 use Rattle.open_certificate.specs.Line.{OpenLine, shell, edge, lone, cycle, path, point, reach, border}
-use Rattle.open_certificate.specs.Progress.{OpenProgress, progress_from_latest, shell_of, shared, edge_in, vertex_in, face_in, border_in, border_rows, FitsShell}
+use Rattle.open_certificate.specs.Progress.{OpenProgress, progress_from_latest, shell_of, shared, edge_in, vertex_in, face_in, border_in, border_rows}
+use Rattle.open_certificate.specs.Progress.{FitsShell}
 use Rattle.open_certificate.specs.Progress.{FitsLone}
 use Rattle.open_certificate.specs.Progress.{FitsOpen, CornerDue, BorderDue}
 use Rattle.open_certificate.specs.CheckState.{OpenCheckState, IsCheckState, AreCounts, MatchesLines, Takes, HoldsRows, dues, count_limit}
@@ -201,7 +202,8 @@ lone_above k a e h =
     edge_at None = None
     edge_at (Some x) = Some x.edge.0
 
-pub lone_kept : (k : OpenCheckState) (a e n l c : ℕ) → IsCheckState k → LoneFits k a e → 0 < k.edges_due → n ≡ k.edges_due - 1 → l ≡ k.listed + 1 → c ≡ k.lone_count + 1
+pub lone_kept : (k : OpenCheckState) (a e n l c : ℕ) → IsCheckState k → LoneFits k a e → 0 < k.edges_due → n ≡ k.edges_due - 1 → l ≡ k.listed + 1
+    → c ≡ k.lone_count + 1
     → IsCheckState (with_lone k a e n l c)
 lone_kept k a e n l c kept h due less more count = record {
   sizes = kept.sizes;
@@ -448,7 +450,8 @@ face_kept k f n kept due less = record {
   passed = kept.passed;
 }
 
-pub reach_takes : (k : OpenCheckState) (r f n : ℕ) → IsCheckState k → f < length k.reached → k.edges_due ≡ 0 → k.corners_due ≡ 0 → 0 < k.reach_due → n ≡ k.reach_due - 1
+pub reach_takes : (k : OpenCheckState) (r f n : ℕ) → IsCheckState k → f < length k.reached → k.edges_due ≡ 0 → k.corners_due ≡ 0 → 0 < k.reach_due
+    → n ≡ k.reach_due - 1
     → ((at : Progress) → HoldsMates k.mates at.mates → HoldsFaces k.reached at.reached → FitsReach k.rows at r × (face_of k.rows (pair_reach r) ≡ Some f))
     → Takes k (with_face k f n) (reach r) true
 unfolding progress_from_latest
@@ -484,7 +487,8 @@ reach_takes k r f n kept within no_edges no_corners due less fit s lines t =
       },
     )
 
-pub reach_unfit : (k new : OpenCheckState) (r : ℕ) → ((at : Progress) → HoldsMates k.mates at.mates → HoldsFaces k.reached at.reached → FitsReach k.rows at r → ⊥)
+pub reach_unfit : (k new : OpenCheckState) (r : ℕ) → ((at : Progress) → HoldsMates k.mates at.mates → HoldsFaces k.reached at.reached
+    → FitsReach k.rows at r → ⊥)
     → Takes k new (reach r) false
 reach_unfit k new r never s lines t f = let at : OpenProgress = progress_from_latest s lines in never (shared at) t.mates t.reached
     (subst (λ d. FitsReach d (shared at) r) (sym t.rows) f.1)
@@ -533,7 +537,8 @@ border_open : (s : SolidData) (at : OpenProgress) (rs : List ℕ) → BorderDue 
 border_open s at [] due h = h
 border_open s at (r ∷ rs) due h = (due, h)
 
-pub border_takes : (k : OpenCheckState) (rs : List ℕ) (r len n c : ℕ) → IsCheckState k → k.edges_due ≡ 0 → k.corners_due ≡ 0 → k.reach_due ≡ 0 → 0 < k.borders_due
+pub border_takes : (k : OpenCheckState) (rs : List ℕ) (r len n c : ℕ) → IsCheckState k → k.edges_due ≡ 0 → k.corners_due ≡ 0 → k.reach_due ≡ 0
+    → 0 < k.borders_due
     → n ≡ k.borders_due - 1 → c ≡ min (k.bordered + len) count_limit
     → ((at : OpenProgress) → HoldsRows k.lone at.lone → at.last_border ≡ k.last_border → FitsBorderLine k.rows at rs × (border_in (border rs) ≡ Some r)
     × (length rs ≡ len)) → Takes k (with_border k r n c) (border rs) true
@@ -594,7 +599,8 @@ unfolding progress_from_latest
 shell_takes k n rows edges corners faces borders kept fresh named counts s lines t = at_first lines (t.first fresh) t
   where
     at_first : (ls : List OpenLine) → ls ≡ [] → MatchesLines s ls k
-        → ((((progress_from_latest s ls).begun ≡ false) × FitsShell s n rows edges corners faces) × MatchesLines s (shell n rows edges corners faces borders ∷ ls)
+        → ((((progress_from_latest s ls).begun ≡ false) × FitsShell s n rows edges corners faces)
+            × MatchesLines s (shell n rows edges corners faces borders ∷ ls)
         (with_shell k edges corners (faces - 1) borders))
     at_first (l ∷ ls) e t = absurd (let h : l ∷ ls ≡ [] = e in cc)
     at_first [] e t = (
@@ -646,7 +652,8 @@ shell_kept k rows edges corners faces borders kept fresh counts e c f b = record
   passed = kept.passed;
 }
 
-pub shell_again : (k new : OpenCheckState) (n rows edges corners faces borders : ℕ) → k.begun ≡ true → Takes k new (shell n rows edges corners faces borders) false
+pub shell_again : (k new : OpenCheckState) (n rows edges corners faces borders : ℕ) → k.begun ≡ true
+    → Takes k new (shell n rows edges corners faces borders) false
 shell_again k new n rows edges corners faces borders begun s lines t f = true_false (sym begun ∙ (t.begun ∙ f.0))
 
 pub other_shell : (k new : OpenCheckState) (n rows edges corners faces borders : ℕ) → (n ≡ k.entity → ⊥)
@@ -663,7 +670,8 @@ other_counts k new n rows edges corners faces borders other s lines t f = other 
 })
 
 -- no line
-pub fresh_tells : (k : OpenCheckState) (s : SolidData) → k.entity ≡ s.entity.0 → k.rows ≡ shell_of s → k.begun ≡ false → HoldsMates k.mates [] → HoldsRows k.lone []
+pub fresh_tells : (k : OpenCheckState) (s : SolidData) → k.entity ≡ s.entity.0 → k.rows ≡ shell_of s → k.begun ≡ false → HoldsMates k.mates []
+    → HoldsRows k.lone []
     → k.lone_count ≡ 0 → HoldsFaces k.reached (0 ∷ []) → dues k ≡ 0 → k.listed ≡ 0 → k.bordered ≡ 0
     → k.last_edge ≡ None → k.last_vertex ≡ None → k.last_border ≡ None → MatchesLines s [] k
 unfolding progress_from_latest

@@ -26,7 +26,8 @@ IsUnfit s before bytes = (line : OpenLine) × IsSpelled bytes line × ¬ FitsLin
 -- The bytes are no line that fits after these lines: they are misspelt, or unfit.
 abbrev pub IsBadLine : SolidData → List OpenLine → List ℕ → Illegal → Type 0
 IsBadLine s before bytes bad =
-    (IsMisspelt bytes × (bad ≡ Misspelt (progress_from_latest s before).number)) ⊎ (IsUnfit s before bytes × (bad ≡ Unfit (progress_from_latest s before).number))
+    (IsMisspelt bytes × (bad ≡ Misspelt (progress_from_latest s before).number)) ⊎ (IsUnfit s before bytes × (bad
+        ≡ Unfit (progress_from_latest s before).number))
 
 -- the first misspelt or unfit line, or the number after the last line where END is missing
 abbrev pub IsFirstBadAfter : SolidData → List OpenLine → List (List ℕ) → Illegal → Type 0

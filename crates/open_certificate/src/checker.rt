@@ -1,7 +1,7 @@
 //! The checker of the lines of an open shell's certificate.
 
-use crate::state::OpenState;
 use crate::parsed::{OpenCounts, ParsedOpenLine, read_line};
+use crate::state::OpenState;
 use cert_lines::Illegal;
 use edge_uses::rows;
 use iges_base::NoMemory;

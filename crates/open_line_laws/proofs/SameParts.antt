@@ -23,7 +23,8 @@ use Rattle.cert_state.proofs.Corner.{MatesHold, mates_named, StartsNamed, turn_s
 use Rattle.cert_state.proofs.Segment.{AreGoodRows, named_has}
 use Rattle.open_certificate.specs.Sound.{IsOnce, row_total}
 use Rattle.open_certificate.specs.Line.{OpenLine, head, shell, edge, lone, cycle, path, point, reach, border, end}
-use Rattle.open_certificate.specs.Progress.{progress_from_latest, shell_of, FitsLine, IsChain, last_of, GoesOnTo, lone_in, mates_in, edge_in, vertex_in, border_in}
+use Rattle.open_certificate.specs.Progress.{progress_from_latest, shell_of, FitsLine, IsChain, last_of, GoesOnTo, lone_in, mates_in, edge_in, vertex_in}
+use Rattle.open_certificate.specs.Progress.{border_in}
 use Rattle.open_certificate.specs.Progress.{is_edge}
 use Rattle.open_certificate.specs.Progress.{is_corner, is_border}
 use Rattle.open_certificate.proofs.Borders.{AreBorder, StartApart, Goes, goes_one}

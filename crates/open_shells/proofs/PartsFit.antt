@@ -13,7 +13,8 @@ use Rattle.edge_uses.specs.RowRelations.{point_count}
 use Rattle.cert_lines.specs.Written.{row_number}
 use Rattle.cert_state.specs.Progress.{IsAbove, first_of, row_named, row_edge, row_start, row_face, point_named, start_count, IsMate, TurnsTo}
 use Rattle.open_certificate.specs.Line.{OpenLine, shell, edge, lone, cycle, path, point, reach, border, end, spelling, HasSpelling}
-use Rattle.open_certificate.specs.Progress.{progress_from_latest, shell_of, is_shell, is_edge, is_corner, is_reach, is_border, is_last, number_of, asked, mates_in}
+use Rattle.open_certificate.specs.Progress.{progress_from_latest, shell_of, is_shell, is_edge, is_corner, is_reach, is_border, is_last, number_of, asked}
+use Rattle.open_certificate.specs.Progress.{mates_in}
 use Rattle.open_certificate.specs.Progress.{lone_in, edge_in, vertex_in, face_in, border_in, border_rows, FitsLine, IsChain, last_of, GoesOnTo}
 use Rattle.open_certificate.specs.Legal.{IsLegalAfter}
 use Rattle.open_certificate.specs.Written.{edge_line}

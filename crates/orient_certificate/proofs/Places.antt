@@ -274,7 +274,8 @@ tally_step d i span old row was new at long low each is_was is_new g within = by
         set_other old k (g - span.least) new (summary []) apart ∙ seen_other d i g (get_or old (g - span.least) (summary [])) row at n.0 (each g within)
 
 -- the count of an edge tells whether it has two rows
-pub count_told : (d : ShellRows) (span : Span) (by_edge : List Seen) (g : ℕ) → AreRowsByEdge d span by_edge → IsWithin span g → (seen_of span by_edge g).count ≡ 2
+pub count_told : (d : ShellRows) (span : Span) (by_edge : List Seen) (g : ℕ) → AreRowsByEdge d span by_edge → IsWithin span g
+    → (seen_of span by_edge g).count ≡ 2
     → HasTwoRows d g
 count_told d span by_edge g told within two =
     places_two d g (sym (count_places (places_of g 0 d.rows)) ∙ (ap (λ (s : Seen). s.count) (sym (told g within)) ∙ two))

@@ -8,9 +8,9 @@ ghost use Rattle.repair_commands.specs.Request.{request_of};
 ghost use Rattle.repair_commands.specs.Due.{DueOf, OfLines};
 ghost use Rattle.repair_commands.specs.Outcome.{Finishes, IsComplete, IsOwed, Outcome};
 
-use crate::request::{Request, LineCommand};
 use crate::reorienting::reorient_solid;
 use crate::replies::{bytes_reply, usage_reply};
+use crate::request::{LineCommand, Request};
 use crate::words::Words;
 use command_replies::{Answer, Reply, Stop, bytes_in, file_in};
 use iges_base::FILE_LIMIT;

@@ -6,8 +6,8 @@ ghost use Rattle.repair_commands.specs.Due.{OfLines, IsLaid, OfLayout, OfNoLayou
 ghost use Rattle.repair_commands.specs.Texts.{bad_layout_line, changes_text, in_layout_line};
 ghost use Rattle.std.specs.Prelude.{◌≡◌, ◌≤◌, IfOk, MatchResult, length};
 
-use crate::request::LineCommand;
 use crate::report::{put_bad_layout, put_changes};
+use crate::request::LineCommand;
 use command_replies::{Answer, Reply, too_large};
 use iges_base::{Bytes, FILE_LIMIT, NoMemory, Out};
 use line_layout::{LayoutFault, RelaidFault, relaid};

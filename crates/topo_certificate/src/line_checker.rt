@@ -1,6 +1,6 @@
 //! A checker of lines that are given whole.
 
-use cert_lines::{Illegal, Judged, ShellCounts, Version, ParsedLine, judge};
+use cert_lines::{Illegal, Judged, ParsedLine, ShellCounts, Version, judge};
 use cert_state::{ShellState, limit_of, loop_count};
 use edge_uses::rows;
 use iges_base::{EntryNo, NoMemory};
