@@ -1,7 +1,6 @@
 /**
  * What a page shows of a solid: the faults that `igesolid-where` reports, and the solid's picture.
  */
-import { hintsOf } from "./hints.js";
 import { markedOf } from "./marked.js";
 import { Picture } from "./picture.js";
 import { IgesFile, Unreadable } from "./records.js";
@@ -147,6 +146,12 @@ function ruleOf(rule, first, picture, answer) {
   return { name, head: rule.text, sentence: rule.sentence, faults, more };
 }
 
+/** The hints of the text. */
+function hintsOf(answer) {
+  return answer.hints
+    .map(it => ({ head: it.text.slice(it.text.indexOf(" ") + 1), sentence: it.sentence }));
+}
+
 function fewLines(text) {
   const lines = text.split("\n");
   if (lines.length <= MOST_LINES) return text;
@@ -189,14 +194,10 @@ export function sceneOf(title, number, text, bytes) {
   const answer = answerOf(text), notes = [];
   const { solid = null, excerpt } = readFile(bytes, number, answer, notes);
   const picture = solid ? new Picture(solid) : null;
-  const hints = hintsOf(answer, solid).map(hint => ({
-    ...hint, faces: picture ? hint.faces.map((face, k) => [picture.faces.get(face), k]) : [],
-  }));
-  for (const [face] of hints.flatMap(it => it.faces)) face.facts = factsOf(answer, face.entity);
   const { flag, unit } = answer.units ? answer.units.told : { flag: "-", unit: "-" };
   return {
     title, verdict: answer.verdict.text, kind: answer.verdict.word, says: summaryOf(answer), notes,
-    rules: rulesOf(answer, picture), hints, excerpt, picture, shells: shellsOf(answer, solid),
-    text: fewLines(text), unit: UNITS[flag] || (unit === "-" ? "" : unit),
+    rules: rulesOf(answer, picture), hints: hintsOf(answer), excerpt, picture,
+    shells: shellsOf(answer, solid), text: fewLines(text), unit: UNITS[flag] || (unit === "-" ? "" : unit),
   };
 }

@@ -14,7 +14,7 @@ const named = parts => Object.entries(parts)
   .map(([word, shape]) => `${word} (?<${word.replace("-", "_")}>${shape})`).join(" ");
 
 const EDGE = `edge (?<list>${N}) (?<index>${N})`, CURVE = `curve (?<curve>${N}) (?<type>${T})`;
-const FACE = `face (?<face>${N}) (?<type>${T})`;
+const SURFACE = `(?<face>${N}) (?<type>${T})`, FACE = `face ${SURFACE}`;
 const VERTEX = `(?<list>${N}) (?<index>${N}) (?<at>\\S+ \\S+ \\S+)`;
 const USE = `${FACE} ${named({ loop: N, tuple: N })}`;
 const COUNTS = {
@@ -28,11 +28,11 @@ const HEADS = {
   closed: `closed (?<solid>${N})`,
   fail: `fail (?<rule>${RECORD_RULES}|${SHELL_RULES}) (?<entity>-?${N}) (?<place>${N})`,
   bad: `bad file line (?<line>${N}) (?<reason>[a-z-]+)`,
+  line: `line ${N} bytes ${N} end (?:lf|crlf|cr|none)`,
   units: `units (?<flag>${WORD}) (?<unit>.*)`,
   shells: named({ shells: N, failing: N }),
   shell: named({ shell: N, ...COUNTS }),
-  hint: `hint (?<hint>face-flags) ${named({ faces: N })}|hint (?<list>solids)(?<solids>(?: ${N})+)`
-    + "|hint (?<none>no-solid)",
+  hint: `hint (?<hint>[a-z-]+)(?: [a-z0-9-]+)*`,
   rule: `rule (?<record_rule>${RECORD_RULES}) faults 1|rule (?<rule>${SHELL_RULES}) `
     + `${named({ shell: N, faults: N })}(?: once ${N} same-way ${N} many ${N}| parts ${N})?`,
   item: `item (?<entity>-?${N}) (?<place>${N})`,
@@ -49,6 +49,7 @@ const FACTS = {
     + `|why (?:zero|negative|even|beyond|null)|entry ${N} ${T} form -?${N}|values ${N}`
     + `|first ${N} item ${N}|list ${N} ${T} items ${N}`
     + `|in (?:solid ${N}|(?:shell|face|loop) ${N} item ${N})`,
+  line: `hex(?: [0-9a-f]{2})+|column ${N}|text .*|mark  *\\^+`,
   gap: `${FACE}|(?<which>this|next) tuple (?<tuple>${N}) (?:${EDGE} flag (?<flag>[01]) ${CURVE}`
     + `|vertex ${N} ${N})|(?:ends|starts) (?<vertex>${VERTEX})`,
   edge: `${CURVE}|(?:start|end) (?<vertex>${VERTEX})`
@@ -56,7 +57,8 @@ const FACTS = {
   part: `(?:at|(?<touches>touches)) (?<vertex>${VERTEX})|${FACE}|more ${N}`,
   vertex: `fan (?<fan>${N}) ${USE} ${EDGE} to ${N} ${N} ${WORD} ${WORD} ${WORD}`
     + `|(?<point>point) ${FACE} loop ${N}|in shell (?<shell>${N}) ${FACE}|more ${N}`,
-  entity: `level -?${N}|colour -?${N}.*|matrix -?${N}|label .*|subscript -?${N}|name .*`,
+  entity: `level -?${N}|colour -?${N}.*|matrix -?${N}`
+    + `|label .*|subscript -?${N}|name .*|more ${N}`,
 };
 
 /** A shape of lines. A name may stand in several of its alternatives: each gets a number. */
@@ -123,7 +125,7 @@ function paragraphs(lines) {
   return found;
 }
 
-/** Puts a paragraph to its place in an answer. */
+/** Puts a paragraph to its place in an answer; an item to the rule before it. */
 function take(answer, it) {
   const rule = answer.rules[answer.rules.length - 1];
   if (it.word === "units" || it.word === "shells") answer[it.word] = it;
@@ -153,8 +155,8 @@ export function answerOf(text) {
   return answer;
 }
 
-/** What the text says of an entity: level, colour, label, names. */
+/** What the text says of an entity: level, colour, label, names; not its lines in the file. */
 export function factsOf(answer, entity) {
   const found = answer.entities.get(entity);
-  return found ? found.facts.map(it => it.text) : [];
+  return found ? found.facts.map(it => it.text).filter(it => !it.startsWith("lines ")) : [];
 }

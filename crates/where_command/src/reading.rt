@@ -2,7 +2,9 @@
 
 ghost use Rattle.iges_base.specs.declared.TheConstants.{FILE_LIMIT};
 ghost use Rattle.iges_io.specs.Reading.{TakesAtMost};
+ghost use Rattle.iges_lines.specs.Gives.{IfBad};
 ghost use Rattle.iges_params.specs.IsFile.{IsFile};
+ghost use Rattle.iges_params.specs.Refusal.{Refusal};
 ghost use Rattle.command_replies.specs.Outcome.{ReadsWhole};
 ghost use Rattle.command_replies.specs.Replies.{CountAfterCall, IsFileTold, IsReply, TakesWithin};
 ghost use Rattle.std.specs.Io.KnownBytes.{IsAtEnd};
@@ -12,23 +14,37 @@ ghost use Rattle.where_command.specs.Due.{OfNoFile, bad_file_text};
 use command_replies::{Answer, Reply, Stop, bad_file, bytes_in};
 use iges_fields::{FILE_LIMIT, NoMemory, Out};
 use iges_io::Source;
-use iges_lines::LineFault;
-use iges_params::{File, ReadFileFault, read_file};
+use iges_lines::{LineFault, sections};
+use iges_params::{File, ReadFileFault, take_sections};
 use std::alloc::Global;
+use where_file::put_bad_file;
 use where_text::put_reason_sentence;
 
-fn bad_file_reply(alloc: Global, fault: LineFault) -> Result<Reply, NoMemory>
+fn bad_file_reply(alloc: Global, bytes: &[u8], fault: LineFault) -> Result<Reply, NoMemory>
     ensures { IfOk result (λ reply. (reply.answer ≡ Answer.BadFile)
-        × (reply.text ≡ bad_file_text fault)) }
+        × (reply.text ≡ bad_file_text bytes.now fault)) }
 {
     let line = bad_file(alloc, fault)?;
     let mut out = Out::new(alloc);
     out.put(line.text.as_slice())?;
     put_reason_sentence(&mut out, fault.reason)?;
+    put_bad_file(&mut out, bytes, fault)?;
     Ok(Reply {
         answer: Answer::BadFile,
         text: out.into_bytes(),
     })
+}
+
+// The file of the bytes. The lines of its directory aren't kept while its records are read.
+fn read_lines(alloc: Global, bytes: &[u8]) -> Result<File, ReadFileFault>
+    requires { length bytes.now ≤ FILE_LIMIT }
+    ensures found { IfOk result (IsFile bytes.now) }
+    ensures fault { IfBad result (Refusal bytes.now) }
+{
+    match sections(alloc, bytes) {
+        Ok(lines) => take_sections(alloc, lines),
+        Err(fault) => Err(fault),
+    }
 }
 
 fn file_of(alloc: Global, bytes: &[u8]) -> Result<Result<File, Reply>, NoMemory>
@@ -38,9 +54,9 @@ fn file_of(alloc: Global, bytes: &[u8]) -> Result<Result<File, Reply>, NoMemory>
     ensures bad { IfOk result (λ r. MatchResult r (λ _. Unit {0})
         (λ reply. reply.answer ≡ Answer.BadFile)) }
 {
-    match read_file(alloc, bytes) {
+    match read_lines(alloc, bytes) {
         Ok(file) => Ok(Ok(file)),
-        Err(ReadFileFault::Bad(fault)) => Ok(Err(bad_file_reply(alloc, fault)?)),
+        Err(ReadFileFault::Bad(fault)) => Ok(Err(bad_file_reply(alloc, bytes, fault)?)),
         Err(ReadFileFault::NoMemory) => Err(NoMemory),
     }
 }

@@ -1,7 +1,7 @@
 pub mod AllFaults
 pub mod Lines
 pub mod Hints
-pub mod Listed
 pub mod ShellTexts
 pub mod Told
 pub mod Overview
+pub mod Recalled

@@ -3,14 +3,15 @@
 ghost use Rattle.iges_base.specs.declared.entry_no.EntryNo.{EntryNo as AnyEntryNo};
 ghost use Rattle.solid_verdict.specs.Closed.{IsVerdictOn};
 ghost use Rattle.solid_data.specs.declared.verdict.Verdict.{Verdict as AnyVerdict};
-ghost use Rattle.std.specs.Prelude.{◌≡◌, ◌++◌, ◌&&◌, ◌==◌, nat_lt, List, IfOk, OnOk, count_by, flat_map, length, zip};
-ghost use Rattle.where_solids.specs.Overview.{AreVerdicts, IsOverview, all_close, fails, overview_start, solid_paragraph, verdict_words};
+ghost use Rattle.std.specs.Prelude.{◌≡◌, ◌++◌, ◌&&◌, ◌==◌, nat_lt, List, IfOk, IfSome, OnOk, Some, count_by, flat_map, length, slice_get, zip, ℕ};
+ghost use Rattle.where_solids.specs.Overview.{AreVerdicts, IsOverview, all_close, fails, overview_end, overview_start, solid_paragraph, verdict_words};
+ghost use Rattle.where_unjudged.specs.Unjudged.{unjudged_text};
 ghost use Rattle.where_text.specs.Spelled.{space_word};
 
 use crate::all_faults::all_faults;
 use crate::hints::put_no_solid;
 use crate::lines::{put_count, put_failing};
-use crate::listed::solids;
+use crate::recalling::{Judged, LastNaming, lone_shell, recalled};
 use crate::verdicts::verdict;
 use brep_walk::{WalkFault, Walker};
 use iges_fields::{Bytes, EntryNo, ItemList, NoMemory, Out};
@@ -19,6 +20,7 @@ use solid_data::Verdict;
 use std::alloc::Global;
 use where_entities::put_entity_facts;
 use where_text::{EntryNumbers, put_number};
+use where_unjudged::{put_unjudged, solids};
 
 /// Whether there are solids and all are closed, and a text that speaks of each.
 #[derive(Drop)]
@@ -40,13 +42,53 @@ fn verdict_on(alloc: Global, walker: &mut Walker<'_>, no: EntryNo) -> Result<Ver
     Ok(verdict(&solid, &all))
 }
 
+// The verdict on a solid that an earlier one with the same only shell has, where there is one.
+fn earlier_verdict(last: &mut LastNaming, judged: &Judged<'_>, no: EntryNo) -> Option<Verdict>
+    requires { (j : ℕ) (n : AnyEntryNo) (v : AnyVerdict)
+        → slice_get judged.now.solids.now j ≡ Some n → slice_get judged.now.verdicts.now j ≡ Some v
+        → IsVerdictOn judged.now.file.now n.0 v }
+    ensures { IfSome result (IsVerdictOn judged.now.file.now no.0) }
+{
+    let shell = lone_shell(judged.file, no)?;
+    let place = last.replace(judged.file, shell, judged.verdicts.len())?;
+    recalled(judged, place, no, shell)
+}
+
+// The verdict on the next solid. Of solids that name the same shell alone, with the same flag, only one is walked and judged.
+fn next_verdict(
+    alloc: Global,
+    walker: &mut Walker<'_>,
+    last: &mut LastNaming,
+    judged: &Judged<'_>,
+    no: EntryNo,
+) -> Result<Verdict, NoMemory>
+    requires file { walker.old ≡ judged.now.file.now }
+    requires judged { (j : ℕ) (n : AnyEntryNo) (v : AnyVerdict)
+        → slice_get judged.now.solids.now j ≡ Some n → slice_get judged.now.verdicts.now j ≡ Some v
+        → IsVerdictOn judged.now.file.now n.0 v }
+    ensures file { walker.new ≡ walker.old }
+    ensures verdict { IfOk result (IsVerdictOn walker.old no.0) }
+{
+    match earlier_verdict(last, judged, no) {
+        Some(verdict) => Ok(verdict),
+        None => verdict_on(alloc, walker, no),
+    }
+}
+
 fn verdicts(alloc: Global, file: &File, solids: &[EntryNo]) -> Result<ItemList<Verdict>, NoMemory>
     ensures { IfOk result (AreVerdicts file.now solids.now) }
 {
     let mut walker = Walker::new(alloc, file);
+    let mut last = LastNaming::new(alloc, file.entry_count())?;
     let mut verdicts = ItemList::with_room(alloc, solids.len())?;
     'solids: for i in 0..solids.len() {
-        verdicts.push(verdict_on(alloc, &mut walker, solids[i])?)?;
+        let judged = Judged {
+            file,
+            solids,
+            verdicts: verdicts.as_slice(),
+        };
+        let verdict = next_verdict(alloc, &mut walker, &mut last, &judged, solids[i])?;
+        verdicts.push(verdict)?;
     }
     Ok(verdicts)
 }
@@ -72,20 +114,35 @@ fn failing_count(verdicts: &[Verdict]) -> usize
     count
 }
 
-// The line of the counts; where there is no solid, also the hint on that.
+// The line of the counts.
 #[tactic(auto, unfolding(crate::specs::Overview::overview_start))]
 fn put_start(out: &mut Out, solids: usize, failing: usize) -> Result<(), NoMemory>
     ensures { (vs : List AnyVerdict) → length vs ≡ solids → count_by fails vs ≡ failing
         → OnOk result (out.new ≡ out.old ++ overview_start vs) }
 {
-    if solids == 0 {
-        out.put(b"solids 0 failing 0\n")?;
-        return put_no_solid(out);
-    }
     out.put(b"solids")?;
     put_number(out, solids as u64)?;
     put_count(out, "failing", failing)?;
     out.put(b"\n")
+}
+
+// That there is no solid, where there is none.
+#[tactic(auto, unfolding(crate::specs::Overview::overview_end))]
+fn put_end(out: &mut Out, solids: usize) -> Result<(), NoMemory>
+    ensures { OnOk result (out.new ≡ out.old ++ overview_end solids) }
+{
+    if solids == 0 {
+        return put_no_solid(out);
+    }
+    Ok(())
+}
+
+// What follows the solids, of which there are so many.
+fn put_rest(alloc: Global, out: &mut Out, file: &File, solids: usize) -> Result<(), NoMemory>
+    ensures { OnOk result (out.new ≡ out.old ++ (unjudged_text file.now ++ overview_end solids)) }
+{
+    put_unjudged(alloc, out, file)?;
+    put_end(out, solids)
 }
 
 fn put_verdict_words(out: &mut Out, verdict: Verdict) -> Result<(), NoMemory>
@@ -142,7 +199,8 @@ fn text_of(
     requires each { length verdicts.now ≡ length solids.now }
     requires failing { failing ≡ count_by fails verdicts.now }
     ensures { IfOk result (λ text. text ≡ overview_start verdicts.now
-        ++ flat_map (solid_paragraph file.now) (zip solids.now verdicts.now)) }
+        ++ flat_map (solid_paragraph file.now) (zip solids.now verdicts.now)
+        ++ (unjudged_text file.now ++ overview_end (length solids.now))) }
 {
     let mut out = Out::new(alloc);
     put_start(&mut out, solids.len(), failing)?;
@@ -153,6 +211,7 @@ fn text_of(
         solids.as_slice(),
         verdicts.as_slice(),
     )?;
+    put_rest(alloc, &mut out, file, solids.len())?;
     Ok(out.into_bytes())
 }
 
@@ -163,7 +222,8 @@ fn all_closed(solids: usize, failing: usize) -> bool
 }
 
 /// Says of each solid of a file, in directory order, whether it is closed, or the first rule that fails. It errs only
-/// where memory runs out. Each solid's records are walked once.
+/// where memory runs out. What stands beside the solids is told too. Each solid's records are walked once, and not at all
+/// where an earlier solid names the same shell alone.
 pub fn tell_all(alloc: Global, file: &File) -> Result<Overview, NoMemory>
     ensures { IfOk result (λ told. (vs : List AnyVerdict) × IsOverview file.now vs told.text
         × (told.all_closed ≡ all_close vs)) }

@@ -1,0 +1,5 @@
+pub mod Marks
+pub mod Counted
+pub mod Entities
+pub mod Told
+pub mod Numbers
