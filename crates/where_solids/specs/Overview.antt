@@ -40,7 +40,7 @@ overview_end solids = if solids == 0 then no_solid_hint else []
 
 -- the solids, then what stands beside them
 unfoldable pub overview_text : Contents → List Verdict → List ℕ
-overview_text f vs = overview_start vs ++ flat_map (solid_paragraph f) (zip (solids_of f) vs) ++ unjudged_text f ++ overview_end (length (solids_of f))
+overview_text f vs = overview_start vs ++ flat_map (solid_paragraph f) (zip (solids_of f) vs) ++ (unjudged_text f ++ overview_end (length (solids_of f)))
 
 -- there are solids, and all are closed
 abbrev pub all_close : List Verdict → Bool
