@@ -10,8 +10,8 @@ use Rattle.edge_uses.specs.ShellRows.{ShellRows}
 use Rattle.edge_uses.specs.RowRelations.{IsPaired}
 use Rattle.cert_lines.specs.Line.{CertLine, shell, end}
 use Rattle.cert_lines.specs.declared.version.Version.{Version}
-use Rattle.cert_state.specs.Stand.{Stand, stand_from_latest, NoneDue, edge_of, vertex_of, is_shell, is_edge, is_corner_or_point, number_of, since_shell}
-use Rattle.cert_state.specs.Stand.{rows_of_shell, current_rows, row_named, row_start, point_named, FitsLine, is_last}
+use Rattle.cert_state.specs.Progress.{Progress, progress_from_latest, NoneDue, edge_of, vertex_of, is_shell, is_edge, is_corner_or_point, number_of, since_shell}
+use Rattle.cert_state.specs.Progress.{rows_of_shell, current_rows, row_named, row_start, point_named, FitsLine, is_last}
 use Rattle.cert_state.specs.declared.due.Due.{Due}
 use Rattle.topo_certificate.specs.After.{IsLegalAfter}
 use Rattle.cert_state.proofs.Segment.{falls_none}
@@ -25,7 +25,7 @@ pub record LeadOn (s : SolidData) (lines : List CertLine) (d : ShellRows) : Type
   pub vertices : Leads d.vertices (filter_map (vertex_of d) (since_shell lines))
   pub paired : (e : ℕ) → Has d.edges e → IsPaired d e
 
-going_not_ended : (b : Stand) → b.ended ≡ false → b.ended ≡ true → ⊥
+going_not_ended : (b : Progress) → b.ended ≡ false → b.ended ≡ true → ⊥
 going_not_ended b going ended = true_false (sym ended ∙ going)
   where
     true_false : true ≡ false → ⊥
@@ -49,8 +49,8 @@ begun_point s (suc k) face l v h = (k, refl)
 
 module _ (version : Version) (s : SolidData) (good : Good s) where
   -- Where nothing is due, all have come.
-  all_came : (lines : List CertLine) (d : ShellRows) → Facts version s lines d → NoneDue (stand_from_latest version s lines).due → LeadOn s lines d
-  unfolding stand_from_latest
+  all_came : (lines : List CertLine) (d : ShellRows) → Facts version s lines d → NoneDue (progress_from_latest version s lines).due → LeadOn s lines d
+  unfolding progress_from_latest
   all_came lines d facts none =
       let edges : length d.edges - number_of is_edge (since_shell lines) ≡ 0 =
       sym (ap (λ (a : Due). a.edges - number_of is_edge (since_shell lines)) facts.asks) ∙ none.edges in
@@ -92,32 +92,32 @@ module _ (version : Version) (s : SolidData) (good : Good s) where
 
   -- the next line begins a shell, ends the certificate, or goes on
   lead_over : (before : List CertLine) (k : ℕ) → number_of is_shell before ≡ suc k → AllFit version s before → (line : CertLine)
-      → FitsLine s (stand_from_latest version s before) line
+      → FitsLine s (progress_from_latest version s before) line
       → (is_shell line ≡ false → is_last line ≡ false → LeadOn s (line ∷ before) (current_rows s (line ∷ before))) → LeadOn s before (current_rows s before)
   lead_over before k number fit line fits later = by_tests (is_shell line) (is_last line) refl refl
     where
-      done : NoneDue (stand_from_latest version s before).due → LeadOn s before (current_rows s before)
+      done : NoneDue (progress_from_latest version s before).due → LeadOn s before (current_rows s before)
       done none = all_came before (current_rows s before) (facts_of version s good before k number fit) none
 
       by_tests : (a b : Bool) → is_shell line ≡ a → is_last line ≡ b → LeadOn s before (current_rows s before)
       by_tests true b e f =
           let begun = shell_line line e in
-          let here : FitsLine s (stand_from_latest version s before) (shell begun.0 begun.1) = subst (FitsLine s (stand_from_latest version s before)) begun.2
+          let here : FitsLine s (progress_from_latest version s before) (shell begun.0 begun.1) = subst (FitsLine s (progress_from_latest version s before)) begun.2
           fits in
           done here.1.0
       by_tests false true e f =
-          let here : FitsLine s (stand_from_latest version s before) end = subst (FitsLine s (stand_from_latest version s before)) (end_line line f) fits in
+          let here : FitsLine s (progress_from_latest version s before) end = subst (FitsLine s (progress_from_latest version s before)) (end_line line f) fits in
           done here.1.0
       by_tests false false e f = before_line line before e (later e f)
 
-  still_going : (line : CertLine) (before : List CertLine) → is_last line ≡ false → (stand_from_latest version s before).ended ≡ false
-      → (stand_from_latest version s (line ∷ before)).ended ≡ false
-  unfolding stand_from_latest
+  still_going : (line : CertLine) (before : List CertLine) → is_last line ≡ false → (progress_from_latest version s before).ended ≡ false
+      → (progress_from_latest version s (line ∷ before)).ended ≡ false
+  unfolding progress_from_latest
   still_going line before f going = ap (λ b. b || list_any is_last before) f ∙ going
 
   pub lead_on : (before : List CertLine) (k : ℕ) → number_of is_shell before ≡ suc k → AllFit version s before → (lines : List (List ℕ))
-      → IsLegalAfter version s before lines → (stand_from_latest version s before).ended ≡ false → LeadOn s before (current_rows s before)
-  lead_on before k number fit [] ended going = absurd (going_not_ended (stand_from_latest version s before) going ended)
+      → IsLegalAfter version s before lines → (progress_from_latest version s before).ended ≡ false → LeadOn s before (current_rows s before)
+  lead_on before k number fit [] ended going = absurd (going_not_ended (progress_from_latest version s before) going ended)
   lead_on before k number fit (bytes ∷ lines) (line, is, fits, more) going =
       lead_over before k number fit line fits
       (λ e f. lead_on (line ∷ before) k (number_same is_shell line before e ∙ number) (fits, fit) lines more (still_going line before f going))

@@ -10,7 +10,7 @@ use Rattle.cert_lines.specs.Line.{CertLine, end, spelling, IsLine, line_limit}
 use Rattle.cert_lines.specs.declared.version.Version.TheVariants.{Two}
 use Rattle.cert_text.specs.declared.fault.Illegal.{Illegal}
 use Rattle.topo_certificate.specs.Legal.{IsLegal, IsPartBad}
-use Rattle.topo_certificate.specs.Feeding.{FedKept}
+use Rattle.topo_certificate.specs.Feeding.{FedState}
 use Rattle.topo_certificate.specs.PartEnds.{EndsPart}
 use Rattle.topo_certificate.proofs.Forward.{fitting_more}
 use Rattle.cert_accept.specs.Accepted.{Part, part_lines, solids_named}
@@ -25,7 +25,7 @@ zip_length limit [] (l ∷ read) h = absurd h
 zip_length limit (x ∷ lines) [] h = absurd h
 zip_length limit (x ∷ lines) (l ∷ read) h = let more = zip_length limit lines read h.1 in omega (arith, more)
 
-module _ (f : Contents) (n number : ℕ) (text : List ℕ) (m line : ℕ) (c : FedKept) (ends : EndsPart Two (solid_of f n) number text m line c) where
+module _ (f : Contents) (n number : ℕ) (text : List ℕ) (m line : ℕ) (c : FedState) (ends : EndsPart Two (solid_of f n) number text m line c) where
   -- what stands in front of the line that begins the next part is legal with END in its place
   pub ends_legal : IsLegal Two (solid_of f n) (ends.good ++ spelling end ∷ [])
   ends_legal = record {

@@ -13,7 +13,7 @@ use Rattle.solid_data.proofs.ObligationsDecided.{all_or_first_false}
 use Rattle.edge_uses.proofs.Above.{rises}
 use Rattle.edge_uses.proofs.Whole.{rising}
 use Rattle.cert_lines.specs.Line.{CertLine, head, solid, end, spelling, IsSpelled, IsLine, first_limit}
-use Rattle.cert_lines.specs.Opening.{Opens, IsHeaded, IsHead, IsWrong, IsSecondWrong, IsFirstWrong, IsBadOpening}
+use Rattle.cert_lines.specs.Opening.{Opens, IsHeaded, IsHeadLine, IsWrong, IsSecondWrong, IsFirstWrong, IsBadOpening}
 use Rattle.cert_lines.specs.declared.version.Version.TheVariants.{Two, Three}
 use Rattle.cert_text.specs.declared.fault.Illegal.{Illegal}
 use Rattle.cert_lines.proofs.Decided.{openings_are_decided}
@@ -279,7 +279,7 @@ read_on (suc fuel) f lines before n first rest lt r =
 
 -- Line 2 names a solid, or it is bad.
 
-head_wrong : (bytes : List ℕ) (bad : Illegal) → IsLine first_limit bytes (head Three) → IsWrong IsHead 1 bytes bad → ⊥
+head_wrong : (bytes : List ℕ) (bad : Illegal) → IsLine first_limit bytes (head Three) → IsWrong IsHeadLine 1 bytes bad → ⊥
 head_wrong bytes bad is (inl misspelt) = misspelt.0.none (head Three) is.1
 head_wrong bytes bad is (inr (inl long, e)) = absurd (omega (arith, long.0, is.0))
 head_wrong bytes bad is (inr (inr (line, is_line, other), e)) = other (Three, line_one bytes line (head Three) is_line.1 is.1)

@@ -25,7 +25,7 @@ use Rattle.edge_uses.proofs.Adding.{rows_shorter}
 use Rattle.edge_uses.proofs.Few.{part_shorter}
 use Rattle.topo_certificate.proofs.Build.{found_point}
 use Rattle.cert_state.proofs.Short.{IsSmall, length-spaced}
-use Rattle.cert_state.specs.Stand.{loops_of}
+use Rattle.cert_state.specs.Progress.{loops_of}
 use Rattle.cert_state.proofs.UseSizes.{loops_placed}
 use Rattle.cert_lines.specs.declared.version.Version.{Version}
 use Rattle.cert_lines.specs.declared.version.Version.TheVariants.{Two}

@@ -16,16 +16,16 @@ use Rattle.edge_uses.specs.ShellRows.{ShellRows, row_of, loop_rows, point_of, sh
 use Rattle.cert_text.specs.Text.{spaced}
 use Rattle.cert_lines.specs.Line.{CertLine, head, solid, shell, edge, corner, point, reach, tally, end, spelling, HasSpelling, put_before, cut_lines}
 use Rattle.cert_lines.specs.declared.counts.ShellCounts.{ShellCounts}
-use Rattle.cert_lines.specs.declared.counts.Tally.{Tally}
+use Rattle.cert_lines.specs.declared.counts.TallyCounts.{TallyCounts}
 use Rattle.cert_lines.specs.declared.version.Version.{Version}
 use Rattle.cert_lines.specs.declared.version.Version.TheVariants.{One, Two, Three}
-use Rattle.cert_state.specs.Stand.{Stand, NoneDue, stand_from_latest, tallies, row_edge, rows_of_shell, IsAbove, FitsShell, FitsEdge, FitsCorner}
-use Rattle.cert_state.specs.Stand.{FitsPoint, FitsReach, FitsLine}
+use Rattle.cert_state.specs.Progress.{Progress, NoneDue, progress_from_latest, tallies, row_edge, rows_of_shell, IsAbove, FitsShell, FitsEdge, FitsCorner}
+use Rattle.cert_state.specs.Progress.{FitsPoint, FitsReach, FitsLine}
 use Rattle.topo_certificate.specs.Legal.{IsLegal}
 use Rattle.topo_certificate.specs.After.{IsLegalAfter}
 use Rattle.cert_state.proofs.Short.{length-spaced}
 use Rattle.topo_certificate.proofs.Forward.{legal_behind}
-use Rattle.cert_state.proofs.Standing.{edge_stand, corner_stand, point_stand, reach_stand, tally_stand, shell_stand, end_stand, first_stand}
+use Rattle.cert_state.proofs.Progressing.{edge_progress, corner_progress, point_progress, reach_progress, tally_progress, shell_progress, end_progress, first_progress}
 
 -- ---- the bytes of a line
 
@@ -53,7 +53,7 @@ point_long face l h =
 reach_long : (r : ℕ) → HasSpelling (reach r) → length (spelling (reach r)) ≤ 12
 reach_long r h = omega (arith, length-append (spaced (r ∷ [])) (10 ∷ []), length-spaced (r ∷ []) (h, tt))
 
-tally_long : (t : Tally) → HasSpelling (tally t) → length (spelling (tally t)) ≤ 46
+tally_long : (t : TallyCounts) → HasSpelling (tally t) → length (spelling (tally t)) ≤ 46
 tally_long t h =
     let ns : List ℕ = t.vertices ∷ t.edges ∷ t.faces ∷ t.loops ∷ [] in
     omega (arith, length-append (spaced ns) (10 ∷ []), length-spaced ns h)
@@ -109,23 +109,23 @@ corners_room d last = 12 * above row_start_of last d.rows + 22 * above point_ver
 abbrev end_room : Bool → ℕ
 end_room ended = cond ended 0 4
 
--- the most bytes of the lines that may come at this stand
-abbrev stand_room : SolidData → Stand → ℕ
-stand_room s at = 22 * at.due.edges + corners_room (rows_of_shell s at.shell) at.last_vertex + 12 * at.due.reach + 46 * at.due.tally
+-- the most bytes of the lines that may come at this progress
+abbrev progress_room : SolidData → Progress → ℕ
+progress_room s at = 22 * at.due.edges + corners_room (rows_of_shell s at.shell) at.last_vertex + 12 * at.due.reach + 46 * at.due.tally
     + shells_room s (drop at.shell s.shells) + end_room at.ended
 
 abbrev Shortens : Version → SolidData → List CertLine → CertLine → Type 0
-Shortens v s lines line = length (spelling line) + stand_room s (stand_from_latest v s (line ∷ lines)) ≤ stand_room s (stand_from_latest v s lines)
+Shortens v s lines line = length (spelling line) + progress_room s (progress_from_latest v s (line ∷ lines)) ≤ progress_room s (progress_from_latest v s lines)
 
 tallies_one : (v : Version) → tallies v ≤ 1
 tallies_one One = omega arith
 tallies_one Two = omega arith
 tallies_one Three = omega arith
 
-shell_shortens : (v : Version) (s : SolidData) (lines : List CertLine) (k : ℕ) (c : ShellCounts) → NoneDue (stand_from_latest v s lines).due
-    × FitsShell s (stand_from_latest v s lines) k c → HasSpelling (shell k c) → Shortens v s lines (shell k c)
+shell_shortens : (v : Version) (s : SolidData) (lines : List CertLine) (k : ℕ) (c : ShellCounts) → NoneDue (progress_from_latest v s lines).due
+    × FitsShell s (progress_from_latest v s lines) k c → HasSpelling (shell k c) → Shortens v s lines (shell k c)
 shell_shortens v s lines k c fits spelled =
-    let at : Stand = stand_from_latest v s lines in
+    let at : Progress = progress_from_latest v s lines in
     let next : k ≡ at.shell + 1 = fits.1.next in
     let here = get_some s.shells at.shell (omega (arith, next, fits.1.there)) in
     let d : ShellRows = shell_rows s here.0 in
@@ -134,7 +134,7 @@ shell_shortens v s lines k c fits spelled =
     let faces : c.faces ≡ d.face_count = fits.1.faces_counted ∙ ap (λ (x : ShellRows). x.face_count) is in
     let now : corners_room (rows_of_shell s (at.shell + 1)) None ≡ corners_room d None =
     ap (λ (x : ShellRows). corners_room x None) (ap (rows_of_shell s) (sym next) ∙ is) in
-    let after = ap (stand_room s) (shell_stand v s lines k c) in
+    let after = ap (progress_room s) (shell_progress v s lines k c) in
     let left = ap (shells_room s) (split_at s.shells at.shell here.0 here.1) in
     omega (
       arith,
@@ -151,20 +151,20 @@ shell_shortens v s lines k c fits spelled =
     )
 
 edge_shortens : (v : Version) (s : SolidData) (lines : List CertLine) (a b : ℕ)
-    → (let at : Stand = stand_from_latest v s lines in (0 < at.due.edges) × FitsEdge (rows_of_shell s at.shell) at a b) → HasSpelling (edge a b)
+    → (let at : Progress = progress_from_latest v s lines in (0 < at.due.edges) × FitsEdge (rows_of_shell s at.shell) at a b) → HasSpelling (edge a b)
     → Shortens v s lines (edge a b)
 edge_shortens v s lines a b fits spelled =
-    let at : Stand = stand_from_latest v s lines in
-    let after = ap (stand_room s) (edge_stand v s lines a b fits.1.along_row.edge.0 (ap row_edge fits.1.at_a)) in
+    let at : Progress = progress_from_latest v s lines in
+    let after = ap (progress_room s) (edge_progress v s lines a b fits.1.along_row.edge.0 (ap row_edge fits.1.at_a)) in
     omega (arith, after, fits.0, edge_long a b spelled)
 
 corner_shortens : (v : Version) (s : SolidData) (lines : List CertLine) (r : ℕ) (rs : List ℕ)
-    → (let at : Stand = stand_from_latest v s lines in FitsCorner (rows_of_shell s at.shell) at r rs) → HasSpelling (corner (r ∷ rs))
+    → (let at : Progress = progress_from_latest v s lines in FitsCorner (rows_of_shell s at.shell) at r rs) → HasSpelling (corner (r ∷ rs))
     → Shortens v s lines (corner (r ∷ rs))
 corner_shortens v s lines r rs fits spelled =
-    let at : Stand = stand_from_latest v s lines in
+    let at : Progress = progress_from_latest v s lines in
     let d : ShellRows = rows_of_shell s at.shell in
-    let after = ap (stand_room s) (corner_stand v s lines (r ∷ rs) fits.vertex fits.lies_at) in
+    let after = ap (progress_room s) (corner_progress v s lines (r ∷ rs) fits.vertex fits.lies_at) in
     omega (
       arith,
       after,
@@ -175,12 +175,12 @@ corner_shortens v s lines r rs fits spelled =
     )
 
 point_shortens : (v : Version) (s : SolidData) (lines : List CertLine) (face l : ℕ)
-    → (let at : Stand = stand_from_latest v s lines in FitsPoint (rows_of_shell s at.shell) at face l) → HasSpelling (point face l)
+    → (let at : Progress = progress_from_latest v s lines in FitsPoint (rows_of_shell s at.shell) at face l) → HasSpelling (point face l)
     → Shortens v s lines (point face l)
 point_shortens v s lines face l fits spelled =
-    let at : Stand = stand_from_latest v s lines in
+    let at : Progress = progress_from_latest v s lines in
     let d : ShellRows = rows_of_shell s at.shell in
-    let after = ap (stand_room s) (point_stand v s lines face l fits.vertex fits.lies_at) in
+    let after = ap (progress_room s) (point_progress v s lines face l fits.vertex fits.lies_at) in
     omega (
       arith,
       after,
@@ -191,26 +191,26 @@ point_shortens v s lines face l fits spelled =
     )
 
 reach_shortens : (v : Version) (s : SolidData) (lines : List CertLine) (r : ℕ)
-    → (let at : Stand = stand_from_latest v s lines in (0 < at.due.reach) × FitsReach (rows_of_shell s at.shell) at r) → HasSpelling (reach r)
+    → (let at : Progress = progress_from_latest v s lines in (0 < at.due.reach) × FitsReach (rows_of_shell s at.shell) at r) → HasSpelling (reach r)
     → Shortens v s lines (reach r)
 reach_shortens v s lines r fits spelled =
-    let after = ap (stand_room s) (reach_stand v s lines r fits.1.face fits.1.on_face) in
+    let after = ap (progress_room s) (reach_progress v s lines r fits.1.face fits.1.on_face) in
     omega (arith, after, fits.0, reach_long r spelled)
 
-tally_shortens : (v : Version) (s : SolidData) (lines : List CertLine) (t : Tally) → 0 < (stand_from_latest v s lines).due.tally → HasSpelling (tally t)
+tally_shortens : (v : Version) (s : SolidData) (lines : List CertLine) (t : TallyCounts) → 0 < (progress_from_latest v s lines).due.tally → HasSpelling (tally t)
     → Shortens v s lines (tally t)
 tally_shortens v s lines t due spelled =
-    let after = ap (stand_room s) (tally_stand v s lines t) in
+    let after = ap (progress_room s) (tally_progress v s lines t) in
     omega (arith, after, due, tally_long t spelled)
 
-end_shortens : (v : Version) (s : SolidData) (lines : List CertLine) → (stand_from_latest v s lines).ended ≡ false → Shortens v s lines end
+end_shortens : (v : Version) (s : SolidData) (lines : List CertLine) → (progress_from_latest v s lines).ended ≡ false → Shortens v s lines end
 end_shortens v s lines open_still =
-    let after = ap (stand_room s) (end_stand v s lines) in
+    let after = ap (progress_room s) (end_progress v s lines) in
     let four = ap end_room open_still in
     omega (arith, after, four)
 
 -- A line that fits takes no more bytes than those by which it shortens the lines that may come.
-line_shortens : (v : Version) (s : SolidData) (lines : List CertLine) (line : CertLine) → FitsLine s (stand_from_latest v s lines) line → HasSpelling line
+line_shortens : (v : Version) (s : SolidData) (lines : List CertLine) (line : CertLine) → FitsLine s (progress_from_latest v s lines) line → HasSpelling line
     → Shortens v s lines line
 line_shortens v s lines (head w) fits spelled = absurd fits.1
 line_shortens v s lines (solid n) fits spelled = absurd fits.1
@@ -229,7 +229,7 @@ abbrev pub lines_long : List (List ℕ) → ℕ
 lines_long lines = total (λ (l : List ℕ). length l) lines
 
 lines_within : (v : Version) (s : SolidData) (before : List CertLine) (lines : List (List ℕ)) → IsLegalAfter v s before lines
-    → lines_long lines ≤ stand_room s (stand_from_latest v s before)
+    → lines_long lines ≤ progress_room s (progress_from_latest v s before)
 lines_within v s before [] h = omega arith
 lines_within v s before (bytes ∷ rest) (line, is, fits, more) =
     let long : length bytes ≡ length (spelling line) = ap length is.1.1 in
@@ -238,7 +238,7 @@ lines_within v s before (bytes ∷ rest) (line, is, fits, more) =
 -- Legal lines take no more bytes than the shells may.
 pub legal_long : (v : Version) (s : SolidData) (lines : List (List ℕ)) → IsLegal v s lines → lines_long lines ≤ shells_room s s.shells + 4
 legal_long v s lines legal =
-    let first = ap (stand_room s) (first_stand v s) in
+    let first = ap (progress_room s) (first_progress v s) in
     omega (arith, first, lines_within v s [] lines (legal_behind v s lines legal))
 
 -- ---- all shells

@@ -3,7 +3,7 @@ use Rattle.std.specs.Prelude.{◌≡◌, ℕ, ◌<◌, ◌≤◌, ◌⊎◌, Lis
 use Rattle.std.specs.List.{cons_option}
 use Rattle.std.proofs.Common.{refl, sym, subst, arith, inl, inr, append_assoc}
 use Rattle.solid_data.proofs.Members.{Has, All-at, has_append, has_right}
-use Rattle.cert_state.specs.Stand.{IsAbove, first_of}
+use Rattle.cert_state.specs.Progress.{IsAbove, first_of}
 use Rattle.cert_state.proofs.Segment.{Falls}
 
 -- e is the least of these above the last

@@ -6,8 +6,8 @@ use Rattle.solid_data.specs.SolidData.{SolidData}
 use Rattle.edge_uses.specs.ShellRows.{ShellRows}
 use Rattle.cert_lines.specs.Line.{CertLine, reach}
 use Rattle.cert_lines.specs.declared.version.Version.{Version}
-use Rattle.cert_state.specs.Stand.{Stand, stand_from_latest, asked, mates_of, edge_of, vertex_of, first_of, is_shell, is_edge, is_corner_or_point}
-use Rattle.cert_state.specs.Stand.{is_reach, is_tally, is_last, number_of, since_shell, rows_of_shell, current_rows}
+use Rattle.cert_state.specs.Progress.{Progress, progress_from_latest, asked, mates_of, edge_of, vertex_of, first_of, is_shell, is_edge, is_corner_or_point}
+use Rattle.cert_state.specs.Progress.{is_reach, is_tally, is_last, number_of, since_shell, rows_of_shell, current_rows}
 use Rattle.cert_state.specs.declared.due.Due.{Due}
 use Rattle.topo_certificate.proofs.LineKinds.{plain, plain_or_reach, plainly, shell_line}
 
@@ -62,8 +62,8 @@ find_plain (l ∷ ls) = ap (λ b. cond b (Some (plain l)) (find is_shell (map pl
     by_test true e xs ys h = let begun = shell_line l e in ap (λ x. Some (plain x)) begun.2 ∙ ap (λ x. Some x) (sym begun.2)
     by_test false e xs ys h = h
 
--- a stand, but for the faces that are reached
-abbrev pub but_reached : Stand → Stand
+-- the progress, but for the faces that are reached
+abbrev pub but_reached : Progress → Progress
 but_reached at = record {
   ended = at.ended;
   shell = at.shell;
@@ -75,14 +75,14 @@ but_reached at = record {
       [];
 }
 
-abbrev stand_from : Bool → ℕ → ℕ → ℕ → ℕ → ℕ → List (ℕ × ℕ) → Option ℕ → Option ℕ → Stand
-stand_from b k e c r t ms le lv =
+abbrev progress_from : Bool → ℕ → ℕ → ℕ → ℕ → ℕ → List (ℕ × ℕ) → Option ℕ → Option ℕ → Progress
+progress_from b k e c r t ms le lv =
     record { ended = b; shell = k; due = record { edges = e; corners = c; reach = r; tally = t }; mates = ms; last_edge = le; last_vertex = lv; reached = [] }
 
-same_stand : (b b2 : Bool) (k k2 e e2 c c2 r r2 t t2 : ℕ) (ms ms2 : List (ℕ × ℕ)) (le le2 lv lv2 : Option ℕ) → b ≡ b2 → k ≡ k2 → e ≡ e2 → c ≡ c2 → r ≡ r2
+same_progress : (b b2 : Bool) (k k2 e e2 c c2 r r2 t t2 : ℕ) (ms ms2 : List (ℕ × ℕ)) (le le2 lv lv2 : Option ℕ) → b ≡ b2 → k ≡ k2 → e ≡ e2 → c ≡ c2 → r ≡ r2
     → t ≡ t2 → ms ≡ ms2 → le ≡ le2 → lv ≡ lv2
-    → stand_from b k e c r t ms le lv ≡ stand_from b2 k2 e2 c2 r2 t2 ms2 le2 lv2
-same_stand b b2 k k2 e e2 c c2 r r2 t t2 ms ms2 le le2 lv lv2 hb hk he hc hr ht hm hl hv = cc
+    → progress_from b k e c r t ms le lv ≡ progress_from b2 k2 e2 c2 r2 t2 ms2 le2 lv2
+same_progress b b2 k k2 e e2 c c2 r r2 t t2 ms ms2 le le2 lv lv2 hb hk he hc hr ht hm hl hv = cc
 
 since_number : (kind : CertLine → Bool) → ((r s : ℕ) → kind (reach r) ≡ kind (reach s)) → (ls : List CertLine) → number_of kind (since_shell (map plain ls))
     ≡ number_of kind (since_shell ls)
@@ -92,13 +92,13 @@ since_map : {A : Type 0} (f : CertLine → Option A) → ((r s : ℕ) → f (rea
     ≡ filter_map f (since_shell ls)
 since_map f alike ls = ap (filter_map f) (since_plain ls) ∙ filter_map_plain f alike (since_shell ls)
 
-stand_plain : (v : Version) (s : SolidData) (ls : List CertLine) → but_reached (stand_from_latest v s (map plain ls)) ≡ but_reached (stand_from_latest v s ls)
-unfolding stand_from_latest
-stand_plain v s ls =
+progress_plain : (v : Version) (s : SolidData) (ls : List CertLine) → but_reached (progress_from_latest v s (map plain ls)) ≡ but_reached (progress_from_latest v s ls)
+unfolding progress_from_latest
+progress_plain v s ls =
     let shells : number_of is_shell (map plain ls) ≡ number_of is_shell ls = number_plain is_shell (λ r t. refl) ls in
     let asks : asked v (find is_shell (map plain ls)) ≡ asked v (find is_shell ls) = ap (asked v) (find_plain ls) in
     let rows : current_rows s (map plain ls) ≡ current_rows s ls = ap (rows_of_shell s) shells in
-    same_stand _ _ _ _ _ _ _ _ _ _ _ _ _ _ _ _ _ _ (ended_plain ls) shells
+    same_progress _ _ _ _ _ _ _ _ _ _ _ _ _ _ _ _ _ _ (ended_plain ls) shells
     (ap (λ (a : Due). a.edges - number_of is_edge (since_shell (map plain ls))) asks ∙ ap (λ n. (asked v (find is_shell ls)).edges - n)
     (since_number is_edge (λ r t. refl) ls))
     (ap (λ (a : Due). a.corners - number_of is_corner_or_point (since_shell (map plain ls))) asks ∙ ap (λ n. (asked v (find is_shell ls)).corners - n)
@@ -115,5 +115,5 @@ stand_plain v s ls =
 
 -- Behind lines that are plainly the same the stands are the same, but for the faces that are reached.
 pub plain_stands : (v : Version) (s : SolidData) (xs ys : List CertLine) → map plain xs ≡ map plain ys
-    → but_reached (stand_from_latest v s xs) ≡ but_reached (stand_from_latest v s ys)
-plain_stands v s xs ys same = sym (stand_plain v s xs) ∙ (ap (λ ls. but_reached (stand_from_latest v s ls)) same ∙ stand_plain v s ys)
+    → but_reached (progress_from_latest v s xs) ≡ but_reached (progress_from_latest v s ys)
+plain_stands v s xs ys same = sym (progress_plain v s xs) ∙ (ap (λ ls. but_reached (progress_from_latest v s ls)) same ∙ progress_plain v s ys)

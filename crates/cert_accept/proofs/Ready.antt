@@ -21,7 +21,7 @@ use Rattle.shell_rules.specs.Closed.{IsClosedShell, IsClosedSolid}
 use Rattle.solid_data.proofs.Members.{all_append, from_flat_map, has_map, Has, All-at, has_get}
 use Rattle.solid_data.proofs.Occurring.{numbers_have}
 use Rattle.edge_uses.proofs.FollowRows.{each_is_followed}
-use Rattle.cert_state.specs.Stand.{rows_of_shell, loops_of, loops_of_shell}
+use Rattle.cert_state.specs.Progress.{rows_of_shell, loops_of, loops_of_shell}
 use Rattle.edge_uses.proofs.RowFacts.{edges_rise, vertices_rise}
 use Rattle.edge_uses.proofs.Turn.{PairedRows, are_turning}
 use Rattle.cert_state.proofs.Segment.{AreGoodRows, row_has}

@@ -8,8 +8,8 @@ use Rattle.edge_uses.specs.declared.row.Row.{Row}
 use Rattle.edge_uses.specs.ShellRows.{ShellRows}
 use Rattle.cert_lines.specs.Line.{CertLine, head, solid, shell, edge, corner, point, reach, tally, end, spelling, IsSpelled}
 use Rattle.cert_lines.specs.declared.version.Version.{Version}
-use Rattle.cert_state.specs.Stand.{Stand, stand_from_latest, FitsLine, edge_of, vertex_of, is_shell, number_of, since_shell, rows_of_shell, current_rows}
-use Rattle.cert_state.specs.Stand.{row_edge}
+use Rattle.cert_state.specs.Progress.{Progress, progress_from_latest, FitsLine, edge_of, vertex_of, is_shell, number_of, since_shell, rows_of_shell, current_rows}
+use Rattle.cert_state.specs.Progress.{row_edge}
 use Rattle.topo_certificate.specs.After.{IsLegalAfter}
 use Rattle.cert_state.proofs.Segment.{named_has, paired_rows, start_known, point_known}
 use Rattle.topo_certificate.proofs.Facts.{AllFit, Good}
@@ -21,15 +21,15 @@ use Rattle.cert_accept.proofs.Plain.{same_or_reach, but_reached, plain_stands}
 use Rattle.cert_accept.proofs.Sides.{EdgeSide, CornerSide, PointSide, edge_one, corner_one, point_one, corner_no_point, shell_one, tally_one}
 
 module _ (version : Version) (s : SolidData) (good : Good s) where
-  -- the rows of the shell that a stand is in
-  abbrev rows_at : Stand → ShellRows
+  -- the rows of the shell at hand
+  abbrev rows_at : Progress → ShellRows
   rows_at at = rows_of_shell s at.shell
 
   -- What an edge line, a corner line and a point line are, where they fit and legal lines follow.
-  edge_side : (before : List CertLine) (a b : ℕ) → AllFit version s before → FitsLine s (stand_from_latest version s before) (edge a b)
+  edge_side : (before : List CertLine) (a b : ℕ) → AllFit version s before → FitsLine s (progress_from_latest version s before) (edge a b)
       → (lines : List (List ℕ)) → IsLegalAfter version s (edge a b ∷ before) lines
-      → EdgeSide (rows_at (stand_from_latest version s before)) (stand_from_latest version s before).last_edge a b
-  unfolding stand_from_latest
+      → EdgeSide (rows_at (progress_from_latest version s before)) (progress_from_latest version s before).last_edge a b
+  unfolding progress_from_latest
   edge_side before a b fit fits lines legal =
       let d : ShellRows = current_rows s before in
       let h = fits.1.1 in
@@ -50,11 +50,11 @@ module _ (version : Version) (s : SolidData) (good : Good s) where
         paired = lead.paired h.along_row.edge.0 known;
       }
 
-  corner_side : (before : List CertLine) (r : ℕ) (rs : List ℕ) → AllFit version s before → FitsLine s (stand_from_latest version s before) (corner (r ∷ rs))
+  corner_side : (before : List CertLine) (r : ℕ) (rs : List ℕ) → AllFit version s before → FitsLine s (progress_from_latest version s before) (corner (r ∷ rs))
       → (lines : List (List ℕ)) → IsLegalAfter version s (corner (r ∷ rs) ∷ before) lines
-      → CornerSide (rows_at (stand_from_latest version s before)) (stand_from_latest version s before).mates (stand_from_latest version s before).last_vertex r
+      → CornerSide (rows_at (progress_from_latest version s before)) (progress_from_latest version s before).mates (progress_from_latest version s before).last_vertex r
       rs
-  unfolding stand_from_latest
+  unfolding progress_from_latest
   corner_side before r rs fit fits lines legal =
       let d : ShellRows = current_rows s before in
       let h = fits.1.1 in
@@ -75,10 +75,10 @@ module _ (version : Version) (s : SolidData) (good : Good s) where
         good = rows;
       }
 
-  point_side : (before : List CertLine) (face l : ℕ) → AllFit version s before → FitsLine s (stand_from_latest version s before) (point face l)
+  point_side : (before : List CertLine) (face l : ℕ) → AllFit version s before → FitsLine s (progress_from_latest version s before) (point face l)
       → (lines : List (List ℕ)) → IsLegalAfter version s (point face l ∷ before) lines
-      → PointSide (rows_at (stand_from_latest version s before)) (stand_from_latest version s before).last_vertex face l
-  unfolding stand_from_latest
+      → PointSide (rows_at (progress_from_latest version s before)) (progress_from_latest version s before).last_vertex face l
+  unfolding progress_from_latest
   point_side before face l fit fits lines legal =
       let d : ShellRows = current_rows s before in
       let h = fits.1.1 in
@@ -96,39 +96,39 @@ module _ (version : Version) (s : SolidData) (good : Good s) where
 
   -- behind lines that are plainly the same
   module _ (us ws : List CertLine) (fit_a : AllFit version s us) (fit_b : AllFit version s ws) (same : map plain us ≡ map plain ws) where
-    abbrev here : Stand
-    here = stand_from_latest version s us
+    abbrev here : Progress
+    here = progress_from_latest version s us
 
-    abbrev there : Stand
-    there = stand_from_latest version s ws
+    abbrev there : Progress
+    there = progress_from_latest version s ws
 
     stands : but_reached here ≡ but_reached there
     stands = plain_stands version s us ws same
 
     shells : here.shell ≡ there.shell
-    shells = ap (λ (t : Stand). t.shell) stands
+    shells = ap (λ (t : Progress). t.shell) stands
 
     edges : here.due.edges ≡ there.due.edges
-    edges = ap (λ (t : Stand). t.due.edges) stands
+    edges = ap (λ (t : Progress). t.due.edges) stands
 
     corners : here.due.corners ≡ there.due.corners
-    corners = ap (λ (t : Stand). t.due.corners) stands
+    corners = ap (λ (t : Progress). t.due.corners) stands
 
     reaches : here.due.reach ≡ there.due.reach
-    reaches = ap (λ (t : Stand). t.due.reach) stands
+    reaches = ap (λ (t : Progress). t.due.reach) stands
 
     tallies : here.due.tally ≡ there.due.tally
-    tallies = ap (λ (t : Stand). t.due.tally) stands
+    tallies = ap (λ (t : Progress). t.due.tally) stands
 
     edge_there : (a b : ℕ) → EdgeSide (rows_at there) there.last_edge a b → EdgeSide (rows_at here) here.last_edge a b
-    edge_there a b h = subst (λ (t : Stand). EdgeSide (rows_at t) t.last_edge a b) (sym stands) h
+    edge_there a b h = subst (λ (t : Progress). EdgeSide (rows_at t) t.last_edge a b) (sym stands) h
 
     corner_there : (r : ℕ) (rs : List ℕ) → CornerSide (rows_at there) there.mates there.last_vertex r rs
         → CornerSide (rows_at here) here.mates here.last_vertex r rs
-    corner_there r rs h = subst (λ (t : Stand). CornerSide (rows_at t) t.mates t.last_vertex r rs) (sym stands) h
+    corner_there r rs h = subst (λ (t : Progress). CornerSide (rows_at t) t.mates t.last_vertex r rs) (sym stands) h
 
     point_there : (face l : ℕ) → PointSide (rows_at there) there.last_vertex face l → PointSide (rows_at here) here.last_vertex face l
-    point_there face l h = subst (λ (t : Stand). PointSide (rows_at t) t.last_vertex face l) (sym stands) h
+    point_there face l h = subst (λ (t : Progress). PointSide (rows_at t) t.last_vertex face l) (sym stands) h
 
     -- The next lines are plainly the same too: their kind is told by what is due.
     next_same : (x y : CertLine) → FitsLine s here x → FitsLine s there y → (xs ys : List (List ℕ))
@@ -230,9 +230,9 @@ module _ (version : Version) (s : SolidData) (good : Good s) where
       → IsLegalAfter version s us xs → IsLegalAfter version s ws ys → AllZip AlikeButReach xs ys
   lines_alike us ws fit_a fit_b same [] [] h k = tt
   lines_alike us ws fit_a fit_b same [] (y ∷ ys) ended (b, is_b, g, more) =
-      absurd (true_false (sym ended ∙ (ap (λ (t : Stand). t.ended) (plain_stands version s us ws same) ∙ g.0)))
+      absurd (true_false (sym ended ∙ (ap (λ (t : Progress). t.ended) (plain_stands version s us ws same) ∙ g.0)))
   lines_alike us ws fit_a fit_b same (x ∷ xs) [] (a, is_a, f, more) ended =
-      absurd (true_false (sym ended ∙ (sym (ap (λ (t : Stand). t.ended) (plain_stands version s us ws same)) ∙ f.0)))
+      absurd (true_false (sym ended ∙ (sym (ap (λ (t : Progress). t.ended) (plain_stands version s us ws same)) ∙ f.0)))
   lines_alike us ws fit_a fit_b same (x ∷ xs) (y ∷ ys) (a, is_a, f, more_a) (b, is_b, g, more_b) =
       let one : plain a ≡ plain b = next_same us ws fit_a fit_b same a b f g xs ys more_a more_b in (
         spelled_alike x y a b one is_a.1 is_b.1,

@@ -18,8 +18,8 @@ use Rattle.edge_uses.proofs.Turn.{PairedRows, pair_counts, one_of_edge}
 use Rattle.edge_uses.proofs.RowNumbers.{starting, length-starting}
 use Rattle.cert_lines.specs.Line.{shell, edge, corner, point, tally}
 use Rattle.cert_lines.specs.declared.counts.ShellCounts.{ShellCounts}
-use Rattle.cert_lines.specs.declared.counts.Tally.{Tally}
-use Rattle.cert_state.specs.Stand.{Stand, TurnsTo, FitsShell, FitsTally, row_named, row_start, point_named, start_count, rows_of_shell, loops_of_shell}
+use Rattle.cert_lines.specs.declared.counts.TallyCounts.{TallyCounts}
+use Rattle.cert_state.specs.Progress.{Progress, TurnsTo, FitsShell, FitsTally, row_named, row_start, point_named, start_count, rows_of_shell, loops_of_shell}
 use Rattle.cert_state.proofs.Corner.{MatesHold, StartsNamed, corner_starts, turns_one, starts_listed, above_least}
 use Rattle.cert_state.proofs.Segment.{AreGoodRows}
 use Rattle.cert_accept.proofs.Nexts.{IsNext, next_one}
@@ -192,7 +192,7 @@ same_counts : (r r2 e e2 c c2 f f2 : ℕ) → r ≡ r2 → e ≡ e2 → c ≡ c2
     → ◌≡◌ {A = ShellCounts} (record { rows = r; edges = e; corners = c; faces = f }) (record { rows = r2; edges = e2; corners = c2; faces = f2 })
 same_counts r r2 e e2 c c2 f f2 hr he hc hf = cc
 
-pub shell_one : (s : SolidData) (at bt : Stand) (k k2 : ℕ) (c c2 : ShellCounts) → at.shell ≡ bt.shell → FitsShell s at k c → FitsShell s bt k2 c2
+pub shell_one : (s : SolidData) (at bt : Progress) (k k2 : ℕ) (c c2 : ShellCounts) → at.shell ≡ bt.shell → FitsShell s at k c → FitsShell s bt k2 c2
     → shell k c ≡ shell k2 c2
 shell_one s at bt k k2 c c2 same h g =
     let n : k ≡ k2 = omega (arith, h.next, g.next, same) in
@@ -205,10 +205,10 @@ shell_one s at bt k k2 c c2 same h g =
     ap (λ x. shell x c) n ∙ ap (λ x. shell k2 x) counts
 
 same_tally : (v v2 e e2 f f2 l l2 : ℕ) → v ≡ v2 → e ≡ e2 → f ≡ f2 → l ≡ l2
-    → ◌≡◌ {A = Tally} (record { vertices = v; edges = e; faces = f; loops = l }) (record { vertices = v2; edges = e2; faces = f2; loops = l2 })
+    → ◌≡◌ {A = TallyCounts} (record { vertices = v; edges = e; faces = f; loops = l }) (record { vertices = v2; edges = e2; faces = f2; loops = l2 })
 same_tally v v2 e e2 f f2 l l2 hv he hf hl = cc
 
-pub tally_one : (s : SolidData) (k k2 : ℕ) (t t2 : Tally) → k ≡ k2 → FitsTally s k t → FitsTally s k2 t2 → tally t ≡ tally t2
+pub tally_one : (s : SolidData) (k k2 : ℕ) (t t2 : TallyCounts) → k ≡ k2 → FitsTally s k t → FitsTally s k2 t2 → tally t ≡ tally t2
 tally_one s k k2 t t2 n h g =
     let d : rows_of_shell s k ≡ rows_of_shell s k2 = ap (rows_of_shell s) n in
     let same : t ≡ t2 = same_tally t.vertices t2.vertices t.edges t2.edges t.faces t2.faces t.loops t2.loops

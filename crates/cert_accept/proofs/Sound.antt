@@ -14,7 +14,7 @@ use Rattle.edge_uses.specs.Around.{IsReached, IsLinked}
 use Rattle.shell_rules.specs.Closed.{IsClosedShell, IsClosedSolid}
 use Rattle.edge_uses.proofs.RowLemmas.{ends_meet}
 use Rattle.solid_data.proofs.Members.{Has, All-at, All-from, has_flat_map, has_get}
-use Rattle.cert_state.specs.Stand.{rows_of_shell}
+use Rattle.cert_state.specs.Progress.{rows_of_shell}
 use Rattle.topo_certificate.specs.Legal.{IsLegal}
 use Rattle.edge_uses.proofs.RowShape.{ends_exchanged}
 use Rattle.solid_data.proofs.Occurring.{VerticesKnown, number_below}

@@ -8,7 +8,7 @@ use Rattle.solid_data.proofs.Decisions.{decided_list}
 use Rattle.cert_text.specs.Text.{spaced, IsShort}
 use Rattle.cert_lines.specs.Line.{CertLine, head, solid, end, words, spelling, IsSpelled, EndsWithLf, IsLine, IsLong, IsMisspelt, cut_lines}
 use Rattle.cert_lines.specs.Line.{first_limit}
-use Rattle.cert_lines.specs.Opening.{Opens, IsHead, IsSolid, IsWrong, IsSecondWrong, IsFirstWrong, IsBadOpening}
+use Rattle.cert_lines.specs.Opening.{Opens, IsHeadLine, IsSolid, IsWrong, IsSecondWrong, IsFirstWrong, IsBadOpening}
 use Rattle.cert_lines.specs.declared.version.Version.{Version}
 use Rattle.cert_text.specs.declared.fault.Illegal.{Illegal}
 use Rattle.cert_text.specs.declared.fault.Illegal.TheVariants.{Misspelt, Unfit, Missing}
@@ -110,9 +110,9 @@ second_decided (second ∷ rest) = ⊎_elim (λ (l, is, (n, e)). inl (second, re
 opening_of : (certificate : List ℕ) (lines : List (List ℕ)) → cut_lines certificate ≡ lines →
     ((v : Version) × (n : ℕ) × (rest : List (List ℕ)) × Opens certificate v n rest) ⊎ ((bad : Illegal) × IsFirstWrong lines bad)
 opening_of certificate [] cut = inr (Missing 1, refl)
-opening_of certificate (first ∷ lines) cut = by_first (wanted_or_wrong IsHead head_decided 1 first) (second_decided lines)
+opening_of certificate (first ∷ lines) cut = by_first (wanted_or_wrong IsHeadLine head_decided 1 first) (second_decided lines)
   where
-    by_first : ((l : CertLine) × IsLine first_limit first l × IsHead l) ⊎ ((bad : Illegal) × IsWrong IsHead 1 first bad)
+    by_first : ((l : CertLine) × IsLine first_limit first l × IsHeadLine l) ⊎ ((bad : Illegal) × IsWrong IsHeadLine 1 first bad)
         → ((second : List ℕ) × (rest : List (List ℕ)) × (n : ℕ) × (lines ≡ second ∷ rest) × IsLine first_limit second (solid n)) ⊎
         ((bad : Illegal) × IsSecondWrong lines bad)
         → ((v : Version) × (n : ℕ) × (rest : List (List ℕ)) × Opens certificate v n rest) ⊎ ((bad : Illegal) × IsFirstWrong (first ∷ lines) bad)

@@ -7,3 +7,4 @@ pub mod Cuts
 pub mod CutLines
 pub mod Ends
 pub mod Decided
+pub mod LeadingLines

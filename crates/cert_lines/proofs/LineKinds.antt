@@ -8,9 +8,9 @@ use Rattle.cert_lines.specs.Line.{words}
 use Rattle.cert_lines.specs.declared.version.Version.{Version}
 use Rattle.cert_lines.specs.declared.version.Version.TheVariants.{One, Two, Three}
 use Rattle.solid_data.proofs.Decisions.{Decided, decided_below, decided_both, decided_all}
-use Rattle.cert_lines.specs.Opening.{IsHead, IsSolid}
+use Rattle.cert_lines.specs.Opening.{IsHeadLine, IsSolid}
 use Rattle.cert_text.proofs.Spacing.{rest_of, spaced_no_break}
-use Rattle.cert_lines.specs.Said.{Spells}
+use Rattle.cert_lines.specs.Parsed.{Spells}
 
 pub version_short : (v : Version) → IsShort (version_number v)
 version_short One = omega arith
@@ -178,7 +178,7 @@ kind_below (reach r) = omega arith
 kind_below (tally t) = omega arith
 kind_below end = omega arith
 
-pub head_decided : (l : CertLine) → Decided (IsHead l)
+pub head_decided : (l : CertLine) → Decided (IsHeadLine l)
 head_decided (head v) = inl (v, refl)
 head_decided (solid n) = inr (λ (v, e). cc)
 head_decided (shell k c) = inr (λ (v, e). cc)

@@ -2,7 +2,7 @@
 use Rattle.std.specs.Prelude.{◌≡◌, ℕ, List, [], ◌∷◌}
 use Rattle.std.proofs.Common.{refl, sym, ◌∙◌, ap, subst, arith, inl, inr}
 use Rattle.cert_lines.specs.Line.{CertLine, head, solid, cut_lines, IsLine, IsMisspelt, first_limit}
-use Rattle.cert_lines.specs.Opening.{Opens, IsHead, IsSolid, IsOther, IsWrong, IsSecondWrong, IsFirstWrong, IsBadOpening}
+use Rattle.cert_lines.specs.Opening.{Opens, IsHeadLine, IsSolid, IsOther, IsWrong, IsSecondWrong, IsFirstWrong, IsBadOpening}
 use Rattle.cert_lines.specs.declared.version.Version.{Version}
 use Rattle.cert_lines.specs.declared.version.Version.TheVariants.{One}
 use Rattle.cert_text.specs.declared.fault.Illegal.{Illegal}
@@ -33,9 +33,9 @@ one_second (second ∷ rest) x y p q = one_wrong IsSolid 2 second x y p q
 
 one_first : (lines : List (List ℕ)) (x y : Illegal) → IsFirstWrong lines x → IsFirstWrong lines y → x ≡ y
 one_first [] x y p q = p ∙ sym q
-one_first (first ∷ lines) x y (inl p) (inl q) = one_wrong IsHead 1 first x y p q
-one_first (first ∷ lines) x y (inl p) (inr q) = absurd (wrong_good IsHead 1 first (head q.0) x q.1 (q.0, refl) p)
-one_first (first ∷ lines) x y (inr p) (inl q) = absurd (wrong_good IsHead 1 first (head p.0) y p.1 (p.0, refl) q)
+one_first (first ∷ lines) x y (inl p) (inl q) = one_wrong IsHeadLine 1 first x y p q
+one_first (first ∷ lines) x y (inl p) (inr q) = absurd (wrong_good IsHeadLine 1 first (head q.0) x q.1 (q.0, refl) p)
+one_first (first ∷ lines) x y (inr p) (inl q) = absurd (wrong_good IsHeadLine 1 first (head p.0) y p.1 (p.0, refl) q)
 one_first (first ∷ lines) x y (inr p) (inr q) = one_second lines x y p.2 q.2
 
 pub one_bad_opening : (certificate : List ℕ) (x y : Illegal) → IsBadOpening certificate x → IsBadOpening certificate y → x ≡ y
@@ -43,7 +43,7 @@ one_bad_opening certificate x y = one_first (cut_lines certificate) x y
 
 no_wrong : (first second : List ℕ) (rest : List (List ℕ)) (v : Version) (n : ℕ) (bad : Illegal) → IsLine first_limit first (head v) →
     IsLine first_limit second (solid n) → IsFirstWrong (first ∷ second ∷ rest) bad → ⊥
-no_wrong first second rest v n bad a b (inl p) = wrong_good IsHead 1 first (head v) bad a (v, refl) p
+no_wrong first second rest v n bad a b (inl p) = wrong_good IsHeadLine 1 first (head v) bad a (v, refl) p
 no_wrong first second rest v n bad a b (inr p) = wrong_good IsSolid 2 second (solid n) bad b (n, refl) p.2
 
 pub opens_or_bad : (certificate : List ℕ) (v : Version) (n : ℕ) (rest : List (List ℕ)) (bad : Illegal) → Opens certificate v n rest →

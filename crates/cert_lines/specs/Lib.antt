@@ -1,5 +1,5 @@
 pub mod Line
 pub mod Opening
-pub mod Said
+pub mod Parsed
 pub mod Written
 pub mod Cutting

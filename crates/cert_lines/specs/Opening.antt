@@ -21,8 +21,8 @@ pub record Opens (certificate : List ℕ) (v : Version) (n : ℕ) (rest : List (
   pub is_head : IsLine first_limit first (head v)
   pub names : IsLine first_limit second (solid n)
 
-abbrev pub IsHead : CertLine → Type 0
-IsHead line = (v : Version) × (line ≡ head v)
+abbrev pub IsHeadLine : CertLine → Type 0
+IsHeadLine line = (v : Version) × (line ≡ head v)
 
 abbrev pub IsSolid : CertLine → Type 0
 IsSolid line = (n : ℕ) × (line ≡ solid n)
@@ -41,7 +41,7 @@ IsSecondWrong (second ∷ rest) bad = IsWrong IsSolid 2 second bad
 
 abbrev pub IsFirstWrong : List (List ℕ) → Illegal → Type 0
 IsFirstWrong [] bad = bad ≡ Missing 1
-IsFirstWrong (first ∷ lines) bad = IsWrong IsHead 1 first bad ⊎ ((v : Version) × IsLine first_limit first (head v) × IsSecondWrong lines bad)
+IsFirstWrong (first ∷ lines) bad = IsWrong IsHeadLine 1 first bad ⊎ ((v : Version) × IsLine first_limit first (head v) × IsSecondWrong lines bad)
 
 -- the first of the two that is missing, misspelt or unfit
 abbrev pub IsBadOpening : List ℕ → Illegal → Type 0

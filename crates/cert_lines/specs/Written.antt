@@ -3,7 +3,7 @@ use Rattle.std.specs.Prelude.{ℕ, ◌+◌, List, [], ◌∷◌, ◌++◌, lengt
 use Rattle.std.specs.List.{enumerate_from}
 use Rattle.solid_data.specs.declared.solid.RowId.{RowId}
 use Rattle.cert_lines.specs.Line.{CertLine, head, solid, shell, edge, corner, point, reach, tally, end, spelling}
-use Rattle.cert_lines.specs.declared.counts.Tally.{Tally}
+use Rattle.cert_lines.specs.declared.counts.TallyCounts.{TallyCounts}
 use Rattle.cert_lines.specs.declared.version.Version.{Version}
 use Rattle.cert_lines.specs.declared.version.Version.TheVariants.{One, Two, Three}
 use Rattle.solid_data.specs.declared.linked.Corner.{Corner}
@@ -27,7 +27,7 @@ reach_line r = reach (row_number r)
 abbrev pub shell_line : ℕ → ShellPart → CertLine
 shell_line k part = shell k (record { rows = part.rows; edges = length part.edges; corners = length part.corners; faces = part.faces })
 
-abbrev pub tally_of : ℕ → ℕ → ℕ → ℕ → Tally
+abbrev pub tally_of : ℕ → ℕ → ℕ → ℕ → TallyCounts
 tally_of vertices edges faces loops = record { vertices = vertices; edges = edges; faces = faces; loops = loops }
 
 abbrev pub tally_line : ShellPart → CertLine

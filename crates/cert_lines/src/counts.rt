@@ -15,7 +15,7 @@ pub struct ShellCounts {
 
 /// The counts of a TALLY line: how many vertices, edges, faces and loops the shell has.
 #[derive(Clone, Copy, Debug, PartialEq, Eq)]
-pub struct Tally {
+pub struct TallyCounts {
     pub vertices: u32,
     pub edges: u32,
     pub faces: u32,

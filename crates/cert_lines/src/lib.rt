@@ -4,21 +4,23 @@
 mod counts;
 mod cutting;
 mod law;
+mod leading;
 mod opening;
+mod parsed;
 mod parts;
 mod version;
-mod words;
 mod writing;
 
 pub use cert_text::{Illegal, Misfit};
-pub use counts::{ShellCounts, Tally};
+pub use counts::{ShellCounts, TallyCounts};
 pub use cutting::{first_ended, first_line};
 pub use law::{lines_are_decided, one_line, one_opening};
+pub use leading::{leading_edge, leading_reach};
 pub use opening::{head_line, read_opening, solid_line};
+pub use parsed::{Judged, ParsedLine, judge};
 pub use parts::{Certificate, Certificates, EdgePairs, ReachRows, ShellPart, ShellParts};
 pub use solid_data::{Corner as CornerLine, Corners};
 pub use version::{Version, head_text};
-pub use words::{Judged, Words, judge};
 pub use writing::{
     from_one, put_head_line, put_rows, put_tally_line, write_book, write_certificate,
 };

@@ -2,12 +2,12 @@
 
 ghost use Rattle.std.specs.Prelude.{◌≡◌, MatchResult};
 ghost use Rattle.cert_lines.specs.Line.{head, solid, cut_lines, IsLine, first_limit};
-ghost use Rattle.cert_lines.specs.Opening.{IsHead, IsSolid, Opens, IsBadOpening};
+ghost use Rattle.cert_lines.specs.Opening.{IsHeadLine, IsSolid, Opens, IsBadOpening};
 ghost use Rattle.cert_lines.specs.Opening.{IsMisfit, illegal_at};
 
 use crate::cutting::first_line;
+use crate::parsed::{Judged, ParsedLine, judge};
 use crate::version::Version;
-use crate::words::{Judged, Words, judge};
 use cert_text::{Illegal, Misfit};
 use iges_base::EntryNo;
 
@@ -18,10 +18,10 @@ const FIRST_LIMIT: usize = 64;
 /// Takes no memory.
 pub fn head_line(line: &[u8]) -> Result<Version, Misfit>
     ensures { MatchResult result (λ v. IsLine first_limit line.now (head v))
-        (λ misfit. IsMisfit IsHead line.now misfit) }
+        (λ misfit. IsMisfit IsHeadLine line.now misfit) }
 {
     match judge(line, FIRST_LIMIT) {
-        Judged::Spelled(Words::Head(version)) => Ok(version),
+        Judged::Spelled(ParsedLine::Head(version)) => Ok(version),
         Judged::Spelled(_) | Judged::Long => Err(Misfit::Unfit),
         Judged::Misspelt => Err(Misfit::Misspelt),
     }
@@ -34,7 +34,7 @@ pub fn solid_line(line: &[u8]) -> Result<EntryNo, Misfit>
         (λ misfit. IsMisfit IsSolid line.now misfit) }
 {
     match judge(line, FIRST_LIMIT) {
-        Judged::Spelled(Words::Solid(number)) => Ok(EntryNo(number)),
+        Judged::Spelled(ParsedLine::Solid(number)) => Ok(EntryNo(number)),
         Judged::Spelled(_) | Judged::Long => Err(Misfit::Unfit),
         Judged::Misspelt => Err(Misfit::Misspelt),
     }

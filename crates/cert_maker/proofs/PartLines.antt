@@ -20,14 +20,14 @@ use Rattle.shell_flood.specs.Reaching.{ReachFrom, ReachesOne, row_numbers}
 use Rattle.cert_text.specs.Text.{IsShort}
 use Rattle.cert_lines.specs.Line.{CertLine, tally, shell, edge, corner, point, reach, end, spelling, HasSpelling}
 use Rattle.cert_lines.specs.declared.counts.ShellCounts.{ShellCounts}
-use Rattle.cert_lines.specs.declared.counts.Tally.{Tally}
+use Rattle.cert_lines.specs.declared.counts.TallyCounts.{TallyCounts}
 use Rattle.cert_lines.specs.declared.version.Version.{Version}
 use Rattle.cert_lines.specs.declared.version.Version.TheVariants.{One, Two, Three}
 use Rattle.topo_certificate.specs.Legal.{IsLegal}
 use Rattle.topo_certificate.specs.After.{IsLegalAfter}
 use Rattle.topo_certificate.proofs.Forward.{legal_forward}
-use Rattle.cert_state.specs.Stand.{tallies, loops_of, loops_of_shell, stand_from_latest, FitsLine, IsAbove, first_of, row_start, row_face, point_named}
-use Rattle.cert_state.specs.Stand.{rows_of_shell, start_count, IsMate, TurnsTo}
+use Rattle.cert_state.specs.Progress.{tallies, loops_of, loops_of_shell, progress_from_latest, FitsLine, IsAbove, first_of, row_start, row_face, point_named}
+use Rattle.cert_state.specs.Progress.{rows_of_shell, start_count, IsMate, TurnsTo}
 use Rattle.cert_lines.specs.Written.{tally_line, tally_lines, row_number, edge_line, corner_line, reach_line, shell_line, shell_lines}
 use Rattle.solid_data.specs.declared.linked.Corner.{Corner}
 use Rattle.solid_data.specs.declared.linked.Corner.TheVariants.{Cycle, Point}
@@ -42,8 +42,8 @@ use Rattle.cert_maker.specs.Certified.{AreItsRows, IsPart, AreParts}
 
 -- Behind the lines before, the latest first: each line is spelled and fits, and the last is END.
 abbrev pub GoesOn : Version → SolidData → List CertLine → List CertLine → Type 0
-GoesOn version s before [] = (stand_from_latest version s before).ended ≡ true
-GoesOn version s before (l ∷ ls) = IsReadable s l × FitsLine s (stand_from_latest version s before) l × GoesOn version s (l ∷ before) ls
+GoesOn version s before [] = (progress_from_latest version s before).ended ≡ true
+GoesOn version s before (l ∷ ls) = IsReadable s l × FitsLine s (progress_from_latest version s before) l × GoesOn version s (l ∷ before) ls
 
 goes_legal : (version : Version) (s : SolidData) (before ls : List CertLine) → GoesOn version s before ls → IsLegalAfter version s before (map spelling ls)
 goes_legal version s before [] h = h
@@ -190,7 +190,8 @@ same_counts : (a a2 b b2 c c2 d d2 : ℕ) → a ≡ a2 → b ≡ b2 → c ≡ c2
 same_counts a a2 b b2 c c2 d d2 ha hb hc hd = cc
 
 same_tally : (a a2 b b2 c c2 d d2 : ℕ) → a ≡ a2 → b ≡ b2 → c ≡ c2 → d ≡ d2
-    → (let x : Tally = record { vertices = a; edges = b; faces = c; loops = d } in let y : Tally = record { vertices = a2; edges = b2; faces = c2; loops = d2 }
+    → (let x : TallyCounts = record { vertices = a; edges = b; faces = c; loops = d } in let y : TallyCounts = record { vertices = a2; edges = b2; faces = c2;
+        loops = d2 }
     in x ≡ y)
 same_tally a a2 b b2 c c2 d d2 ha hb hc hd = cc
 
@@ -308,7 +309,7 @@ parts_go version s ready j (x ∷ left) (p ∷ parts) same count h done =
 
 from_nothing : (version : Version) (s : SolidData) (rest : List CertLine) → ((done : Done version s 0) → GoesOn version s done.lines rest)
     → GoesOn version s [] rest
-unfolding stand_from_latest
+unfolding progress_from_latest
 from_nothing version s rest on =
     on (record { lines = []; fit = tt; short = tt; begun = refl; shells = refl; nothing = record { edges = refl; corners = refl; reach = refl; tally = refl } })
 

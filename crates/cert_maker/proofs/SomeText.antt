@@ -36,7 +36,7 @@ use Rattle.solid_data.specs.declared.linked.Corner.{Corner}
 use Rattle.solid_data.specs.declared.linked.Corner.TheVariants.{Cycle, Point}
 use Rattle.cert_lines.specs.declared.parts.ShellPart.{ShellPart}
 use Rattle.cert_lines.specs.declared.version.Version.TheVariants.{Two}
-use Rattle.cert_state.specs.Stand.{loops_of}
+use Rattle.cert_state.specs.Progress.{loops_of}
 use Rattle.topo_certificate.proofs.Build.{found_point}
 use Rattle.cert_state.proofs.PointOrder.{faces_of_rows}
 use Rattle.cert_accept.proofs.Ready.{closed_at}

@@ -16,7 +16,7 @@ use Rattle.solid_data.specs.declared.solid.RowId.{RowId}
 use Rattle.solid_data.specs.declared.solid.Shell.{Shell}
 use Rattle.edge_uses.specs.ShellRows.{ShellRows, shell_rows}
 use Rattle.edge_uses.specs.Mates.{RunsOn}
-use Rattle.cert_state.specs.Stand.{loops_of}
+use Rattle.cert_state.specs.Progress.{loops_of}
 use Rattle.vertex_link.specs.Corners.{LiesAt}
 use Rattle.shell_flood.specs.Reaching.{ReachesAll, row_numbers}
 use Rattle.shell_flood.specs.Reaching.{IsBreadthFirst}

@@ -7,8 +7,8 @@ use Rattle.std.proofs.lemmas.Bool.{cases_lt}
 use Rattle.std.proofs.lemmas.List.{get_or-replicate, get_or_past, length-replicate, length-set}
 use Rattle.std.proofs.lemmas.Option.{same_Some}
 use Rattle.solid_data.proofs.Members.{Has, Has-from_Contains, Contains-from_Has}
-use Rattle.cert_state.specs.Stand.{IsMate}
-use Rattle.cert_state.specs.Kept.{above_zero, mate_in, HoldsMates, HoldsFaces}
+use Rattle.cert_state.specs.Progress.{IsMate}
+use Rattle.cert_state.specs.CheckState.{above_zero, mate_in, HoldsMates, HoldsFaces}
 
 pub get_set_same : {A : Type 0} (xs : List A) (k : ℕ) (v : A) → k < length xs → slice_get (slice_set xs k v) k ≡ Some v
 get_set_same [] k v h = absurd (omega (arith, h))

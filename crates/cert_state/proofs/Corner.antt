@@ -11,7 +11,7 @@ use Rattle.edge_uses.specs.ShellRows.{ShellRows, EndsMeet}
 use Rattle.edge_uses.specs.RowRelations.{AreMates, Turns, StartsAt, IsPaired}
 use Rattle.edge_uses.specs.Around.{IsCorner}
 use Rattle.solid_data.proofs.Members.{Has, NoRepeat, covers, count_by-total}
-use Rattle.cert_state.specs.Stand.{Stand, row_named, row_start, FollowsAsNamed, IsMate, TurnsTo, FitsCorner}
+use Rattle.cert_state.specs.Progress.{Progress, row_named, row_start, FollowsAsNamed, IsMate, TurnsTo, FitsCorner}
 use Rattle.solid_data.proofs.Trail.{Trail, trail_from_zip, leads_trans, leads_to, leads_on, no_repeat}
 use Rattle.edge_uses.proofs.RowShape.{EndsExchanged}
 use Rattle.edge_uses.proofs.Turn.{not-not, PairedRows, pair_counts, one_of_edge}
@@ -145,7 +145,7 @@ above_least r (x ∷ xs) all (inr h) = above_least r xs all.1 h
 above_least r [] all h = h
 
 -- A fitting corner line shows that its vertex is a corner.
-pub corner_from_line : (d : ShellRows) (at : Stand) (r : ℕ) (rs : List ℕ) → EndsMeet d → EndsExchanged d → MatesHold d at.mates → PairedRows d
+pub corner_from_line : (d : ShellRows) (at : Progress) (r : ℕ) (rs : List ℕ) → EndsMeet d → EndsExchanged d → MatesHold d at.mates → PairedRows d
     → (h : FitsCorner d at r rs) → IsCorner d h.vertex
 corner_from_line d at r rs meet exchanged hold paired h =
     let R : ℕ → ℕ → Type 0 = TurnsTo d at.mates in

@@ -11,35 +11,35 @@ use Rattle.edge_uses.specs.declared.row.Row.{Row}
 use Rattle.edge_uses.specs.ShellRows.{ShellRows}
 use Rattle.edge_uses.specs.RowRelations.{point_count}
 use Rattle.cert_lines.specs.Line.{corner, point}
-use Rattle.cert_text.specs.Text.{Begins, AreNumbers}
-use Rattle.cert_state.specs.Stand.{Stand, FitsCorner, FitsPoint, IsAbove, row_named, row_start, vertex_of, point_named, start_count}
-use Rattle.cert_state.specs.Kept.{corner_size, is_alone}
+use Rattle.cert_text.specs.Text.{Begins}
+use Rattle.cert_state.specs.Progress.{Progress, FitsCorner, FitsPoint, IsAbove, row_named, row_start, vertex_of, point_named, start_count}
+use Rattle.cert_state.specs.CheckState.{corner_size, is_alone}
 use Rattle.cert_state.specs.Places.{IsNamedAt}
-use Rattle.cert_state.specs.Ring.{IsRing, FitsCornerLine}
-use Rattle.cert_state.proofs.Rings.{next_left}
+use Rattle.cert_state.specs.Ring.{IsRing, FitsCornerLine, BeginsWithNumbers}
+use Rattle.cert_state.proofs.Rings.{next_before}
 
 pub named_below : (d : ShellRows) (n : ℕ) (row : Row) → row_named d n ≡ Some row → (0 < n) × (n ≤ length d.rows)
 named_below d zero row h = absurd cc
 named_below d (suc k) row h = (omega arith, omega (arith, slice_get_within d.rows k row h))
 
 -- the rest of a fitting line whose first number is read
-pub corner_of : (d : ShellRows) (at : Stand) (text others : List ℕ) (first : ℕ) (rs : List ℕ) → Begins text first others → AreNumbers text rs
-    → FitsCornerLine d at rs → (ms : List ℕ) × AreNumbers others ms × FitsCorner d at first ms
-corner_of d at text others first rs b h fits = let n = next_left text others first rs b h in (n.0, n.2, subst (FitsCornerLine d at) n.1 fits)
+pub corner_of : (d : ShellRows) (at : Progress) (text others : List ℕ) (first : ℕ) (rs stop : List ℕ) → Begins text first others
+    → BeginsWithNumbers text rs stop → FitsCornerLine d at rs → (ms : List ℕ) × BeginsWithNumbers others ms stop × FitsCorner d at first ms
+corner_of d at text others first rs stop b h fits = let n = next_before text others stop first rs b h in (n.0, n.2, subst (FitsCornerLine d at) n.1 fits)
 
-pub corner_no_row : (d : ShellRows) (at : Stand) (first : ℕ) (ms : List ℕ) → row_named d first ≡ None → FitsCorner d at first ms → ⊥
+pub corner_no_row : (d : ShellRows) (at : Progress) (first : ℕ) (ms : List ℕ) → row_named d first ≡ None → FitsCorner d at first ms → ⊥
 corner_no_row d at first ms none fits = let e : None ≡ Some fits.vertex = sym (ap row_start none) ∙ fits.lies_at in cc
 
-pub corner_vertex : (d : ShellRows) (at : Stand) (first : ℕ) (ms : List ℕ) (row : Row) → row_named d first ≡ Some row → (fits : FitsCorner d at first ms)
+pub corner_vertex : (d : ShellRows) (at : Progress) (first : ℕ) (ms : List ℕ) (row : Row) → row_named d first ≡ Some row → (fits : FitsCorner d at first ms)
     → fits.vertex ≡ row.from.0
 corner_vertex d at first ms row h fits = same_Some fits.vertex row.from.0 (sym fits.lies_at ∙ ap row_start h)
 
-pub corner_low : (d : ShellRows) (at : Stand) (first : ℕ) (ms : List ℕ) (row : Row) (last : Option ℕ) → row_named d first ≡ Some row → at.last_vertex ≡ last
+pub corner_low : (d : ShellRows) (at : Progress) (first : ℕ) (ms : List ℕ) (row : Row) (last : Option ℕ) → row_named d first ≡ Some row → at.last_vertex ≡ last
     → (IsAbove last row.from.0 → ⊥) → FitsCorner d at first ms → ⊥
 corner_low d at first ms row last h same low fits =
     low (subst (λ o. IsAbove o row.from.0) same (subst (IsAbove at.last_vertex) (corner_vertex d at first ms row h fits) fits.rises))
 
-pub corner_ring : (d : ShellRows) (at : Stand) (first : ℕ) (ms : List ℕ) → FitsCorner d at first ms → IsRing d at.mates first first ms
+pub corner_ring : (d : ShellRows) (at : Progress) (first : ℕ) (ms : List ℕ) → FitsCorner d at first ms → IsRing d at.mates first first ms
 corner_ring d at first ms fits = (fits.turns, fits.least)
 
 pub size_tells : (d : ShellRows) (v n : ℕ) → corner_size d v ≡ n → 0 < n → (point_count d v ≡ 0) × (n ≡ start_count d v)
@@ -68,12 +68,12 @@ size_below d sizes first row is h =
     let b = named_below d first row h in
     omega (arith, b.0, b.1, ap (λ xs. length xs) is, length-map d.rows (λ (r : Row). corner_size d r.from.0))
 
-pub corner_fits : (d : ShellRows) (at : Stand) (text others : List ℕ) (first : ℕ) (rs : List ℕ) (row : Row) (last : Option ℕ) (len : ℕ)
-    → Begins text first others → AreNumbers text rs → row_named d first ≡ Some row → at.last_vertex ≡ last → IsAbove last row.from.0
-    → ((ms : List ℕ) → AreNumbers others ms → IsRing d at.mates first first ms × (len ≡ length (first ∷ ms))) → corner_size d row.from.0 ≡ len
-    → FitsCornerLine d at rs × (vertex_of d (corner rs) ≡ Some row.from.0)
-corner_fits d at text others first rs row last len b h is_row same above ring size =
-    let n = next_left text others first rs b h in
+pub corner_fits : (d : ShellRows) (at : Progress) (text others : List ℕ) (first : ℕ) (rs stop rest : List ℕ) (row : Row) (last : Option ℕ) (len : ℕ)
+    → Begins text first others → BeginsWithNumbers text rs stop → row_named d first ≡ Some row → at.last_vertex ≡ last → IsAbove last row.from.0
+    → ((ms : List ℕ) → BeginsWithNumbers others ms stop → IsRing d at.mates first first ms × (len ≡ length (first ∷ ms)) × (rest ≡ stop))
+    → corner_size d row.from.0 ≡ len → FitsCornerLine d at rs × (vertex_of d (corner rs) ≡ Some row.from.0) × (rest ≡ stop)
+corner_fits d at text others first rs stop rest row last len b h is_row same above ring size =
+    let n = next_before text others stop first rs b h in
     let r = ring n.0 n.2 in
     let s = size_tells d row.from.0 len size (omega (arith, r.1)) in
     let fits : FitsCorner d at first n.0 = record {
@@ -85,9 +85,9 @@ corner_fits d at text others first rs row last len b h is_row same above ring si
       no_point = s.0;
       rises = subst (λ o. IsAbove o row.from.0) (sym same) above;
     } in
-    (subst (FitsCornerLine d at) (sym n.1) fits, ap (λ xs. vertex_of d (corner xs)) n.1 ∙ ap row_start is_row)
+    (subst (FitsCornerLine d at) (sym n.1) fits, ap (λ xs. vertex_of d (corner xs)) n.1 ∙ ap row_start is_row, r.2)
 
-pub corner_other_size : (d : ShellRows) (at : Stand) (first : ℕ) (ms : List ℕ) (row : Row) (len : ℕ) → row_named d first ≡ Some row
+pub corner_other_size : (d : ShellRows) (at : Progress) (first : ℕ) (ms : List ℕ) (row : Row) (len : ℕ) → row_named d first ≡ Some row
     → (corner_size d row.from.0 ≡ len → ⊥) → len ≡ length (first ∷ ms) → FitsCorner d at first ms → ⊥
 corner_other_size d at first ms row len h differ is fits =
     let v = corner_vertex d at first ms row h fits in
@@ -125,7 +125,7 @@ named_vertex d face place i p n h =
     let same : n.point ≡ p = same_Some n.point p (sym n.at_i ∙ h) in
     ap (option_map (λ (q : LoopAt × ℕ). q.1)) n.named ∙ ap (λ (q : LoopAt × ℕ). Some q.1) same
 
-pub point_fits : (d : ShellRows) (at : Stand) (alone : List Bool) (face place i : ℕ) (p : LoopAt × ℕ) (last : Option ℕ) → IsNamedAt d face place i
+pub point_fits : (d : ShellRows) (at : Progress) (alone : List Bool) (face place i : ℕ) (p : LoopAt × ℕ) (last : Option ℕ) → IsNamedAt d face place i
     → slice_get d.points i ≡ Some p → is_alone d p.1 ≡ true → at.last_vertex ≡ last → IsAbove last p.1
     → FitsPoint d at face place × (vertex_of d (point face place) ≡ Some p.1)
 point_fits d at alone face place i p last n h single same above =
@@ -134,11 +134,11 @@ point_fits d at alone face place i p last n h single same above =
       named_vertex d face place i p n h,
     )
 
-pub point_vertex : (d : ShellRows) (at : Stand) (face place i : ℕ) (p : LoopAt × ℕ) → IsNamedAt d face place i → slice_get d.points i ≡ Some p
+pub point_vertex : (d : ShellRows) (at : Progress) (face place i : ℕ) (p : LoopAt × ℕ) → IsNamedAt d face place i → slice_get d.points i ≡ Some p
     → (fits : FitsPoint d at face place) → fits.vertex ≡ p.1
 point_vertex d at face place i p n h fits = same_Some fits.vertex p.1 (sym fits.lies_at ∙ named_vertex d face place i p n h)
 
-pub point_not_alone : (d : ShellRows) (at : Stand) (face place i : ℕ) (p : LoopAt × ℕ) → IsNamedAt d face place i → slice_get d.points i ≡ Some p
+pub point_not_alone : (d : ShellRows) (at : Progress) (face place i : ℕ) (p : LoopAt × ℕ) → IsNamedAt d face place i → slice_get d.points i ≡ Some p
     → is_alone d p.1 ≡ false → FitsPoint d at face place → ⊥
 point_not_alone d at face place i p n h other fits =
     let v = point_vertex d at face place i p n h fits in
@@ -146,10 +146,10 @@ point_not_alone d at face place i p n h other fits =
     let e : false ≡ true = sym other ∙ single in
     cc
 
-pub point_low : (d : ShellRows) (at : Stand) (face place i : ℕ) (p : LoopAt × ℕ) (last : Option ℕ) → IsNamedAt d face place i → slice_get d.points i ≡ Some p
+pub point_low : (d : ShellRows) (at : Progress) (face place i : ℕ) (p : LoopAt × ℕ) (last : Option ℕ) → IsNamedAt d face place i → slice_get d.points i ≡ Some p
     → at.last_vertex ≡ last → (IsAbove last p.1 → ⊥) → FitsPoint d at face place → ⊥
 point_low d at face place i p last n h same low fits =
     low (subst (λ o. IsAbove o p.1) same (subst (IsAbove at.last_vertex) (point_vertex d at face place i p n h fits) fits.rises))
 
-pub point_none : (d : ShellRows) (at : Stand) (face place : ℕ) → point_named d face place ≡ None → FitsPoint d at face place → ⊥
+pub point_none : (d : ShellRows) (at : Progress) (face place : ℕ) → point_named d face place ≡ None → FitsPoint d at face place → ⊥
 point_none d at face place none fits = let e : None ≡ Some fits.vertex = sym (ap (option_map (λ (q : LoopAt × ℕ). q.1)) none) ∙ fits.lies_at in cc

@@ -13,10 +13,10 @@ use Rattle.edge_uses.specs.ShellRows.{ShellRows}
 use Rattle.edge_uses.specs.RowRelations.{point_count}
 use Rattle.cert_lines.specs.Line.{CertLine, head, solid, shell, edge, corner, point, reach, tally, end}
 use Rattle.cert_lines.specs.declared.counts.ShellCounts.{ShellCounts}
-use Rattle.cert_lines.specs.declared.counts.Tally.{Tally}
-use Rattle.cert_state.specs.Stand.{Stand, NoneDue, CornerDue, ReachDue, TallyDue, FitsShell, FitsEdge, FitsCorner, FitsPoint, FitsReach, FitsTally}
-use Rattle.cert_state.specs.Stand.{IsAbove, IsMate, TurnsTo, FollowsAsNamed, row_named, row_start, row_face, point_named, start_count, rows_of_shell}
-use Rattle.cert_state.specs.Stand.{loops_of_shell, FitsOpen, FitsLine}
+use Rattle.cert_lines.specs.declared.counts.TallyCounts.{TallyCounts}
+use Rattle.cert_state.specs.Progress.{Progress, NoneDue, CornerDue, ReachDue, TallyDue, FitsShell, FitsEdge, FitsCorner, FitsPoint, FitsReach, FitsTally}
+use Rattle.cert_state.specs.Progress.{IsAbove, IsMate, TurnsTo, FollowsAsNamed, row_named, row_start, row_face, point_named, start_count, rows_of_shell}
+use Rattle.cert_state.specs.Progress.{loops_of_shell, FitsOpen, FitsLine}
 use Rattle.cert_state.specs.declared.due.Due.{Due}
 use Rattle.cert_state.proofs.CornerFits.{named_below}
 
@@ -38,7 +38,7 @@ tally_due_decided due = decided_four (decided_same due.edges 0) (decided_same du
 
 -- SHELL and TALLY lines.
 
-pub shell_decided : (s : SolidData) (at : Stand) (k : ℕ) (counts : ShellCounts) → Decided (FitsShell s at k counts)
+pub shell_decided : (s : SolidData) (at : Progress) (k : ℕ) (counts : ShellCounts) → Decided (FitsShell s at k counts)
 shell_decided s at k counts =
     let d : ShellRows = rows_of_shell s k in
     decided_alike (λ ((n, t, two), (r, e, c, f)).
@@ -48,7 +48,7 @@ shell_decided s at k counts =
     (decided_four (decided_same counts.rows (length d.rows)) (decided_same counts.edges (length d.edges)) (decided_same counts.corners (length d.vertices))
     (decided_same counts.faces d.face_count)))
 
-pub tally_decided : (s : SolidData) (k : ℕ) (t : Tally) → Decided (FitsTally s k t)
+pub tally_decided : (s : SolidData) (k : ℕ) (t : TallyCounts) → Decided (FitsTally s k t)
 tally_decided s k t =
     let d : ShellRows = rows_of_shell s k in
     decided_alike (λ (v, e, f, l). record { vertices_counted = v; edges_counted = e; faces_counted = f; loops_counted = l })
@@ -67,15 +67,15 @@ edge_id_decided a b = decided_alike (λ e. (let same : ◌≡◌ {A = EdgeId} (r
     (λ e. ap (λ (x : EdgeId). x.0) e) (decided_same a.0 b.0)
 
 -- what a fitting edge line asks of its rows
-abbrev AreEdgeRows : Stand → Row → Row → Type 0
+abbrev AreEdgeRows : Progress → Row → Row → Type 0
 AreEdgeRows at a b = (a.edge ≡ b.edge) × (a.along ≡ true) × (b.along ≡ false) × IsAbove at.last_edge a.edge.0
 
-edge_rows : (d : ShellRows) (at : Stand) (a b : ℕ) (x y : Row) → row_named d a ≡ Some x → row_named d b ≡ Some y → FitsEdge d at a b → AreEdgeRows at x y
+edge_rows : (d : ShellRows) (at : Progress) (a b : ℕ) (x y : Row) → row_named d a ≡ Some x → row_named d b ≡ Some y → FitsEdge d at a b → AreEdgeRows at x y
 edge_rows d at a b x y at_a at_b h =
     subst (λ p. AreEdgeRows at p y) (same_Some h.along_row x (sym h.at_a ∙ at_a))
     (subst (AreEdgeRows at h.along_row) (same_Some h.against_row y (sym h.at_b ∙ at_b)) (h.one_edge, h.along, h.against, h.rises))
 
-pub edge_decided : (d : ShellRows) (at : Stand) (a b : ℕ) → Decided (FitsEdge d at a b)
+pub edge_decided : (d : ShellRows) (at : Progress) (a b : ℕ) → Decided (FitsEdge d at a b)
 edge_decided d at a b = by_rows (row_named d a) (row_named d b) refl refl
   where
     by_rows : (o p : Option Row) → row_named d a ≡ o → row_named d b ≡ p → Decided (FitsEdge d at a b)
@@ -110,10 +110,10 @@ turns_decided d mates r s =
     (suc (length d.follows)))
 
 -- what a fitting corner line asks of its vertex
-abbrev IsCornerVertex : ShellRows → Stand → ℕ → ℕ → Type 0
+abbrev IsCornerVertex : ShellRows → Progress → ℕ → ℕ → Type 0
 IsCornerVertex d at n v = (n ≡ start_count d v) × (point_count d v ≡ 0) × IsAbove at.last_vertex v
 
-pub corner_decided : (d : ShellRows) (at : Stand) (r : ℕ) (rs : List ℕ) → Decided (FitsCorner d at r rs)
+pub corner_decided : (d : ShellRows) (at : Progress) (r : ℕ) (rs : List ℕ) → Decided (FitsCorner d at r rs)
 corner_decided d at r rs = by_vertex (row_start (row_named d r)) refl
   where
     by_vertex : (o : Option ℕ) → row_start (row_named d r) ≡ o → Decided (FitsCorner d at r rs)
@@ -128,10 +128,10 @@ corner_decided d at r rs = by_vertex (row_start (row_named d r)) refl
 
 -- Point lines.
 
-abbrev IsPointVertex : ShellRows → Stand → ℕ → Type 0
+abbrev IsPointVertex : ShellRows → Progress → ℕ → Type 0
 IsPointVertex d at v = (start_count d v ≡ 0) × (point_count d v ≡ 1) × IsAbove at.last_vertex v
 
-pub point_decided : (d : ShellRows) (at : Stand) (face l : ℕ) → Decided (FitsPoint d at face l)
+pub point_decided : (d : ShellRows) (at : Progress) (face l : ℕ) → Decided (FitsPoint d at face l)
 point_decided d at face l = by_vertex (option_map (λ (p : LoopAt × ℕ). p.1) (point_named d face l)) refl
   where
     by_vertex : (o : Option ℕ) → option_map (λ (p : LoopAt × ℕ). p.1) (point_named d face l) ≡ o → Decided (FitsPoint d at face l)
@@ -144,7 +144,7 @@ point_decided d at face l = by_vertex (option_map (λ (p : LoopAt × ℕ). p.1) 
 -- Reach lines.
 
 -- a row of a face that is not reached and its mate of a face that is
-record ReachesBy (d : ShellRows) (at : Stand) (r mate : ℕ) : Type 0 where
+record ReachesBy (d : ShellRows) (at : Progress) (r mate : ℕ) : Type 0 where
   pub face : ℕ
   pub known : ℕ
   pub mates : IsMate at.mates r mate
@@ -157,7 +157,7 @@ mate_below : (d : ShellRows) (m known : ℕ) (o : Option Row) → row_named d m 
 mate_below d m known None e h = absurd cc
 mate_below d m known (Some row) e h = omega (arith, (named_below d m row e).1)
 
-reaches_decided : (d : ShellRows) (at : Stand) (r mate : ℕ) → Decided (ReachesBy d at r mate)
+reaches_decided : (d : ShellRows) (at : Progress) (r mate : ℕ) → Decided (ReachesBy d at r mate)
 reaches_decided d at r mate = by_faces (row_face (row_named d r)) (row_face (row_named d mate)) refl refl
   where
     by_faces : (o p : Option ℕ) → row_face (row_named d r) ≡ o → row_face (row_named d mate) ≡ p → Decided (ReachesBy d at r mate)
@@ -173,7 +173,7 @@ reaches_decided d at r mate = by_faces (row_face (row_named d r)) (row_face (row
         ))
         (decided_three (mate_decided at.mates r mate) (decided_not (decided_contains decided_same at.reached f)) (decided_contains decided_same at.reached k))
 
-pub reach_decided : (d : ShellRows) (at : Stand) (r : ℕ) → Decided (FitsReach d at r)
+pub reach_decided : (d : ShellRows) (at : Progress) (r : ℕ) → Decided (FitsReach d at r)
 reach_decided d at r =
     decided_alike (λ (m, lt, h).
     record { mate = m; face = h.face; known = h.known; mates = h.mates; on_face = h.on_face; on_known = h.on_known; new = h.new; old = h.old })
@@ -186,7 +186,7 @@ reach_decided d at r =
 
 -- Lines of all kinds.
 
-pub open_decided : (s : SolidData) (at : Stand) (l : CertLine) → Decided (FitsOpen s at l)
+pub open_decided : (s : SolidData) (at : Progress) (l : CertLine) → Decided (FitsOpen s at l)
 open_decided s at (head v) = inr (λ h. h)
 open_decided s at (solid n) = inr (λ h. h)
 open_decided s at (shell k counts) = decided_both (none_due_decided at.due) (shell_decided s at k counts)
@@ -198,5 +198,5 @@ open_decided s at (reach r) = decided_both (reach_due_decided at.due) (reach_dec
 open_decided s at (tally t) = decided_both (tally_due_decided at.due) (tally_decided s at.shell t)
 open_decided s at end = decided_both (none_due_decided at.due) (decided_same at.shell (length s.shells))
 
-pub line_decided : (s : SolidData) (at : Stand) (l : CertLine) → Decided (FitsLine s at l)
+pub line_decided : (s : SolidData) (at : Progress) (l : CertLine) → Decided (FitsLine s at l)
 line_decided s at l = decided_both (decided_bool at.ended false) (open_decided s at l)

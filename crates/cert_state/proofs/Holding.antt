@@ -4,8 +4,8 @@ use Rattle.std.proofs.Common.{refl, sym, ◌∙◌, ap, subst, arith}
 use Rattle.std.proofs.lemmas.Option.{same_Some}
 use Rattle.edge_uses.specs.declared.row.Row.{Row}
 use Rattle.edge_uses.specs.ShellRows.{ShellRows}
-use Rattle.cert_state.specs.Stand.{Stand, row_named, row_face, IsMate, FollowsAsNamed, TurnsTo, FitsReach}
-use Rattle.cert_state.specs.Kept.{above_zero, mate_in, HoldsMates, HoldsFaces}
+use Rattle.cert_state.specs.Progress.{Progress, row_named, row_face, IsMate, FollowsAsNamed, TurnsTo, FitsReach}
+use Rattle.cert_state.specs.CheckState.{above_zero, mate_in, HoldsMates, HoldsFaces}
 
 pub none_some : {A : Type 0} (o : Option A) (x : A) → o ≡ None → o ≡ Some x → ⊥
 none_some o x a b = let e : None ≡ Some x = sym a ∙ b in cc
@@ -19,20 +19,20 @@ mate_above : (mates : List ℕ) (r m : ℕ) → mate_in mates r ≡ Some m → 0
 mate_above mates zero m e = absurd (none_some None m refl e)
 mate_above mates (suc r) m e = above (slice_get mates r) m e
 
-pub no_reach_mate : (d : ShellRows) (at : Stand) (mates : List ℕ) (row : ℕ) → HoldsMates mates at.mates → mate_in mates row ≡ None → FitsReach d at row → ⊥
+pub no_reach_mate : (d : ShellRows) (at : Progress) (mates : List ℕ) (row : ℕ) → HoldsMates mates at.mates → mate_in mates row ≡ None → FitsReach d at row → ⊥
 no_reach_mate d at mates row holds none h = none_some (mate_in mates row) h.mate none ((holds row h.mate).0 h.mates)
 
-reach_mate : (d : ShellRows) (at : Stand) (mates : List ℕ) (row m : ℕ) → HoldsMates mates at.mates → mate_in mates row ≡ Some m → (h : FitsReach d at row)
+reach_mate : (d : ShellRows) (at : Progress) (mates : List ℕ) (row m : ℕ) → HoldsMates mates at.mates → mate_in mates row ≡ Some m → (h : FitsReach d at row)
     → h.mate ≡ m
 reach_mate d at mates row m holds is h = same_Some h.mate m (sym ((holds row h.mate).0 h.mates) ∙ is)
 
-pub no_reach_row : (d : ShellRows) (at : Stand) (mates : List ℕ) (row m : ℕ) → HoldsMates mates at.mates → mate_in mates row ≡ Some m → row_named d m ≡ None
+pub no_reach_row : (d : ShellRows) (at : Progress) (mates : List ℕ) (row m : ℕ) → HoldsMates mates at.mates → mate_in mates row ≡ Some m → row_named d m ≡ None
     → FitsReach d at row → ⊥
 no_reach_row d at mates row m holds is none h =
     let e = reach_mate d at mates row m holds is h in
     none_some (row_face (row_named d m)) h.known (ap row_face none) (subst (λ z. row_face (row_named d z) ≡ Some h.known) e h.on_known)
 
-pub reach_iff : (d : ShellRows) (at : Stand) (mates : List ℕ) (reached : List Bool) (row m : ℕ) (x y : Row) → HoldsMates mates at.mates
+pub reach_iff : (d : ShellRows) (at : Progress) (mates : List ℕ) (reached : List Bool) (row m : ℕ) (x y : Row) → HoldsMates mates at.mates
     → HoldsFaces reached at.reached
     → mate_in mates row ≡ Some m → row_named d row ≡ Some x → row_named d m ≡ Some y
     → FitsReach d at row ↔ (¬ (slice_get reached x.at.face.0 ≡ Some true)) × (slice_get reached y.at.face.0 ≡ Some true)
@@ -95,7 +95,7 @@ turn_iff d pairs mates row m n s holds is next = (
 )
 
 -- where the row is there, and its mate, a reach line is fitting by the two faces alone
-pub reach_on : (d : ShellRows) (at : Stand) (mates : List ℕ) (reached : List Bool) (row m : ℕ) (x y : Row) → HoldsMates mates at.mates
+pub reach_on : (d : ShellRows) (at : Progress) (mates : List ℕ) (reached : List Bool) (row m : ℕ) (x y : Row) → HoldsMates mates at.mates
     → HoldsFaces reached at.reached
     → mate_in mates row ≡ Some m → row_named d row ≡ Some x → row_named d m ≡ Some y → (slice_get reached x.at.face.0 ≡ Some true → ⊥)
     → slice_get reached y.at.face.0 ≡ Some true

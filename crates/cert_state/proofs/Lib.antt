@@ -6,9 +6,10 @@ pub mod VertexTallies
 pub mod UseSizes
 pub mod Rings
 pub mod PointOrder
-pub mod Standing
+pub mod Progressing
 pub mod Arrays
 pub mod CornerFits
 pub mod FitsDecided
-pub mod SameStand
+pub mod SameProgress
 pub mod Telling
+pub mod NextLine

@@ -22,9 +22,9 @@ use Rattle.edge_uses.specs.declared.row.Row.{Row}
 use Rattle.edge_uses.specs.Building.{point_in}
 use Rattle.edge_uses.specs.Joining.{placed_at}
 use Rattle.edge_uses.specs.ShellRows.{ShellRows, shell_rows, rows_of, loop_rows, point_of}
-use Rattle.cert_state.specs.Kept.{Precedes, InFileOrder}
+use Rattle.cert_state.specs.CheckState.{Precedes, InFileOrder}
 use Rattle.cert_state.specs.Places.{IsNamed, IsBefore, IsNamedAt}
-use Rattle.cert_state.specs.Stand.{point_named}
+use Rattle.cert_state.specs.Progress.{point_named}
 
 -- Of a half the named one is not.
 

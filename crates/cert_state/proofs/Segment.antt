@@ -14,8 +14,8 @@ use Rattle.edge_uses.specs.RowRelations.{IsPaired, row_count}
 use Rattle.edge_uses.specs.Around.{AreNeighbours, IsReached, IsLinked, IsPoint}
 use Rattle.solid_data.proofs.Members.{Has, NoRepeat, Has-from_Contains, Contains-from_Has, All-at, All-from, covers, count_by-total}
 use Rattle.edge_uses.proofs.Counting.{counted, paired_by_count}
-use Rattle.cert_state.specs.Stand.{Stand, FitsEdge, FitsCorner, FitsPoint, FitsReach, IsAbove, first_of, row_named, row_edge, row_start, row_face}
-use Rattle.cert_state.specs.Stand.{point_named}
+use Rattle.cert_state.specs.Progress.{Progress, FitsEdge, FitsCorner, FitsPoint, FitsReach, IsAbove, first_of, row_named, row_edge, row_start, row_face}
+use Rattle.cert_state.specs.Progress.{point_named}
 use Rattle.solid_data.proofs.Trail.{leads_last}
 use Rattle.solid_data.proofs.Occurring.{numbers_have, length-numbers}
 use Rattle.edge_uses.proofs.RowShape.{EndsExchanged}
@@ -60,7 +60,7 @@ pub record EdgeFacts (d : ShellRows) (mates : List (ℕ × ℕ)) (es : List ℕ)
   pub each : (e : ℕ) → Has es e → Has d.edges e × (1 ≤ row_count d e true) × (1 ≤ row_count d e false)
   pub hold : MatesHold d mates
 
-pub mates_of_line : (d : ShellRows) (at : Stand) (a b : ℕ) → FitsEdge d at a b → AreNamedMates d a b
+pub mates_of_line : (d : ShellRows) (at : Progress) (a b : ℕ) → FitsEdge d at a b → AreNamedMates d a b
 mates_of_line d at a b h =
     record { row = h.along_row; mate = h.against_row; at_r = h.at_a; at_m = h.at_b; one_edge = h.one_edge; opposite = h.along ∙ sym (ap not h.against) }
 
@@ -68,7 +68,7 @@ pub counted_named : (p : Row → Bool) (d : ShellRows) (n : ℕ) (r : Row) → r
 counted_named p d zero r h passes = absurd cc
 counted_named p d (suc n) r h passes = omega (arith, counted p d.rows n r h passes, count_by-total p d.rows)
 
-pub edge_step : (d : ShellRows) (at : Stand) (mates : List (ℕ × ℕ)) (es : List ℕ) (n a b : ℕ) → AreGoodRows d → EdgeFacts d mates es n → n < length d.edges
+pub edge_step : (d : ShellRows) (at : Progress) (mates : List (ℕ × ℕ)) (es : List ℕ) (n a b : ℕ) → AreGoodRows d → EdgeFacts d mates es n → n < length d.edges
     → at.last_edge ≡ first_of es
     → FitsEdge d at a b → EdgeFacts d ((a, b) ∷ mates) (cons_option (row_edge (row_named d a)) es) (suc n)
 edge_step d at mates es n a b good facts more last h =
@@ -141,7 +141,7 @@ point_known d good face l v h = at_point (point_named d face l) refl h
     at_point None e h = absurd cc
     at_point (Some p) e h = subst (Has d.vertices) (same_Some p.1 v h) (found_point (λ (q : LoopAt × ℕ). Has d.vertices q.1) _ d.points p good.points e)
 
-pub point_from_line : (d : ShellRows) (at : Stand) (face l : ℕ) → (h : FitsPoint d at face l) → IsPoint d h.vertex
+pub point_from_line : (d : ShellRows) (at : Progress) (face l : ℕ) → (h : FitsPoint d at face l) → IsPoint d h.vertex
 point_from_line d at face l h = record {
   no_row = λ r (row, at_r, e). omega (
     arith,
@@ -153,7 +153,7 @@ point_from_line d at face l h = record {
   one_point = h.one_point;
 }
 
-pub corner_step : (d : ShellRows) (at : Stand) (vs : List ℕ) (n r : ℕ) (rs : List ℕ) → AreGoodRows d → MatesHold d at.mates → PairedRows d → CornerFacts d vs n
+pub corner_step : (d : ShellRows) (at : Progress) (vs : List ℕ) (n r : ℕ) (rs : List ℕ) → AreGoodRows d → MatesHold d at.mates → PairedRows d → CornerFacts d vs n
     → at.last_vertex ≡ first_of vs
     → FitsCorner d at r rs → CornerFacts d (cons_option (row_start (row_named d r)) vs) (suc n)
 corner_step d at vs n r rs good hold paired facts last h =
@@ -161,7 +161,7 @@ corner_step d at vs n r rs good hold paired facts last h =
     (start_known d good r h.vertex h.lies_at)
     (inl (corner_from_line d at r rs good.meet good.exchanged hold paired h))
 
-pub point_step : (d : ShellRows) (at : Stand) (vs : List ℕ) (n face l : ℕ) → AreGoodRows d → CornerFacts d vs n → at.last_vertex ≡ first_of vs
+pub point_step : (d : ShellRows) (at : Progress) (vs : List ℕ) (n face l : ℕ) → AreGoodRows d → CornerFacts d vs n → at.last_vertex ≡ first_of vs
     → FitsPoint d at face l → CornerFacts d (cons_option (option_map (λ (p : LoopAt × ℕ). p.1) (point_named d face l)) vs) (suc n)
 point_step d at vs n face l good facts last h =
     vertex_step d vs n h.vertex (option_map (λ (p : LoopAt × ℕ). p.1) (point_named d face l)) facts h.lies_at (subst (λ o. IsAbove o h.vertex) last h.rises)
@@ -201,7 +201,7 @@ face_below d good r f h = at_row (row_named d r) refl h
     at_row (Some row) e h = subst (λ x. x < d.face_count) (same_Some row.at.face.0 f h)
         (named_has (λ (x : Row). x.at.face.0 < d.face_count) d r row good.faces e)
 
-pub reach_step : (d : ShellRows) (at : Stand) (fs : List ℕ) (n r : ℕ) → AreGoodRows d → MatesHold d at.mates → ReachFacts d fs n → at.reached ≡ 0 ∷ fs
+pub reach_step : (d : ShellRows) (at : Progress) (fs : List ℕ) (n r : ℕ) → AreGoodRows d → MatesHold d at.mates → ReachFacts d fs n → at.reached ≡ 0 ∷ fs
     → FitsReach d at r → ReachFacts d (cons_option (row_face (row_named d r)) fs) (suc n)
 reach_step d at fs n r good hold facts reached h =
     let known : IsReached d h.known = ⊎_elim (λ e. subst (IsReached d) e (first_reached d)) (λ m. (facts.each h.known m).1)

@@ -10,13 +10,13 @@ use Rattle.solid_data.specs.declared.solid.LoopAt.{LoopAt}
 use Rattle.edge_uses.specs.declared.row.Row.{Row}
 use Rattle.edge_uses.specs.ShellRows.{ShellRows}
 use Rattle.solid_data.proofs.Members.{Has}
-use Rattle.cert_state.specs.Stand.{tallies}
+use Rattle.cert_state.specs.Progress.{tallies}
 use Rattle.cert_lines.specs.declared.version.Version.{Version}
 use Rattle.cert_lines.specs.declared.version.Version.TheVariants.{One, Two, Three}
 use Rattle.cert_text.specs.Text.{spaced, IsShort}
 use Rattle.cert_lines.specs.Line.{CertLine, shell, edge, corner, point, reach, tally, end, spelling, IsLine, line_limit}
 use Rattle.cert_lines.specs.declared.counts.ShellCounts.{ShellCounts}
-use Rattle.cert_lines.specs.declared.counts.Tally.{Tally}
+use Rattle.cert_lines.specs.declared.counts.TallyCounts.{TallyCounts}
 
 -- the sizes of a shell are small
 pub record IsSmall (s : SolidData) (d : ShellRows) : Type 0 where
@@ -47,7 +47,7 @@ readable_shell s k n a b c d e =
     let h = length-append (spaced ns) (10 ∷ []) in
     (omega (arith, h, length-spaced ns short), (short, refl))
 
-pub readable_tally : (s : SolidData) (t : Tally) → IsShort t.vertices → IsShort t.edges → IsShort t.faces → IsShort t.loops → IsReadable s (tally t)
+pub readable_tally : (s : SolidData) (t : TallyCounts) → IsShort t.vertices → IsShort t.edges → IsShort t.faces → IsShort t.loops → IsReadable s (tally t)
 readable_tally s t a b c d =
     let ns : List ℕ = t.vertices ∷ t.edges ∷ t.faces ∷ t.loops ∷ [] in
     let short : AllByRecursion IsShort ns = (a, (b, (c, (d, tt)))) in

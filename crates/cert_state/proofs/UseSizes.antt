@@ -9,7 +9,7 @@ use Rattle.std.proofs.lemmas.List.Sums.{sum_by-cons}
 use Rattle.std.proofs.lemmas.List.FromFn.{length-enumerate_from}
 use Rattle.solid_data.proofs.Members.{split_at, has_get}
 use Rattle.edge_uses.proofs.Few.{part_shorter}
-use Rattle.cert_state.specs.Stand.{loops_of, loops_of_shell}
+use Rattle.cert_state.specs.Progress.{loops_of, loops_of_shell}
 use Rattle.solid_data.specs.SolidData.{SolidData, PlacedLoop, placed_in_face, placed_loops, same_flag, shell_uses}
 use Rattle.solid_data.specs.Numbering.{IsNumberedSolid}
 use Rattle.solid_data.specs.declared.solid.Loop.{Loop}

@@ -1,5 +1,5 @@
-pub mod Stand
-pub mod Kept
+pub mod Progress
+pub mod CheckState
 pub mod Matching
 pub mod Ring
 pub mod Places

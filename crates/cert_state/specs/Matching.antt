@@ -1,14 +1,15 @@
 -- When what is kept of a shell is where the lines so far lead.
-use Rattle.std.specs.Prelude.{◌≡◌, ◌<◌, Bool, List, ◌∷◌}
+use Rattle.std.specs.Prelude.{◌≡◌, ℕ, ◌<◌, Bool, true, List, ◌∷◌, ◌++◌}
 use Rattle.std.specs.Bool.{MatchBool}
 use Rattle.solid_data.specs.SolidData.{SolidData}
-use Rattle.cert_lines.specs.Line.{CertLine}
+use Rattle.cert_lines.specs.Line.{CertLine, IsLine}
+use Rattle.cert_lines.specs.Parsed.{IsRowLine}
 use Rattle.cert_lines.specs.declared.version.Version.{Version}
-use Rattle.cert_state.specs.Stand.{Stand, stand_from_latest, rows_of_shell, loops_of_shell, FitsOpen}
-use Rattle.cert_state.specs.Kept.{KeptShell, HoldsMates, HoldsFaces}
+use Rattle.cert_state.specs.Progress.{Progress, progress_from_latest, rows_of_shell, loops_of_shell, FitsOpen}
+use Rattle.cert_state.specs.CheckState.{ShellCheckState, HoldsMates, HoldsFaces}
 
--- what is kept of the shell at hand is its stand
-pub record MatchesShell (s : SolidData) (at : Stand) (k : KeptShell) : Type 0 where
+-- what is kept of the shell at hand is its progress
+pub record MatchesShell (s : SolidData) (at : Progress) (k : ShellCheckState) : Type 0 where
   pub begun : 0 < at.shell
   pub rows : k.rows ≡ rows_of_shell s at.shell
   pub loops : k.loops ≡ loops_of_shell s at.shell
@@ -18,9 +19,18 @@ pub record MatchesShell (s : SolidData) (at : Stand) (k : KeptShell) : Type 0 wh
   pub mates : HoldsMates k.mates at.mates
   pub reached : HoldsFaces k.reached at.reached
 
--- After any lines with whose stand what is kept agrees, the line is taken exactly where it fits, and then what is kept agrees with the stand after the line.
-abbrev pub Takes : KeptShell → KeptShell → CertLine → Bool → Type 0
+-- After any lines with whose progress the state agrees, the line is taken exactly where it fits, and then the state agrees with the progress after the line.
+abbrev pub Takes : ShellCheckState → ShellCheckState → CertLine → Bool → Type 0
 Takes old new line taken =
-    (v : Version) (s : SolidData) (lines : List CertLine) → MatchesShell s (stand_from_latest v s lines) old →
-    MatchBool taken (FitsOpen s (stand_from_latest v s lines) line × MatchesShell s (stand_from_latest v s (line ∷ lines)) new)
-    (¬ FitsOpen s (stand_from_latest v s lines) line)
+    (v : Version) (s : SolidData) (lines : List CertLine) → MatchesShell s (progress_from_latest v s lines) old →
+    MatchBool taken (FitsOpen s (progress_from_latest v s lines) line × MatchesShell s (progress_from_latest v s (line ∷ lines)) new)
+    (¬ FitsOpen s (progress_from_latest v s lines) line)
+
+-- The text begins with a line after a SHELL line, of at most so many bytes, which is taken; this follows it.
+pub record TakesNext (old new : ShellCheckState) (limit : ℕ) (text after : List ℕ) : Type 0 where
+  pub line : CertLine
+  pub kind : IsRowLine line
+  pub bytes : List ℕ
+  pub is : IsLine limit bytes line
+  pub whole : text ≡ bytes ++ after
+  pub takes : Takes old new line true

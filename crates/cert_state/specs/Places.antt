@@ -2,7 +2,7 @@
 use Rattle.std.specs.Prelude.{◌≡◌, ℕ, ◌+◌, ◌<◌, ◌≤◌, Some, slice_get}
 use Rattle.solid_data.specs.declared.solid.LoopAt.{LoopAt}
 use Rattle.edge_uses.specs.ShellRows.{ShellRows}
-use Rattle.cert_state.specs.Stand.{point_named}
+use Rattle.cert_state.specs.Progress.{point_named}
 
 abbrev pub IsNamed : LoopAt → ℕ → ℕ → Type 0
 IsNamed at face place = (at.face.0 + 1 ≡ face) × (at.place + 1 ≡ place)

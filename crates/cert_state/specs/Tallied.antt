@@ -4,7 +4,7 @@ use Rattle.edge_uses.specs.Cells.{Celled, cell_of}
 use Rattle.edge_uses.specs.Ranges.{IsWithin, IsSpanOf}
 use Rattle.edge_uses.specs.ShellRows.{ShellRows, AreRows}
 use Rattle.edge_uses.specs.RowRelations.{point_count}
-use Rattle.cert_state.specs.Stand.{start_count}
+use Rattle.cert_state.specs.Progress.{start_count}
 
 -- a count for each of the range of the shell's vertices
 pub record AreCountsOf (count : ℕ → ℕ) (d : ShellRows) (c : Celled ℕ) : Type 0 where

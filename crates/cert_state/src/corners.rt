@@ -5,9 +5,9 @@ ghost use Rattle.solid_data.specs.declared.solid.LoopAt.{LoopAt as LoopPlace};
 ghost use Rattle.edge_uses.specs.declared.row.Row.{Row as AnyRow};
 ghost use Rattle.cert_lines.specs.Line.{corner, point};
 ghost use Rattle.cert_text.specs.Text.{AreNumbers};
-ghost use Rattle.cert_state.specs.Stand.{Stand, vertex_of, FitsPoint};
-ghost use Rattle.cert_state.specs.Kept.{HoldsMates, InFileOrder, corner_size, is_alone};
-ghost use Rattle.cert_state.specs.Ring.{FitsCornerLine, IsCornerText};
+ghost use Rattle.cert_state.specs.Progress.{Progress, vertex_of, FitsPoint};
+ghost use Rattle.cert_state.specs.CheckState.{HoldsMates, InFileOrder, corner_size, is_alone};
+ghost use Rattle.cert_state.specs.Ring.{FitsCornerLine, BeginsWithNumbers, BeginsWithCorner};
 
 use crate::fitting::{is_above, named_row};
 use crate::points::point_place;
@@ -16,19 +16,20 @@ use cert_text::next_number;
 use edge_uses::{Rows, point_at};
 use solid_data::VertexId;
 
-/// The vertex of a corner line that fits after one at the last vertex, where these are the mates; None where the text
-/// isn't the numbers of one.
-pub(crate) fn read_corner(
+/// The vertex of a corner line that fits after one at the last vertex, where these are the mates, and what follows its
+/// numbers, with which the text begins.
+pub(crate) fn read_corner<'t>(
     rows: &Rows,
     sizes: &[u32],
     mates: &[u32],
     last: Option<u32>,
-    text: &[u8],
-) -> Option<VertexId>
+    text: &'t [u8],
+) -> Option<(VertexId, &'t [u8])>
     requires { sizes.now ≡ map (λ (r : AnyRow). corner_size rows.now r.from.0) rows.now.rows }
-    ensures numbers { IfSome result (λ _. IsCornerText text.now) }
-    ensures fits { (at : Stand) (rs : List ℕ) → HoldsMates mates.now at.mates → at.last_vertex ≡ last → AreNumbers text.now rs →
-        MatchOption result (¬ FitsCornerLine rows.now at rs) (λ v. FitsCornerLine rows.now at rs × (vertex_of rows.now (corner rs) ≡ Some v.0)) }
+    ensures numbers { IfSome result (λ p. BeginsWithCorner text.now p.1.now) }
+    ensures fits { (at : Progress) (rs rest : List ℕ) → HoldsMates mates.now at.mates → at.last_vertex ≡ last → BeginsWithNumbers text.now rs rest →
+        MatchOption result (¬ FitsCornerLine rows.now at rs)
+        (λ p. FitsCornerLine rows.now at rs × (vertex_of rows.now (corner rs) ≡ Some p.0.0) × (p.1.now ≡ rest)) }
 {
     let Some((first, others)) = next_number(text) else {
         return None;
@@ -39,11 +40,11 @@ pub(crate) fn read_corner(
     if !is_above(last, row.from.0) {
         return None;
     }
-    let Some(len) = ring_len(rows, mates, first, others) else {
+    let Some((len, rest)) = ring_len(rows, mates, first, others) else {
         return None;
     };
     if sizes[first as usize - 1] as usize == len {
-        Some(row.from)
+        Some((row.from, rest))
     } else {
         None
     }
@@ -58,10 +59,13 @@ pub fn fitting_corner(
     numbers: &[u8],
 ) -> Option<VertexId>
     requires { sizes.now ≡ map (λ (r : AnyRow). corner_size rows.now r.from.0) rows.now.rows }
-    ensures { (at : Stand) (rs : List ℕ) → HoldsMates mates.now at.mates → at.last_vertex ≡ last → AreNumbers numbers.now rs →
+    ensures { (at : Progress) (rs : List ℕ) → HoldsMates mates.now at.mates → at.last_vertex ≡ last → AreNumbers numbers.now rs →
         MatchOption result (¬ FitsCornerLine rows.now at rs) (λ v. FitsCornerLine rows.now at rs × (vertex_of rows.now (corner rs) ≡ Some v.0)) }
 {
-    read_corner(rows, sizes, mates, last, numbers)
+    let Some((vertex, rest)) = read_corner(rows, sizes, mates, last, numbers) else {
+        return None;
+    };
+    if rest.is_empty() { Some(vertex) } else { None }
 }
 
 /// The vertex of a point line that fits after one at the last vertex.
@@ -75,7 +79,7 @@ pub fn fitting_point(
     requires alone { alone.now ≡ map (λ (p : LoopPlace
         × ℕ). is_alone rows.now p.1) rows.now.points }
     requires order { InFileOrder rows.now.points }
-    ensures { (at : Stand) → at.last_vertex ≡ last →
+    ensures { (at : Progress) → at.last_vertex ≡ last →
         MatchOption result (¬ FitsPoint rows.now at face place) (λ v. FitsPoint rows.now at face place × (vertex_of rows.now (point face place) ≡ Some v.0)) }
 {
     let Some(i) = point_place(rows, face, place) else {

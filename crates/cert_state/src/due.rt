@@ -1,8 +1,8 @@
 //! The lines that are due of a shell.
 
 ghost use Rattle.std.specs.Prelude.{◌≡◌, ◌↔◌, ◌<◌, ◌^◌, IsTrue, length};
-ghost use Rattle.cert_state.specs.Stand.{CornerDue, EdgeDue, ReachDue, TallyDue, tallies as tallies_of};
-ghost use Rattle.cert_state.specs.Kept.{all_due, lines_due};
+ghost use Rattle.cert_state.specs.Progress.{CornerDue, EdgeDue, ReachDue, TallyDue, tallies as tallies_of};
+ghost use Rattle.cert_state.specs.CheckState.{all_due, lines_due};
 
 use cert_lines::Version;
 use edge_uses::Rows;

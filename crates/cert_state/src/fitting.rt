@@ -2,10 +2,10 @@
 
 ghost use Rattle.std.specs.Prelude.{◌≡◌, ◌↔◌, ℕ, ◌+◌, ◌-◌, ◌<◌, ◌≤◌, List, IsTrue, IfSome, MatchOption, Some, true, length, slice_get};
 ghost use Rattle.cert_lines.specs.Line.{edge, reach};
-ghost use Rattle.cert_state.specs.Stand.{Stand, row_named, edge_of, face_of, IsAbove, TurnsTo, FitsEdge, FitsReach};
-ghost use Rattle.cert_state.specs.Kept.{mate_in, HoldsMates, HoldsFaces, AreCounts, IsTally};
+ghost use Rattle.cert_state.specs.Progress.{Progress, row_named, edge_of, face_of, IsAbove, TurnsTo, FitsEdge, FitsReach};
+ghost use Rattle.cert_state.specs.CheckState.{mate_in, HoldsMates, HoldsFaces, AreCounts, IsTally};
 
-use cert_lines::{ShellCounts, Tally, from_one};
+use cert_lines::{ShellCounts, TallyCounts, from_one};
 use edge_uses::{Row, Rows};
 use solid_data::{EdgeId, FaceAt, RowId};
 
@@ -31,7 +31,7 @@ pub fn is_above(last: Option<u32>, number: u32) -> bool
 
 /// The edge of an edge line that fits after one of the last edge.
 pub fn fitting_edge(rows: &Rows, last: Option<u32>, along: u32, against: u32) -> Option<EdgeId>
-    ensures { (at : Stand) → at.last_edge ≡ last → MatchOption result (¬ FitsEdge rows.now at along against)
+    ensures { (at : Progress) → at.last_edge ≡ last → MatchOption result (¬ FitsEdge rows.now at along against)
         (λ e. FitsEdge rows.now at along against × (edge_of rows.now (edge along against) ≡ Some e.0)) }
 {
     let Some(first) = named_row(rows, along) else {
@@ -62,7 +62,7 @@ pub(crate) fn fits_counts(rows: &Rows, counts: &ShellCounts) -> bool
 }
 
 /// Whether these are the counts of a shell with so many loops.
-pub(crate) fn fits_tally(rows: &Rows, loops: u64, counts: &Tally) -> bool
+pub(crate) fn fits_tally(rows: &Rows, loops: u64, counts: &TallyCounts) -> bool
     ensures { IsTrue result ↔ IsTally rows.now loops counts.now }
 {
     counts.vertices as usize == rows.vertex_count()
@@ -96,7 +96,7 @@ fn is_reached(reached: &[bool], face: u32) -> bool
 
 /// The face of a reach line that fits where these are the mates and the faces reached.
 pub fn fitting_face(rows: &Rows, mates: &[u32], reached: &[bool], row: u32) -> Option<FaceAt>
-    ensures fits { (at : Stand) → HoldsMates mates.now at.mates → HoldsFaces reached.now at.reached → MatchOption result (¬ FitsReach rows.now at row)
+    ensures fits { (at : Progress) → HoldsMates mates.now at.mates → HoldsFaces reached.now at.reached → MatchOption result (¬ FitsReach rows.now at row)
         (λ f. FitsReach rows.now at row × (face_of rows.now (reach row) ≡ Some f.0)) }
     ensures known { IfSome result (λ f. f.0 < rows.now.face_count) }
 {

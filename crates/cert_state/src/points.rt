@@ -1,8 +1,8 @@
 //! The loops without an edge of a shell, by face and place.
 
 ghost use Rattle.std.specs.Prelude.{◌≡◌, ◌↔◌, ℕ, ◌+◌, ◌<◌, ◌≤◌, IsTrue, MatchOption, None, Some, length, slice_get};
-ghost use Rattle.cert_state.specs.Stand.{point_named};
-ghost use Rattle.cert_state.specs.Kept.{InFileOrder};
+ghost use Rattle.cert_state.specs.Progress.{point_named};
+ghost use Rattle.cert_state.specs.CheckState.{InFileOrder};
 ghost use Rattle.cert_state.specs.Places.{IsNamed, IsBefore, IsNamedAt};
 
 use cert_lines::from_one;

@@ -1,10 +1,9 @@
 //! Whether the rows of a corner line turn to one another.
 
 ghost use Rattle.std.specs.Prelude.{◌≡◌, ◌↔◌, ℕ, ◌<◌, List, ◌∷◌, IsTrue, IfSome, length, MatchOption};
-ghost use Rattle.cert_state.specs.Stand.{TurnsTo};
-ghost use Rattle.cert_text.specs.Text.{AreNumbers, IsSpaced};
-ghost use Rattle.cert_state.specs.Kept.{HoldsMates};
-ghost use Rattle.cert_state.specs.Ring.{IsRing};
+ghost use Rattle.cert_state.specs.Progress.{TurnsTo};
+ghost use Rattle.cert_state.specs.CheckState.{HoldsMates};
+ghost use Rattle.cert_state.specs.Ring.{IsRing, EndsNumbers, BeginsWithNumbers};
 
 use crate::fitting::turn_of;
 use cert_text::next_number;
@@ -29,12 +28,28 @@ fn goes_on(rows: &Rows, mates: &[u32], first: u32, last: u32, next: u32) -> bool
     first < next && turns_to(rows, mates, last, next)
 }
 
-/// How many rows turn to one another from a first one on, back to it, which is the least. The others are numbers of a
-/// text, each after a space; None where the text is anything else.
-pub(crate) fn ring_len(rows: &Rows, mates: &[u32], first: u32, others: &[u8]) -> Option<usize>
-    ensures numbers { IfSome result (λ _. IsSpaced others.now) }
-    ensures ring { (pairs : List (ℕ × ℕ)) (rs : List ℕ) → HoldsMates mates.now pairs → AreNumbers others.now rs →
-        MatchOption result (¬ IsRing rows.now pairs first first rs) (λ n. IsRing rows.now pairs first first rs × (n ≡ length (first ∷ rs))) }
+/// Whether nothing that a line may go on with follows its numbers.
+fn ends_numbers(rest: &[u8]) -> bool
+    ensures { IsTrue result ↔ EndsNumbers rest.now }
+{
+    match rest.first() {
+        Some(byte) => *byte < b' ',
+        None => true,
+    }
+}
+
+/// How many rows turn to one another from a first one on, back to it, which is the least, and what follows them. The
+/// others are the numbers that a text begins with, each after a space.
+pub(crate) fn ring_len<'t>(
+    rows: &Rows,
+    mates: &[u32],
+    first: u32,
+    others: &'t [u8],
+) -> Option<(usize, &'t [u8])>
+    ensures numbers { IfSome result (λ p. (rs : List ℕ) × BeginsWithNumbers others.now rs p.1.now) }
+    ensures ring { (pairs : List (ℕ × ℕ)) (rs rest : List ℕ) → HoldsMates mates.now pairs → BeginsWithNumbers others.now rs rest →
+        MatchOption result (¬ IsRing rows.now pairs first first rs)
+        (λ p. IsRing rows.now pairs first first rs × (p.0 ≡ length (first ∷ rs)) × (p.1.now ≡ rest)) }
 {
     let mut last = first;
     let mut rest = others;
@@ -47,11 +62,11 @@ pub(crate) fn ring_len(rows: &Rows, mates: &[u32], first: u32, others: &[u8]) ->
         rest = after;
         count += 1;
     }
-    if !rest.is_empty() {
+    if !ends_numbers(rest) {
         return None;
     }
     if turns_to(rows, mates, last, first) {
-        Some(count)
+        Some((count, rest))
     } else {
         None
     }

@@ -1,10 +1,11 @@
 //! How far the lines of a shell have come.
 
-use crate::corners::{fitting_point, read_corner};
+use crate::corners::{fitting_corner, fitting_point, read_corner};
 use crate::due::Due;
 use crate::fitting::{fits_counts, fits_tally, fitting_edge, fitting_face};
 use crate::tallies::sizes_of;
-use cert_lines::{ShellCounts, Tally, Version, Words};
+use cert_lines::{ParsedLine, ShellCounts, TallyCounts, Version, leading_edge, leading_reach};
+use cert_text::after_byte;
 use edge_uses::Rows;
 use iges_base::NoMemory;
 use std::alloc::Global;
@@ -33,17 +34,17 @@ pub struct ShellState {
 }
 
 impl Model for ShellState {
-    ghost use Rattle.cert_state.specs.Kept.{KeptShell, IsKept};
+    ghost use Rattle.cert_state.specs.CheckState.{ShellCheckState, IsCheckState};
 
-    ghost Value = { KeptShell };
+    ghost Value = { ShellCheckState };
 
     ghost view = { λ k. record { rows = k.rows; loops = k.loops; sizes = k.sizes.items; alone = k.alone.items; mates = k.mates.items; reached = k.reached.items; due = k.due; last_edge = k.last_edge; last_vertex = k.last_vertex } };
 
-    ghost invariant = { λ k. IsKept (record { rows = k.rows; loops = k.loops; sizes = k.sizes.items; alone = k.alone.items; mates = k.mates.items; reached = k.reached.items; due = k.due; last_edge = k.last_edge; last_vertex = k.last_vertex }) };
+    ghost invariant = { λ k. IsCheckState (record { rows = k.rows; loops = k.loops; sizes = k.sizes.items; alone = k.alone.items; mates = k.mates.items; reached = k.reached.items; due = k.due; last_edge = k.last_edge; last_vertex = k.last_vertex }) };
 }
 
 ghost use Rattle.std.specs.Prelude.{◌≡◌, ◌<◌, IfOk, length, replicate, ◌∷◌, []};
-ghost use Rattle.cert_state.specs.Kept.{HoldsFaces};
+ghost use Rattle.cert_state.specs.CheckState.{HoldsFaces};
 
 // One number for each row: its mate, from 1, or 0 while no line has named one.
 fn no_mates(alloc: Global, rows: usize) -> Result<Vec<u32>, NoMemory>
@@ -64,13 +65,12 @@ fn first_reached(alloc: Global, faces: usize) -> Result<Vec<bool>, NoMemory>
 }
 
 impl ShellState {
-    ghost use Rattle.std.specs.Prelude.{◌≡◌, ◌↔◌, ℕ, ◌+◌, ◌<◌, ◌^◌, List, IsTrue, IfOk, false, length};
+    ghost use Rattle.std.specs.Prelude.{◌≡◌, ◌↔◌, ℕ, ◌+◌, ◌<◌, ◌^◌, List, IsTrue, IfOk, IfNone, IfSome, false, length};
     ghost use Rattle.cert_lines.specs.Line.{CertLine, HasSpelling, edge, corner, point, reach, tally};
     ghost use Rattle.cert_text.specs.Text.{AreNumbers};
-    ghost use Rattle.cert_lines.specs.Said.{Means, IsRowLine};
-    ghost use Rattle.cert_state.specs.Kept.{KeptShell, IsFresh, InFileOrder, AreCounts, IsTally, lines_due};
-    ghost use Rattle.cert_state.specs.Ring.{IsCornerText};
-    ghost use Rattle.cert_state.specs.Matching.{Takes};
+    ghost use Rattle.cert_lines.specs.Parsed.{Means, IsRowLine};
+    ghost use Rattle.cert_state.specs.CheckState.{ShellCheckState, IsFresh, InFileOrder, AreCounts, IsTally, lines_due};
+    ghost use Rattle.cert_state.specs.Matching.{Takes, TakesNext};
 
     /// A shell of which no line was read.
     pub fn of(
@@ -135,9 +135,8 @@ impl ShellState {
         true
     }
 
-    /// Takes the corner line of this text, exactly where it fits.
-    pub fn take_corner(&mut self, text: &[u8]) -> bool
-        ensures numbers { IsTrue result → IsCornerText text.now }
+    // Takes a C line of these numbers, where it fits; else the state stays as it was.
+    fn take_corner(&mut self, text: &[u8]) -> bool
         ensures line { (rs : List ℕ) → AreNumbers text.now rs
             → Takes self.old self.new (corner rs) result }
         ensures due { IsTrue result → lines_due self.new.due + 1 ≡ lines_due self.old.due }
@@ -146,8 +145,13 @@ impl ShellState {
         if !self.due.has_corner() {
             return false;
         }
-        let Some(vertex) = read_corner(&self.rows, &self.sizes, &self.mates, self.last_vertex, text)
-        else {
+        let Some(vertex) = fitting_corner(
+            &self.rows,
+            &self.sizes,
+            &self.mates,
+            self.last_vertex,
+            text,
+        ) else {
             return false;
         };
         self.due.corners -= 1;
@@ -191,7 +195,7 @@ impl ShellState {
     }
 
     // Takes a TALLY line where it is due and its counts are the shell's; else the state stays as it was.
-    fn take_tally(&mut self, counts: &Tally) -> bool
+    fn take_tally(&mut self, counts: &TallyCounts) -> bool
         ensures line { Takes self.old self.new (tally counts.now) result }
         ensures due { IsTrue result → lines_due self.new.due + 1 ≡ lines_due self.old.due }
         ensures refused { result ≡ false → self.new ≡ self.old }
@@ -204,19 +208,97 @@ impl ShellState {
     }
 
     /// Takes an edge, corner, point, reach or TALLY line, exactly where it fits.
-    pub fn take(&mut self, words: Words<'_>) -> bool
+    pub fn take(&mut self, words: ParsedLine<'_>) -> bool
         ensures line { (line : CertLine) → Means words.entry line → HasSpelling line
             → IsRowLine line → Takes self.old self.new line result }
         ensures due { IsTrue result → lines_due self.new.due + 1 ≡ lines_due self.old.due }
         ensures refused { result ≡ false → self.new ≡ self.old }
     {
         match words {
-            Words::Edge(along, against) => self.take_edge(along, against),
-            Words::Corner(numbers) => self.take_corner(numbers),
-            Words::Point(face, place) => self.take_point(face, place),
-            Words::Reach(row) => self.take_reach(row),
-            Words::Tally(counts) => self.take_tally(&counts),
-            Words::Head(_) | Words::Solid(_) | Words::Shell(..) | Words::End => false,
+            ParsedLine::Edge(along, against) => self.take_edge(along, against),
+            ParsedLine::Corner(numbers) => self.take_corner(numbers),
+            ParsedLine::Point(face, place) => self.take_point(face, place),
+            ParsedLine::Reach(row) => self.take_reach(row),
+            ParsedLine::Tally(counts) => self.take_tally(&counts),
+            ParsedLine::Head(_) | ParsedLine::Solid(_) | ParsedLine::Shell(..) | ParsedLine::End =>
+                false,
         }
+    }
+    // Takes the E line at the start of a text, of at most so many bytes, where it fits; else the state stays as it was.
+    fn take_next_edge<'t>(&mut self, text: &'t [u8], limit: usize) -> Option<&'t [u8]>
+        ensures line { IfSome result (λ after. TakesNext self.old self.new limit text.now after.now) }
+        ensures due { IfSome result (λ _. lines_due self.new.due + 1 ≡ lines_due self.old.due) }
+        ensures refused { IfNone result (self.new ≡ self.old) }
+    {
+        let Some((along, against, after)) = leading_edge(text) else {
+            return None;
+        };
+        if text.len() - after.len() > limit || !self.take_edge(along, against) {
+            return None;
+        }
+        Some(after)
+    }
+
+    // Takes the R line at the start of a text, of at most so many bytes, where it fits; else the state stays as it was.
+    fn take_next_reach<'t>(&mut self, text: &'t [u8], limit: usize) -> Option<&'t [u8]>
+        ensures line { IfSome result (λ after. TakesNext self.old self.new limit text.now after.now) }
+        ensures due { IfSome result (λ _. lines_due self.new.due + 1 ≡ lines_due self.old.due) }
+        ensures refused { IfNone result (self.new ≡ self.old) }
+    {
+        let Some((row, after)) = leading_reach(text) else {
+            return None;
+        };
+        if text.len() - after.len() > limit || !self.take_reach(row) {
+            return None;
+        }
+        Some(after)
+    }
+
+    // Takes the C line at the start of a text, of at most so many bytes, where it fits; else the state stays as it was.
+    fn take_next_corner<'t>(&mut self, text: &'t [u8], limit: usize) -> Option<&'t [u8]>
+        ensures line { IfSome result (λ after. TakesNext self.old self.new limit text.now after.now) }
+        ensures due { IfSome result (λ _. lines_due self.new.due + 1 ≡ lines_due self.old.due) }
+        ensures refused { IfNone result (self.new ≡ self.old) }
+    {
+        if !self.due.has_corner() {
+            return None;
+        }
+        let Some(numbers) = after_byte(text, b'C') else {
+            return None;
+        };
+        let Some((vertex, rest)) = read_corner(
+            &self.rows,
+            &self.sizes,
+            &self.mates,
+            self.last_vertex,
+            numbers,
+        ) else {
+            return None;
+        };
+        let Some(after) = after_byte(rest, b'\n') else {
+            return None;
+        };
+        if text.len() - after.len() > limit {
+            return None;
+        }
+        self.due.corners -= 1;
+        self.last_vertex = Some(vertex.0);
+        Some(after)
+    }
+
+    /// Takes the edge, corner or reach line at the start of a text, of at most so many bytes, where it fits, and gives
+    /// what follows it. Else the state stays as it was, though the line may fit.
+    pub fn take_next<'t>(&mut self, text: &'t [u8], limit: usize) -> Option<&'t [u8]>
+        ensures line { IfSome result (λ after. TakesNext self.old self.new limit text.now after.now) }
+        ensures due { IfSome result (λ _. lines_due self.new.due + 1 ≡ lines_due self.old.due) }
+        ensures refused { IfNone result (self.new ≡ self.old) }
+    {
+        if let Some(after) = self.take_next_edge(text, limit) {
+            return Some(after);
+        }
+        if let Some(after) = self.take_next_corner(text, limit) {
+            return Some(after);
+        }
+        self.take_next_reach(text, limit)
     }
 }

@@ -6,7 +6,7 @@ ghost use Rattle.edge_uses.specs.declared.row.Row.{Row as AnyRow};
 ghost use Rattle.edge_uses.specs.Cells.{cell_of, with_cell};
 ghost use Rattle.edge_uses.specs.Ranges.{IsWithin};
 ghost use Rattle.edge_uses.specs.ShellRows.{ShellRows};
-ghost use Rattle.cert_state.specs.Kept.{corner_size, is_alone};
+ghost use Rattle.cert_state.specs.CheckState.{corner_size, is_alone};
 ghost use Rattle.cert_state.specs.Tallied.{AreStarts, ArePoints};
 ghost use Rattle.solid_data.specs.declared.TheConstants.{PART_LIMIT};
 

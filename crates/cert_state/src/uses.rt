@@ -5,7 +5,7 @@ ghost use Rattle.solid_data.specs.SolidData.{shell_uses};
 ghost use Rattle.cert_lines.specs.Line.{line_limit};
 ghost use Rattle.std.specs.Prelude.{Some, sum_by};
 ghost use Rattle.solid_data.specs.declared.solid.FaceUse.{FaceUse as Face};
-ghost use Rattle.cert_state.specs.Stand.{loops_of};
+ghost use Rattle.cert_state.specs.Progress.{loops_of};
 ghost use Rattle.cert_state.specs.Uses.{loops_size, faces_size};
 ghost use Rattle.solid_data.specs.declared.TheConstants.{PART_LIMIT};
 

@@ -8,5 +8,5 @@ mod writing;
 
 pub use fault::{Illegal, Misfit};
 pub use number::{are_numbers, next_number, one_number, two_numbers};
-pub use words::{after_word, is_word};
+pub use words::{after_byte, after_word, is_word};
 pub use writing::{put_line, put_numbers};

@@ -19,9 +19,9 @@ use Rattle.cert_text.specs.declared.fault.Illegal.{Illegal}
 use Rattle.cert_lines.specs.declared.version.Version.TheVariants.{One, Two, Three}
 use Rattle.cert_lines.proofs.CutLines.{cut_spelled}
 use Rattle.topo_certificate.specs.declared.TheConstants.{CERT_LIMIT}
-use Rattle.cert_state.specs.Stand.{stand_after, FitsLine}
+use Rattle.cert_state.specs.Progress.{progress_after, FitsLine}
 use Rattle.topo_certificate.specs.Legal.{AreFitting, IsLegal, IsPartBad}
-use Rattle.topo_certificate.specs.Feeding.{FedKept}
+use Rattle.topo_certificate.specs.Feeding.{FedState}
 use Rattle.topo_certificate.specs.PartEnds.{EndsPart}
 use Rattle.topo_certificate.specs.Upgraded.{starts_with, upgraded}
 use Rattle.topo_certificate.proofs.Forward.{fitting_more}
@@ -81,7 +81,7 @@ legal_last s lines h = zip_last (line_limit s) lines h.before (subst (AllZip (Is
 end_line : (s : SolidData) → IsLine (line_limit s) (spelling end) end
 end_line s = (omega arith, (tt, refl))
 
-legal_with_end : (s : SolidData) (lines : List (List ℕ)) (read : List CertLine) → AreFitting Two s lines read → FitsLine s (stand_after Two s read) end
+legal_with_end : (s : SolidData) (lines : List (List ℕ)) (read : List CertLine) → AreFitting Two s lines read → FitsLine s (progress_after Two s read) end
     → IsLegal Two s (lines ++ spelling end ∷ [])
 legal_with_end s lines read fitting fits = record {
   read = read ++ end ∷ [];
@@ -114,13 +114,13 @@ cut_two a b first second h k =
     ∙ ap (λ (l : List ℕ). first ∷ l ∷ []) (sym k.1)
 
 -- no more lines than bytes come
-pub lines_more : (s : SolidData) (line : ℕ) (more : List ℕ) (m l : ℕ) (c : FedKept) → EndsPart Two s line more m l c → l ≤ line + length more
+pub lines_more : (s : SolidData) (line : ℕ) (more : List ℕ) (m l : ℕ) (c : FedState) → EndsPart Two s line more m l c → l ≤ line + length more
 lines_more s line more m l c e =
     let number = e.number in
     let same = zip_length (line_limit s) e.good e.read e.fitting.spelled in
     omega (arith, number, same, some_bytes more e.good e.bytes e.cut)
 
-pub some_more : (s : SolidData) (line : ℕ) (more : List ℕ) (m l : ℕ) (c : FedKept) → EndsPart Two s line more m l c → 0 < length more
+pub some_more : (s : SolidData) (line : ℕ) (more : List ℕ) (m l : ℕ) (c : FedState) → EndsPart Two s line more m l c → 0 < length more
 some_more s line more m l c e = omega (arith, some_bytes more e.good e.bytes e.cut)
 
 -- ---- how a book goes on
@@ -187,7 +187,7 @@ module _ (f : Contents) (ns : List ℕ) (text : List ℕ) (n line : ℕ) (h : Be
       → IsGoodPart f (part n h.first further)
   good_part further holds legal = record { names = h.names; certified = checked_certified Two f n (further ++ spelling end ∷ []) holds legal }
 
-  lines_behind : (more rest : List ℕ) (m l : ℕ) (c : FedKept) (e : EndsPart Two (solid_of f n) line more m l c) → all ++ h.first ∷ cut_lines (more ++ rest)
+  lines_behind : (more rest : List ℕ) (m l : ℕ) (c : FedState) (e : EndsPart Two (solid_of f n) line more m l c) → all ++ h.first ∷ cut_lines (more ++ rest)
       ≡ flat_map part_lines (h.parts ++ part n h.first e.good ∷ []) ++ e.bytes ∷ cut_lines rest
   lines_behind more rest m l c e =
       let is : e.bytes ≡ words (solid m) ++ 10 ∷ [] = e.names.1.1 in
@@ -204,7 +204,7 @@ module _ (f : Contents) (ns : List ℕ) (text : List ℕ) (n line : ℕ) (h : Be
       ∙ (let one : length all + suc (length further) ≡ length all + (1 + length further) = omega arith in one)
 
   -- the next part has begun behind the bytes that end with its first line
-  pub part_goes_on : AllHold (checked f n) → (more : List ℕ) (m l : ℕ) (c : FedKept) → EndsPart Two (solid_of f n) line more m l c
+  pub part_goes_on : AllHold (checked f n) → (more : List ℕ) (m l : ℕ) (c : FedState) → EndsPart Two (solid_of f n) line more m l c
       → BeginsPart f (ns ++ n ∷ []) (text ++ more) m l
   part_goes_on holds more m l c e = record {
     parts = h.parts ++ part n h.first e.good ∷ [];

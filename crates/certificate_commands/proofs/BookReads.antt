@@ -10,31 +10,31 @@ use Rattle.iges_io.proofs.Streams.{consumes_none, consumes_more, takes_more}
 use Rattle.solid_data.specs.SolidData.{SolidData}
 use Rattle.cert_lines.specs.declared.version.Version.{Version}
 use Rattle.topo_certificate.specs.declared.TheConstants.{CERT_LIMIT}
-use Rattle.topo_certificate.specs.Feeding.{FedKept, IsFedPart}
+use Rattle.topo_certificate.specs.Feeding.{FedState, IsFedPart}
 use Rattle.topo_certificate.specs.PartEnds.{EndsPart}
 use Rattle.certificate_commands.specs.declared.books.NextSolid.{NextSolid}
-use Rattle.certificate_commands.specs.declared.books.Begun.{Begun}
+use Rattle.certificate_commands.specs.declared.books.PartStart.{PartStart}
 use Rattle.certificate_commands.specs.Judging.{HasTooMany}
 use Rattle.certificate_commands.specs.Books.{IsInPart, WasFed, IsNextBegun, IsPartLast}
 use Rattle.certificate_commands.proofs.FirstLines.{cut_piece}
 
 -- what a call of the feeding says of the checker, before and after it
-abbrev pub Feeds : List ℕ → FedKept → FedKept → Option NextSolid → Type 0
+abbrev pub Feeds : List ℕ → FedState → FedState → Option NextSolid → Type 0
 Feeds piece old new result =
     (v : Version) (s : SolidData) (first : ℕ) (text : List ℕ) → IsFedPart v s first text old → MatchOption result
     (IsFedPart v s first (text ++ piece) new)
     (λ next. (next.used ≤ length piece) × EndsPart v s first (text ++ take next.used piece) next.no.0 next.line new)
 
-pub feeds_within : (piece : List ℕ) (old new : FedKept) (result : Option NextSolid) → IsInPart old → Feeds piece old new result
+pub feeds_within : (piece : List ℕ) (old new : FedState) (result : Option NextSolid) → IsInPart old → Feeds piece old new result
     → IfSome result (λ next. next.used ≤ length piece)
 feeds_within piece old new None begun says = tt
 feeds_within piece old new (Some next) (v, s, first, text, fed) says = (says v s first text fed).0
 
-pub in_part_more : (piece : List ℕ) (old new : FedKept) → IsInPart old → Feeds piece old new None → IsInPart new
+pub in_part_more : (piece : List ℕ) (old new : FedState) → IsInPart old → Feeds piece old new None → IsInPart new
 in_part_more piece old new (v, s, first, text, fed) says = (v, s, first, text ++ piece, says v s first text fed)
 
 -- so many bytes have come; of those of the part this text was fed, and these are ahead in the buffer
-pub record ReadsPart (before now : Option (List ℕ)) (came : ℕ) (there ahead : List ℕ) (so_far : ℕ) (old new : FedKept) : Type 0 where
+pub record ReadsPart (before now : Option (List ℕ)) (came : ℕ) (there ahead : List ℕ) (so_far : ℕ) (old new : FedState) : Type 0 where
   pub text : List ℕ
   pub bytes : List ℕ
   pub taken : Consumes before now bytes
@@ -45,11 +45,11 @@ pub record ReadsPart (before now : Option (List ℕ)) (came : ℕ) (there ahead 
 abbrev pub between : List ℕ → ℕ → ℕ → List ℕ
 between buffer from to = take (to - from) (drop from buffer)
 
-pub reads_none : (left : Option (List ℕ)) (came : ℕ) (there : List ℕ) (c : FedKept) → ReadsPart left left came there there came c c
+pub reads_none : (left : Option (List ℕ)) (came : ℕ) (there : List ℕ) (c : FedState) → ReadsPart left left came there there came c c
 reads_none left came there c =
     record { text = []; bytes = []; taken = consumes_none left; long = omega arith; whole = sym (append-nil there); fed = λ v s first h. h }
 
-module _ (a b c : Option (List ℕ)) (came so_far : ℕ) (there ahead : List ℕ) (old mid new : FedKept) (r : ReadsPart a b came there ahead so_far old mid)
+module _ (a b c : Option (List ℕ)) (came so_far : ℕ) (there ahead : List ℕ) (old mid new : FedState) (r : ReadsPart a b came there ahead so_far old mid)
     (says : Feeds ahead mid new None) where
   all_fed : WasFed old (r.text ++ ahead) new
   all_fed v s first h = says v s first r.text (r.fed v s first h)
@@ -89,7 +89,7 @@ module _ (a b c : Option (List ℕ)) (came so_far : ℕ) (there ahead : List ℕ
       )
 
 -- a read past the limit took at most a buffer more
-pub reads_past : (a b c : Option (List ℕ)) (came so_far : ℕ) (there ahead buffer : List ℕ) (old mid : FedKept) → ReadsPart a b came there ahead so_far old mid
+pub reads_past : (a b c : Option (List ℕ)) (came so_far : ℕ) (there ahead buffer : List ℕ) (old mid : FedState) → ReadsPart a b came there ahead so_far old mid
     → so_far ≤ CERT_LIMIT → (x : List ℕ) → Consumes b c x → length x ≤ length buffer → length buffer ≡ PIECE
     → TakesAtMost ((CERT_LIMIT - came) + PIECE) a c
 reads_past a b c came so_far there ahead buffer old mid r few x k short is =
@@ -108,7 +108,7 @@ behind_used buffer from to used h k =
     (ap (λ (m : ℕ). take m (drop used (drop from buffer))) n ∙ ap (λ (l : List ℕ). take (to - (from + used)) l) (drop-drop used from buffer)))
     ∙ cut_piece (drop from buffer) (between buffer from to) used (to - from) k refl
 
-pub reads_next : (a b : Option (List ℕ)) (came so_far from to : ℕ) (there buffer : List ℕ) (old mid new : FedKept) (next : NextSolid) (begun : Begun)
+pub reads_next : (a b : Option (List ℕ)) (came so_far from to : ℕ) (there buffer : List ℕ) (old mid new : FedState) (next : NextSolid) (begun : PartStart)
     → ReadsPart a b came there (between buffer from to) so_far old mid → Feeds (between buffer from to) mid new (Some next)
     → next.used ≤ length (between buffer from to)
     → so_far ≤ CERT_LIMIT → from ≤ to → to ≤ length buffer

@@ -12,14 +12,14 @@ use Rattle.cert_lines.specs.Opening.{Opens, IsHeaded}
 use Rattle.cert_text.specs.declared.fault.Illegal.{Illegal}
 use Rattle.cert_lines.specs.declared.version.Version.TheVariants.{Two, Three}
 use Rattle.topo_certificate.specs.declared.TheConstants.{CERT_LIMIT}
-use Rattle.topo_certificate.specs.Feeding.{FedKept, IsFedPart}
+use Rattle.topo_certificate.specs.Feeding.{FedState, IsFedPart}
 use Rattle.topo_certificate.specs.Legal.{IsLegal, IsPartBad}
 use Rattle.topo_certificate.specs.PartEnds.{EndsPart}
 use Rattle.cert_accept.specs.Accepted.{part_lines}
 use Rattle.command_replies.specs.declared.answer.Answer.{Answer}
 use Rattle.command_replies.specs.declared.answer.Answer.TheVariants.{Done, No, TooLarge}
 use Rattle.certificate_commands.specs.declared.books.NextSolid.{NextSolid}
-use Rattle.certificate_commands.specs.declared.books.Begun.{Begun}
+use Rattle.certificate_commands.specs.declared.books.PartStart.{PartStart}
 use Rattle.command_replies.specs.declared.reply.Reply.{Reply}
 use Rattle.command_replies.specs.Texts.{accepted_lines, illegal_line, solid_fail_text}
 use Rattle.command_replies.specs.Due.{Exactly, Owed, OfText}
@@ -37,7 +37,7 @@ used_length n xs few = omega (arith, few, length-take n xs)
 
 -- ---- a book that is held whole
 
-pub held_steps : (s : SolidData) (line : ℕ) (rest : List ℕ) (next : NextSolid) (c : FedKept)
+pub held_steps : (s : SolidData) (line : ℕ) (rest : List ℕ) (next : NextSolid) (c : FedState)
     → (next.used ≤ length rest) × EndsPart Two s line ([] ++ take next.used rest) next.no.0 next.line c → (0 < next.used) × (next.used ≤ length rest)
     × (next.line ≤ line + next.used)
 held_steps s line rest next c (within, ends) =
@@ -56,7 +56,7 @@ module _ (f : Contents) (certificate : List ℕ) (ns front : List ℕ) (n line :
       subst (λ (c : List ℕ). OfCertificate Ups c f reply.answer reply.text) (sym whole)
       (fails_owed f ns front n line begins Ups rest (subst (λ (c : List ℕ). length c ≤ CERT_LIMIT) whole few) reply.answer reply.text x first exact)
 
-  pub held_next : (s : SolidData) (next : NextSolid) (c : FedKept) → certificate ≡ front ++ rest → BeginsPart f ns front n line → IsChecked f n s
+  pub held_next : (s : SolidData) (next : NextSolid) (c : FedState) → certificate ≡ front ++ rest → BeginsPart f ns front n line → IsChecked f n s
       → (next.used ≤ length rest) × EndsPart Two s line ([] ++ take next.used rest) next.no.0 next.line c
       → (after : List ℕ) × (certificate ≡ after ++ drop next.used rest) × BeginsPart f (ns ++ n ∷ []) after next.no.0 next.line
   held_next s next c whole begins k (within, ends) = (
@@ -106,7 +106,7 @@ rest_behind f certificate ns n line rest next few (front, whole, begins) (some, 
 
 -- ---- a book that comes in pieces
 
-module _ (f : Contents) (ns : List ℕ) (before left : Option (List ℕ)) (buffer : List ℕ) (b : Begun) (h : HasBegun f ns before left buffer b) where
+module _ (f : Contents) (ns : List ℕ) (before left : Option (List ℕ)) (buffer : List ℕ) (b : PartStart) (h : HasBegun f ns before left buffer b) where
   -- what is checked of the solid fails
   pub refused_part : (reply : Reply) → TellsFalse (solid_fail_text b.no.0) f b.no.0 reply → IsDecided f (h.front ++ held buffer b) reply
   refused_part reply (x, first, exact) more few =
@@ -115,9 +115,9 @@ module _ (f : Contents) (ns : List ℕ) (before left : Option (List ℕ)) (buffe
       (fails_owed f ns h.front b.no.0 b.line h.begins OfYes (held buffer b ++ more) (subst (λ (c : List ℕ). length c ≤ CERT_LIMIT) same few) reply.answer
       reply.text x first exact)
 
-  module _ (after : Option (List ℕ)) (s : SolidData) (k : IsChecked f b.no.0 s) (old new : FedKept) (fed : IsFedPart Two s b.line [] old) where
+  module _ (after : Option (List ℕ)) (s : SolidData) (k : IsChecked f b.no.0 s) (old new : FedState) (fed : IsFedPart Two s b.line [] old) where
     -- the next part has begun
-    pub next_part : (now : List ℕ) (next : Begun) → IsNextBegun left after b.came (held buffer b) now old new next
+    pub next_part : (now : List ℕ) (next : PartStart) → IsNextBegun left after b.came (held buffer b) now old new next
         → HasBegun f (ns ++ b.no.0 ∷ []) before after now next
     next_part now next m =
         let long = h.long in
@@ -179,7 +179,7 @@ module _ (f : Contents) (ns : List ℕ) (before left : Option (List ℕ)) (buffe
       exact
 
 -- how far the reading has come
-pub next_goes_on : (before after : Option (List ℕ)) (buffer now : List ℕ) (b next : Begun) (s : SolidData) (old new : FedKept) → IsPlace buffer b
+pub next_goes_on : (before after : Option (List ℕ)) (buffer now : List ℕ) (b next : PartStart) (s : SolidData) (old new : FedState) → IsPlace buffer b
     → IsFedPart Two s b.line [] old → IsNextBegun before after b.came (held buffer b) now old new next → GoesOn before after now b next
 next_goes_on before after buffer now b next s old new place fed m =
     let ends = m.ends Two s b.line fed in
@@ -206,6 +206,6 @@ next_goes_on before after buffer now b next s old new place fed m =
       came = came;
     }
 
-pub last_takes : (before after : Option (List ℕ)) (came : ℕ) (there : List ℕ) (old new : FedKept) → IsPartLast before after came there old new
+pub last_takes : (before after : Option (List ℕ)) (came : ℕ) (there : List ℕ) (old new : FedState) → IsPartLast before after came there old new
     → TakesAtMost (CERT_LIMIT - came) before after
 last_takes before after came there old new m = let few = m.few in (m.bytes, m.taken, (let n : length m.bytes ≤ CERT_LIMIT - came = omega (arith, few) in n))

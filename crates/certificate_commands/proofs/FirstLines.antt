@@ -10,22 +10,23 @@ use Rattle.topo_certificate.specs.declared.TheConstants.{CERT_LIMIT}
 use Rattle.topo_certificate.specs.declared.opening.Stage.{Stage}
 use Rattle.topo_certificate.specs.declared.opening.Stage.TheVariants as stage
 use Rattle.topo_certificate.specs.OpeningFed.{Shows, IsOpening, IsWaiting}
-use Rattle.topo_certificate.specs.OpeningFed.{Opened as Kept}
+use Rattle.topo_certificate.specs.OpeningFed.{Opened as OpeningState}
 use Rattle.certificate_commands.specs.declared.opening.Opened.{Opened}
 use Rattle.certificate_commands.specs.Judging.{HasTooMany, HasOpened, HasOpenedBadly, EndsEarly}
 
 -- so many bytes were taken off, and the opening stands for them
-pub record IsOpenedSoFar (before now : Option (List ℕ)) (came : ℕ) (o : Kept) : Type 0 where
+pub record IsOpenedSoFar (before now : Option (List ℕ)) (came : ℕ) (o : OpeningState) : Type 0 where
   pub bytes : List ℕ
   pub taken : Consumes before now bytes
   pub long : length bytes ≡ came
   pub waits : IsWaiting o.stage
   pub stands : IsOpening o bytes
 
-pub opened_none : (left : Option (List ℕ)) (o : Kept) → IsWaiting o.stage → IsOpening o [] → IsOpenedSoFar left left 0 o
+pub opened_none : (left : Option (List ℕ)) (o : OpeningState) → IsWaiting o.stage → IsOpening o [] → IsOpenedSoFar left left 0 o
 opened_none left o waits stands = record { bytes = []; taken = consumes_none left; long = refl; waits = waits; stands = stands }
 
-pub opened_more : (a b c : Option (List ℕ)) (came count : ℕ) (old new : Kept) (x : List ℕ) (s : IsOpenedSoFar a b came old) → Consumes b c x → length x ≡ count
+pub opened_more : (a b c : Option (List ℕ)) (came count : ℕ) (old new : OpeningState) (x : List ℕ) (s : IsOpenedSoFar a b came old) → Consumes b c x
+    → length x ≡ count
     → IsWaiting new.stage → IsOpening new (s.bytes ++ x) → IsOpenedSoFar a c (came + count) new
 opened_more a b c came count old new x s k is waits stands =
     let long = s.long in
@@ -37,7 +38,8 @@ opened_more a b c came count old new x s k is waits stands =
       stands = stands;
     }
 
-pub opened_early : (a b c : Option (List ℕ)) (came : ℕ) (o : Kept) (bad : Illegal) → IsOpenedSoFar a b came o → came ≤ CERT_LIMIT → Consumes b c [] → IsAtEnd c
+pub opened_early : (a b c : Option (List ℕ)) (came : ℕ) (o : OpeningState) (bad : Illegal) → IsOpenedSoFar a b came o → came ≤ CERT_LIMIT → Consumes b c []
+    → IsAtEnd c
     → ((text : List ℕ) → IsOpening o text → IsBadOpening text bad) → EndsEarly a c bad
 opened_early a b c came o bad s few k e wrong =
     let long = s.long in
@@ -49,7 +51,8 @@ opened_early a b c came o bad s few k e wrong =
       wrong = wrong s.bytes s.stands;
     }
 
-pub opened_too_many : (a b c : Option (List ℕ)) (came : ℕ) (o : Kept) (x : List ℕ) → IsOpenedSoFar a b came o → Consumes b c x → CERT_LIMIT < came + length x
+pub opened_too_many : (a b c : Option (List ℕ)) (came : ℕ) (o : OpeningState) (x : List ℕ) → IsOpenedSoFar a b came o → Consumes b c x
+    → CERT_LIMIT < came + length x
     → HasTooMany a c 0
 opened_too_many a b c came o x s k above =
     let long = s.long in (
@@ -59,10 +62,11 @@ opened_too_many a b c came o x s k above =
     )
 
 -- what a stage shows
-shows : (o : Kept) (s : Stage) (text : List ℕ) → o.stage ≡ s → IsOpening o text → Shows s o.kept text
+shows : (o : OpeningState) (s : Stage) (text : List ℕ) → o.stage ≡ s → IsOpening o text → Shows s o.kept text
 shows o s text is h = subst (λ (x : Stage). Shows x o.kept text) is h
 
-pub opened_bad : (a b c : Option (List ℕ)) (came count : ℕ) (old new : Kept) (x : List ℕ) (bad : Illegal) (s : IsOpenedSoFar a b came old) → Consumes b c x
+pub opened_bad : (a b c : Option (List ℕ)) (came count : ℕ) (old new : OpeningState) (x : List ℕ) (bad : Illegal) (s : IsOpenedSoFar a b came old)
+    → Consumes b c x
     → length x ≡ count → came + count ≤ CERT_LIMIT → new.stage ≡ stage.Failed bad → IsOpening new (s.bytes ++ x)
     → HasOpenedBadly a c bad (came + count)
 opened_bad a b c came count old new x bad s k is few failed stands =
@@ -82,7 +86,8 @@ cut_piece buffer x from to h is =
     let front : take from x ≡ take from buffer = ap (λ (l : List ℕ). take from l) is ∙ take-take from to buffer h in
     ap (λ (l : List ℕ). l ++ take (to - from) (drop from buffer)) front ∙ sym (take-add from (to - from) buffer) ∙ ap (λ (k : ℕ). take k buffer) n ∙ sym is
 
-pub opened_both : (a b c : Option (List ℕ)) (came : ℕ) (old new : Kept) (buffer x : List ℕ) (o : Opened) (s : IsOpenedSoFar a b came old) → Consumes b c x
+pub opened_both : (a b c : Option (List ℕ)) (came : ℕ) (old new : OpeningState) (buffer x : List ℕ) (o : Opened) (s : IsOpenedSoFar a b came old)
+    → Consumes b c x
     → x ≡ take o.to buffer → length x ≡ o.to → o.came ≡ came + o.to → o.came ≤ CERT_LIMIT → o.to ≤ length buffer → o.from ≤ length x
     → new.stage ≡ stage.Done o.version o.no → IsOpening new (s.bytes ++ take o.from x) → HasOpened a c buffer o
 opened_both a b c came old new buffer x o s k at is come few within used done stands =

@@ -15,12 +15,12 @@ use Rattle.cert_lines.specs.declared.version.Version.{Version}
 use Rattle.cert_lines.specs.declared.version.Version.TheVariants.{Three}
 use Rattle.topo_certificate.specs.declared.TheConstants.{CERT_LIMIT}
 use Rattle.topo_certificate.specs.Legal.{IsLegal, IsFirstBad}
-use Rattle.topo_certificate.specs.Feeding.{FedKept, IsFed}
+use Rattle.topo_certificate.specs.Feeding.{FedState, IsFed}
 use Rattle.command_replies.specs.declared.answer.Answer.TheVariants.{Done, No, TooLarge}
 use Rattle.command_replies.specs.declared.reply.Reply.{Reply}
 use Rattle.certificate_commands.specs.declared.opening.Opened.{Opened}
 use Rattle.command_replies.specs.Texts.{accepted_line, accepted_lines, fail_line, illegal_line}
-use Rattle.certificate_commands.specs.declared.books.Begun.{Begun}
+use Rattle.certificate_commands.specs.declared.books.PartStart.{PartStart}
 use Rattle.command_replies.specs.Due.{Owed, Exactly}
 use Rattle.command_replies.proofs.Owing.{owed_so}
 use Rattle.certificate_commands.specs.Due.{OfCertificate, certificate_too_large, opening_bad, OfVerify}
@@ -44,7 +44,7 @@ accepted_more ns n = flat_map-append accepted_line ns (n ∷ []) ∙ ap (λ (t :
 
 -- ---- more of the text
 
-pub checked_more : (f : Contents) (n : ℕ) (text piece : List ℕ) (old new : FedKept)
+pub checked_more : (f : Contents) (n : ℕ) (text piece : List ℕ) (old new : FedState)
     → ((v : Version) (s : SolidData) (first : ℕ) (t : List ℕ) → IsFed v s first t old → IsFed v s first (t ++ piece) new) → HasChecked f n text old
     → HasChecked f n (text ++ piece) new
 checked_more f n text piece old new fed h = record {
@@ -61,14 +61,14 @@ checked_more f n text piece old new fed h = record {
 -- ---- the reply
 
 -- what a checker says at the end of the lines that it was fed
-abbrev pub Says : FedKept → Result (Unit {0}) Illegal → Type 0
+abbrev pub Says : FedState → Result (Unit {0}) Illegal → Type 0
 Says c r = (v : Version) (s : SolidData) (first : ℕ) (text : List ℕ) → IsFed v s first text c
     → MatchResult r (λ _. IsLegal v s (cut_lines text)) (λ bad. IsFirstBad v s first (cut_lines text) bad)
 
-checked_opens : (f : Contents) (n : ℕ) (text : List ℕ) (c : FedKept) (h : HasChecked f n text c) → Opens text h.version n (cut_lines h.rest)
+checked_opens : (f : Contents) (n : ℕ) (text : List ℕ) (c : FedState) (h : HasChecked f n text c) → Opens text h.version n (cut_lines h.rest)
 checked_opens f n text c h = subst (λ (t : List ℕ). Opens t h.version n (cut_lines h.rest)) (sym h.whole) (h.opens h.rest)
 
-pub accepted_reply : (f : Contents) (n : ℕ) (text : List ℕ) (c : FedKept) (reply : Reply)
+pub accepted_reply : (f : Contents) (n : ℕ) (text : List ℕ) (c : FedState) (reply : Reply)
     → ((v : Version) (t : List ℕ) → IsFed v (solid_of f n) 3 t c → IsLegal v (solid_of f n) (cut_lines t))
     → (reply.answer ≡ Done) × (reply.text ≡ accepted_line n) → HasChecked f n text c → length text ≤ CERT_LIMIT
     → OfVerify text f reply.answer reply.text
@@ -76,7 +76,7 @@ accepted_reply f n text c reply legal exact h few =
     legal_owed OfYes f text h.version n (cut_lines h.rest) reply.answer reply.text few (checked_opens f n text c h) h.one h.holds
     (legal h.version h.rest h.fed) (exact.0, exact.1 ∙ sym (one_accepted n))
 
-pub illegal_reply : (f : Contents) (n : ℕ) (text : List ℕ) (c : FedKept) (bad : Illegal) (reply : Reply)
+pub illegal_reply : (f : Contents) (n : ℕ) (text : List ℕ) (c : FedState) (bad : Illegal) (reply : Reply)
     → ((v : Version) (t : List ℕ) → IsFed v (solid_of f n) 3 t c → IsFirstBad v (solid_of f n) 3 (cut_lines t) bad)
     → (reply.answer ≡ No) × (reply.text ≡ illegal_line bad) → HasChecked f n text c
     → length text ≤ CERT_LIMIT → OfVerify text f reply.answer reply.text
@@ -120,15 +120,15 @@ module _ (a b c : Option (List ℕ)) (came so_far : ℕ) (s : IsReadSoFar a b ca
       )
 
 -- the same, and the checker was fed them
-pub record IsFedSoFar (before now : Option (List ℕ)) (came so_far : ℕ) (old new : FedKept) : Type 0 where
+pub record IsFedSoFar (before now : Option (List ℕ)) (came so_far : ℕ) (old new : FedState) : Type 0 where
   pub read : IsReadSoFar before now came so_far
   pub fed : (v : Version) (s : SolidData) (first : ℕ) (text : List ℕ) → IsFed v s first text old → IsFed v s first (text ++ read.bytes) new
 
-pub fed_none : (left : Option (List ℕ)) (came : ℕ) (k : FedKept) → IsFedSoFar left left came came k k
+pub fed_none : (left : Option (List ℕ)) (came : ℕ) (k : FedState) → IsFedSoFar left left came came k k
 fed_none left came k = record { read = read_none left came; fed = λ v s first text h. subst (λ (t : List ℕ). IsFed v s first t k) (sym (append-nil text)) h }
 
-module _ (a b c : Option (List ℕ)) (came so_far : ℕ) (old mid : FedKept) (r : IsFedSoFar a b came so_far old mid) where
-  pub fed_more : (new : FedKept) (count : ℕ) (x : List ℕ) → Consumes b c x → length x ≡ count
+module _ (a b c : Option (List ℕ)) (came so_far : ℕ) (old mid : FedState) (r : IsFedSoFar a b came so_far old mid) where
+  pub fed_more : (new : FedState) (count : ℕ) (x : List ℕ) → Consumes b c x → length x ≡ count
       → ((v : Version) (s : SolidData) (first : ℕ) (text : List ℕ) → IsFed v s first text mid → IsFed v s first (text ++ x) new)
       → IsFedSoFar a c came (so_far + count) old new
   fed_more new count x k is next = record {
@@ -172,7 +172,7 @@ decided_owed f a b c text came reply k long decided rest =
       owed = decided rest.bytes (omega (arith, long, few, length-append text rest.bytes));
     }
 
-pub rest_owed : (f : Contents) (a b c : Option (List ℕ)) (text : List ℕ) (came n : ℕ) (old new : FedKept) (reply : Reply) → Consumes a b text
+pub rest_owed : (f : Contents) (a b c : Option (List ℕ)) (text : List ℕ) (came n : ℕ) (old new : FedState) (reply : Reply) → Consumes a b text
     → length text ≡ came → HasChecked f n text old → IsRestFed b c came old new
     → ((f : Contents) (text : List ℕ) → HasChecked f n text new → length text ≤ CERT_LIMIT → OfVerify text f reply.answer reply.text)
     → IsReply (λ certificate. OfVerify certificate f) a reply
@@ -208,7 +208,7 @@ refusal_decides f a b buffer o reply h one (x, first, exact) more few =
     (false_owed OfYes f (h.front ++ (h.rest ++ more)) o.version o.no.0 (cut_lines (h.rest ++ more)) reply.answer reply.text
     (subst (λ (c : List ℕ). length c ≤ CERT_LIMIT) same few) (h.opens (h.rest ++ more)) one x first exact)
 
-pub lines_judged : (f : Contents) (a b : Option (List ℕ)) (buffer : List ℕ) (o : Opened) (c : FedKept) (h : HasOpened a b buffer o) → IsOfOne o.version
+pub lines_judged : (f : Contents) (a b : Option (List ℕ)) (buffer : List ℕ) (o : Opened) (c : FedState) (h : HasOpened a b buffer o) → IsOfOne o.version
     → (s : SolidData) → IsChecked f o.no.0 s → IsFed o.version s 3 h.rest c → HasChecked f o.no.0 (h.front ++ h.rest) c
 lines_judged f a b buffer o c h one s k fed = record {
   version = o.version;
@@ -222,7 +222,7 @@ lines_judged f a b buffer o c h one s k fed = record {
 }
 
 -- the first part of a book has begun
-pub opened_begun : (f : Contents) (a b : Option (List ℕ)) (buffer : List ℕ) (o : Opened) (begun : Begun) → HasOpened a b buffer o → o.version ≡ Three
+pub opened_begun : (f : Contents) (a b : Option (List ℕ)) (buffer : List ℕ) (o : Opened) (begun : PartStart) → HasOpened a b buffer o → o.version ≡ Three
     → begun ≡ (record { no = o.no; line = 3; from = o.from; to = o.to; came = o.came }) → HasBegun f [] a b buffer begun
 opened_begun f a b buffer o begun h three is =
     let whole = ap (λ (l : List ℕ). h.front ++ l) h.behind in

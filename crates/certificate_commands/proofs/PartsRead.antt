@@ -7,7 +7,7 @@ use Rattle.iges_io.specs.declared.reading.TheConstants.{PIECE}
 use Rattle.iges_io.proofs.Streams.{consumes_none, consumes_more}
 use Rattle.iges_params.specs.Contents.{Contents}
 use Rattle.topo_certificate.specs.declared.TheConstants.{CERT_LIMIT}
-use Rattle.certificate_commands.specs.declared.books.Begun.{Begun}
+use Rattle.certificate_commands.specs.declared.books.PartStart.{PartStart}
 use Rattle.command_replies.specs.declared.reply.Stop.{Stop}
 use Rattle.command_replies.specs.Texts.{accepted_line, accepted_lines}
 use Rattle.certificate_commands.specs.Judging.{ReadsOn}
@@ -19,7 +19,7 @@ pub nearer : (limit came held p : ℕ) → p < came - held → came ≤ limit �
 nearer limit came held p further few = omega arith
 
 -- the next part has begun and the last one has its line
-pub told_more : (f : Contents) (entry left after : Option (List ℕ)) (there buffer now : List ℕ) (first b next : Begun) (out new : List ℕ)
+pub told_more : (f : Contents) (entry left after : Option (List ℕ)) (there buffer now : List ℕ) (first b next : PartStart) (out new : List ℕ)
     → ((before : Option (List ℕ)) → HasBegun f [] before entry there first → (ns : List ℕ) × HasBegun f ns before left buffer b × (out ≡ accepted_lines ns))
     → ((ns : List ℕ) (before : Option (List ℕ)) → HasBegun f ns before left buffer b → HasBegun f (ns ++ b.no.0 ∷ []) before after now next)
     → new ≡ out ++ accepted_line b.no.0
@@ -35,7 +35,7 @@ TakenSince entry left came now = (bytes : List ℕ) × Consumes entry left bytes
 pub taken_none : (left : Option (List ℕ)) (came : ℕ) → TakenSince left left came came
 taken_none left came = ([], consumes_none left, omega arith)
 
-pub taken_more : (entry left after : Option (List ℕ)) (came : ℕ) (now : List ℕ) (b next : Begun) → TakenSince entry left came b.came
+pub taken_more : (entry left after : Option (List ℕ)) (came : ℕ) (now : List ℕ) (b next : PartStart) → TakenSince entry left came b.came
     → GoesOn left after now b next → TakenSince entry after came next.came
 taken_more entry left after came now b next t m =
     let long = m.came in
@@ -62,7 +62,8 @@ taken_within entry left after came now (Err stop) t few h =
       (let n : length (t.0 ++ h.0) ≤ CERT_LIMIT - came = omega (arith, long, few, k, length-append t.0 h.0) in n),
     )
 
-pub takes_few : (entry left after : Option (List ℕ)) (came now : ℕ) → TakenSince entry left came now → now ≤ CERT_LIMIT → TakesAtMost (CERT_LIMIT - now) left after
+pub takes_few : (entry left after : Option (List ℕ)) (came now : ℕ) → TakenSince entry left came now → now ≤ CERT_LIMIT
+    → TakesAtMost (CERT_LIMIT - now) left after
     → TakesAtMost (CERT_LIMIT - came) entry after
 takes_few entry left after came now t few h =
     let long = t.2 in

@@ -6,7 +6,7 @@ use Rattle.std.specs.Io.KnownBytes.{Consumes, IsAtEnd}
 use Rattle.iges_io.specs.Reading.{TakesAtMost}
 use Rattle.iges_io.proofs.Streams.{consumes_none}
 use Rattle.topo_certificate.specs.declared.TheConstants.{CERT_LIMIT}
-use Rattle.topo_certificate.specs.Feeding.{FedKept}
+use Rattle.topo_certificate.specs.Feeding.{FedState}
 use Rattle.command_replies.specs.declared.answer.Answer.{Answer}
 use Rattle.command_replies.specs.declared.answer.Answer.TheVariants.{Done, No, Usage, BadFile, ReadFault, WriteFault, NoMemory, NoExtract, TooLarge}
 use Rattle.command_replies.specs.declared.reply.Reply.{Reply}
@@ -38,7 +38,7 @@ module _ (before after : Option (List ℕ)) (came : ℕ) where
   pub read_takes : IsRestRead before after came → TakesAtMost (CERT_LIMIT - came) before after
   read_takes h = let few = h.few in (h.bytes, h.taken, (let n : length h.bytes ≤ CERT_LIMIT - came = omega (arith, few) in n))
 
-  pub fed_takes : (old new : FedKept) → IsRestFed before after came old new → TakesAtMost (CERT_LIMIT - came) before after
+  pub fed_takes : (old new : FedState) → IsRestFed before after came old new → TakesAtMost (CERT_LIMIT - came) before after
   fed_takes old new h = let few = h.few in (h.bytes, h.taken, (let n : length h.bytes ≤ CERT_LIMIT - came = omega (arith, few) in n))
 
 -- ---- one call after another

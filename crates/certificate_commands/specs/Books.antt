@@ -10,7 +10,7 @@ use Rattle.cert_lines.specs.Opening.{Opens, IsHeaded}
 use Rattle.cert_lines.specs.declared.version.Version.{Version}
 use Rattle.cert_lines.specs.declared.version.Version.TheVariants.{Three}
 use Rattle.topo_certificate.specs.declared.TheConstants.{CERT_LIMIT}
-use Rattle.topo_certificate.specs.Feeding.{FedKept, IsFedPart}
+use Rattle.topo_certificate.specs.Feeding.{FedState, IsFedPart}
 use Rattle.topo_certificate.specs.PartEnds.{EndsPart}
 use Rattle.cert_accept.specs.Accepted.{Part, part_lines, solids_named, IsGoodPart}
 use Rattle.command_replies.specs.declared.answer.Answer.{Answer}
@@ -18,7 +18,7 @@ use Rattle.command_replies.specs.declared.answer.Answer.TheVariants.{Done}
 use Rattle.certificate_commands.specs.declared.held_book.HeldPart.{HeldPart}
 use Rattle.certificate_commands.specs.declared.held_book.HeldPart.TheVariants as held_part
 use Rattle.command_replies.specs.declared.reply.Reply.{Reply}
-use Rattle.certificate_commands.specs.declared.books.Begun.{Begun}
+use Rattle.certificate_commands.specs.declared.books.PartStart.{PartStart}
 use Rattle.certificate_commands.specs.declared.books.PartEnd.{PartEnd}
 use Rattle.certificate_commands.specs.declared.books.PartEnd.TheVariants as part_end
 use Rattle.certificate_commands.specs.declared.books.PartJudged.{PartJudged}
@@ -45,15 +45,15 @@ pub record BeginsPart (f : Contents) (ns : List ℕ) (text : List ℕ) (n line :
   pub number : line ≡ 3 + length (flat_map part_lines parts)
 
 -- what the buffer holds after the line of the solid
-abbrev pub held : List ℕ → Begun → List ℕ
+abbrev pub held : List ℕ → PartStart → List ℕ
 held buffer b = take (b.to - b.from) (drop b.from buffer)
 
 -- how many bytes the certificate has up to the end of that line
-abbrev pub passed : Begun → ℕ
+abbrev pub passed : PartStart → ℕ
 passed b = b.came - (b.to - b.from)
 
 -- The places are in the buffer, and no more lines than bytes have come.
-pub record IsPlace (buffer : List ℕ) (b : Begun) : Type 0 where
+pub record IsPlace (buffer : List ℕ) (b : PartStart) : Type 0 where
   pub few : b.came ≤ CERT_LIMIT
   pub ordered : b.from ≤ b.to
   pub within : b.to ≤ length buffer
@@ -61,14 +61,14 @@ pub record IsPlace (buffer : List ℕ) (b : Begun) : Type 0 where
   pub lines : b.line ≤ passed b + 3
 
 -- Of the certificate a part has begun after this front; the buffer holds what came after it.
-pub record HasBegun (f : Contents) (ns : List ℕ) (before after : Option (List ℕ)) (buffer : List ℕ) (b : Begun) : Type 0 where
+pub record HasBegun (f : Contents) (ns : List ℕ) (before after : Option (List ℕ)) (buffer : List ℕ) (b : PartStart) : Type 0 where
   pub front : List ℕ
   pub taken : Consumes before after (front ++ held buffer b)
   pub long : length (front ++ held buffer b) ≡ b.came
   pub begins : BeginsPart f ns front b.no.0 b.line
 
 -- A further part has begun, after so many bytes more.
-pub record GoesOn (before after : Option (List ℕ)) (buffer : List ℕ) (old new : Begun) : Type 0 where
+pub record GoesOn (before after : Option (List ℕ)) (buffer : List ℕ) (old new : PartStart) : Type 0 where
   pub place : IsPlace buffer new
   pub further : passed old < passed new
   pub bytes : List ℕ
@@ -76,19 +76,19 @@ pub record GoesOn (before after : Option (List ℕ)) (buffer : List ℕ) (old ne
   pub came : new.came ≡ old.came + length bytes
 
 -- The checker was fed some of a part.
-abbrev pub IsInPart : FedKept → Type 0
+abbrev pub IsInPart : FedState → Type 0
 IsInPart c = (v : Version) × (s : SolidData) × (first : ℕ) × (text : List ℕ) × IsFedPart v s first text c
 
 -- The checker was fed this text, of lines from this number on, if it was fed none before.
-abbrev pub WasFed : FedKept → List ℕ → FedKept → Type 0
+abbrev pub WasFed : FedState → List ℕ → FedState → Type 0
 WasFed old text new = (v : Version) (s : SolidData) (first : ℕ) → IsFedPart v s first [] old → IsFedPart v s first text new
 
 -- the same, and the text ends with a line that begins the part of this solid
-abbrev pub WasEnded : FedKept → List ℕ → ℕ → ℕ → FedKept → Type 0
+abbrev pub WasEnded : FedState → List ℕ → ℕ → ℕ → FedState → Type 0
 WasEnded old text n line new = (v : Version) (s : SolidData) (first : ℕ) → IsFedPart v s first [] old → EndsPart v s first text n line new
 
 -- The part ended with the line of the next solid, which these bytes more have shown.
-pub record IsNextBegun (before after : Option (List ℕ)) (came : ℕ) (there buffer : List ℕ) (old new : FedKept) (next : Begun) : Type 0 where
+pub record IsNextBegun (before after : Option (List ℕ)) (came : ℕ) (there buffer : List ℕ) (old new : FedState) (next : PartStart) : Type 0 where
   pub few : next.came ≤ CERT_LIMIT
   pub ordered : next.from ≤ next.to
   pub within : next.to ≤ length buffer
@@ -100,7 +100,7 @@ pub record IsNextBegun (before after : Option (List ℕ)) (came : ℕ) (there bu
   pub ends : WasEnded old text next.no.0 next.line new
 
 -- The certificate ended with the part.
-pub record IsPartLast (before after : Option (List ℕ)) (came : ℕ) (there : List ℕ) (old new : FedKept) : Type 0 where
+pub record IsPartLast (before after : Option (List ℕ)) (came : ℕ) (there : List ℕ) (old new : FedState) : Type 0 where
   pub bytes : List ℕ
   pub taken : Consumes before after bytes
   pub ended : IsAtEnd after
@@ -108,7 +108,7 @@ pub record IsPartLast (before after : Option (List ℕ)) (came : ℕ) (there : L
   pub fed : WasFed old (there ++ bytes) new
 
 -- how a part ended, of which so many bytes had come and the buffer held these after its first line
-abbrev pub IsPartEnd : Option (List ℕ) → Option (List ℕ) → ℕ → List ℕ → List ℕ → FedKept → FedKept → PartEnd → Type 0
+abbrev pub IsPartEnd : Option (List ℕ) → Option (List ℕ) → ℕ → List ℕ → List ℕ → FedState → FedState → PartEnd → Type 0
 IsPartEnd before after came there buffer old new (part_end.Next next) = IsNextBegun before after came there buffer old new next
 IsPartEnd before after came there buffer old new part_end.Last = IsPartLast before after came there old new
 IsPartEnd before after came there buffer old new part_end.TooLarge = HasTooMany before after came
@@ -125,7 +125,7 @@ HasNext judged.Last = ⊥
 HasNext (judged.Decided reply) = ⊥
 
 -- What is left after a part: the next one has begun, or the certificate was read to its end as the answer wants it.
-abbrev pub Leaves : Option (List ℕ) → Option (List ℕ) → List ℕ → Begun → PartJudged → Type 0
+abbrev pub Leaves : Option (List ℕ) → Option (List ℕ) → List ℕ → PartStart → PartJudged → Type 0
 Leaves before after buffer old (judged.Next next) = GoesOn before after buffer old next
 Leaves before after buffer old judged.Last = IsAtEnd after × TakesAtMost (CERT_LIMIT - old.came) before after
 Leaves before after buffer old (judged.Decided reply) = ReadsCertificate after reply.answer

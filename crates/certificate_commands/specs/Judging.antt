@@ -12,7 +12,7 @@ use Rattle.cert_lines.specs.declared.version.Version.{Version}
 use Rattle.cert_lines.specs.declared.version.Version.TheVariants.{One, Two, Three}
 use Rattle.cert_text.specs.declared.fault.Illegal.{Illegal}
 use Rattle.topo_certificate.specs.declared.TheConstants.{CERT_LIMIT}
-use Rattle.topo_certificate.specs.Feeding.{FedKept, IsFed}
+use Rattle.topo_certificate.specs.Feeding.{FedState, IsFed}
 use Rattle.cert_accept.specs.Accepted.{checked}
 use Rattle.command_replies.specs.declared.reply.Reply.{Reply}
 use Rattle.command_replies.specs.declared.reply.Stop.{Stop}
@@ -40,7 +40,7 @@ abbrev pub TellsFalse : (Failing → List ℕ) → Contents → ℕ → Reply �
 TellsFalse words f n reply = (x : Failing) × FirstFalse (checked f n) x × Exactly No (words x) reply.answer reply.text
 
 -- The certificate opens with two good lines, which name solid n, all that is checked of this holds, and the checker was fed what comes after them.
-pub record HasChecked (f : Contents) (n : ℕ) (text : List ℕ) (c : FedKept) : Type 0 where
+pub record HasChecked (f : Contents) (n : ℕ) (text : List ℕ) (c : FedState) : Type 0 where
   pub version : Version
   pub one : IsOfOne version
   pub holds : AllHold (checked f n)
@@ -62,7 +62,7 @@ pub record IsRestRead (before after : Option (List ℕ)) (came : ℕ) : Type 0 w
   pub few : came + length bytes ≤ CERT_LIMIT
 
 -- The rest was, and the checker was fed it.
-pub record IsRestFed (before after : Option (List ℕ)) (came : ℕ) (old new : FedKept) : Type 0 where
+pub record IsRestFed (before after : Option (List ℕ)) (came : ℕ) (old new : FedState) : Type 0 where
   pub bytes : List ℕ
   pub taken : Consumes before after bytes
   pub ended : IsAtEnd after

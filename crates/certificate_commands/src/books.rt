@@ -26,7 +26,7 @@ use topo_certificate::{CERT_LIMIT, Checker, PartStep};
 
 /// The line that names the solid of a part has come.
 #[derive(Clone, Copy, Debug)]
-pub struct Begun {
+pub struct PartStart {
     /// The solid.
     pub no: EntryNo,
     /// The number of the line after that line.
@@ -43,7 +43,7 @@ pub struct Begun {
 #[derive(Clone, Copy, Debug)]
 pub enum PartEnd {
     /// With the line that names the next solid.
-    Next(Begun),
+    Next(PartStart),
     /// With the certificate.
     Last,
     /// More bytes than a certificate may have came before.
@@ -54,7 +54,7 @@ pub enum PartEnd {
 #[derive(Drop)]
 pub enum PartJudged {
     /// It is good, and the next one has begun.
-    Next(Begun),
+    Next(PartStart),
     /// It is good, and the last one.
     Last,
     /// This is the reply.
@@ -93,7 +93,7 @@ fn read_part<C: Source>(
     cert: &mut C,
     piece: &mut [u8],
     checker: &mut Checker<'_>,
-    begun: Begun,
+    begun: PartStart,
 ) -> Result<PartEnd, Stop>
     requires ready { C.can_read cert.old }
     requires room { length piece.old ≡ PIECE }
@@ -110,7 +110,7 @@ fn read_part<C: Source>(
     let mut came = begun.came;
     'pieces: loop {
         if let Some(next) = feed(checker, &piece[from..to]) {
-            return Ok(PartEnd::Next(Begun {
+            return Ok(PartEnd::Next(PartStart {
                 no: next.no,
                 line: next.line,
                 from: from + next.used,
@@ -137,7 +137,7 @@ fn part_outcome<C: Source>(
     checker: &mut Checker<'_>,
     cert: &mut C,
     piece: &mut [u8],
-    begun: Begun,
+    begun: PartStart,
 ) -> Result<PartJudged, Stop>
     requires ready { C.can_read cert.old }
     requires room { length piece.old ≡ PIECE }
@@ -168,7 +168,7 @@ fn judge_part_lines<C: Source>(
     solid: &Solid,
     cert: &mut C,
     piece: &mut [u8],
-    begun: Begun,
+    begun: PartStart,
 ) -> Result<PartJudged, Stop>
     requires ready { C.can_read cert.old }
     requires room { length piece.old ≡ PIECE }
@@ -192,7 +192,7 @@ fn judge_part<C: Source>(
     walker: &mut Walker<'_>,
     cert: &mut C,
     piece: &mut [u8],
-    begun: Begun,
+    begun: PartStart,
 ) -> Result<PartJudged, Stop>
     requires ready { C.can_read cert.old }
     requires room { length piece.old ≡ PIECE }
@@ -222,7 +222,7 @@ fn parts_reply<C: Source>(
     walker: &mut Walker<'_>,
     cert: &mut C,
     piece: &mut [u8],
-    begun: Begun,
+    begun: PartStart,
 ) -> Result<Reply, Stop>
     requires ready { C.can_read cert.old }
     requires room { length piece.old ≡ PIECE }
@@ -261,7 +261,7 @@ pub fn book_reply<C: Source>(
     file: File,
     cert: &mut C,
     piece: &mut [u8],
-    begun: Begun,
+    begun: PartStart,
 ) -> Result<Reply, Stop>
     requires ready { C.can_read cert.old }
     requires room { length piece.old ≡ PIECE }

@@ -7,7 +7,7 @@ ghost use Rattle.solid_data.specs.SolidData.{SolidData};
 ghost use Rattle.std.specs.Prelude.{◌≡◌, ◌-◌, [], List, ℕ, Option, length, IfOk};
 ghost use Rattle.topo_certificate.specs.Feeding.{IsFed};
 
-use crate::books::{Begun, book_reply};
+use crate::books::{PartStart, book_reply};
 use crate::checking::named_solid;
 use crate::decided::decided_reply;
 use crate::judging::{end_reply, feed_rest, is_of_one};
@@ -116,7 +116,7 @@ fn verify_opened<C: Source>(
     if is_of_one(opened.version) {
         return verify_alone(alloc, file, cert, piece, opened);
     }
-    let begun = Begun {
+    let begun = PartStart {
         no: opened.no,
         line: 3,
         from: opened.from,

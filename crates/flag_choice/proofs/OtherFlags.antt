@@ -29,7 +29,7 @@ use Rattle.orient_certificate.specs.OddRing.{bare_shell}
 use Rattle.orient_certificate.proofs.Bare.{Told, Alike, walks, told_rows, bare_with, zip_get, partners_alike, two_rows_alike}
 use Rattle.orient_certificate.proofs.Crossed.{steps_map}
 use Rattle.orient_certificate.proofs.Places.{partner_made, other_in}
-use Rattle.orient_certificate.specs.Tally.{summary, places_of}
+use Rattle.orient_certificate.specs.RowsByEdge.{summary, places_of}
 use Rattle.flag_choice.specs.Laws.{SuitedIsSewn}
 use Rattle.flag_choice.specs.Suiting.{FlagsOrient, FlagsSuit}
 use Rattle.flag_choice.specs.Turned.{turned}

@@ -12,11 +12,12 @@ use Rattle.std.proofs.lemmas.Option.{slice_get-map}
 use Rattle.iges_base.specs.Word.{are_digits}
 use Prim.Native.Nat.compare
 use Rattle.iges_solid_cmd.specs.declared.form.Command.{Command}
-use Rattle.iges_solid_cmd.specs.declared.slot.Operand.{Operand}
-use Rattle.iges_solid_cmd.specs.declared.slot.Operand.TheVariants as operand
-use Rattle.iges_solid_cmd.specs.declared.slot.Slot.{Slot as CodeSlot}
+use Rattle.iges_solid_cmd.specs.declared.form_slot.Operand.{Operand}
+use Rattle.iges_solid_cmd.specs.declared.form_slot.Operand.TheVariants as operand
+use Rattle.iges_solid_cmd.specs.declared.form_slot.FormSlot.{FormSlot as CodeSlot}
 use Rattle.iges_solid_cmd.specs.declared.form.Form.{Form as Row}
-use Rattle.iges_solid_cmd.specs.Forms.{Form, IsSized, Slot, all_fit, certificate, command_of, file, fits, form_of, form_text, forms, holds, join_with, number}
+use Rattle.iges_solid_cmd.specs.Forms.{Form, IsSized, FormSlot, all_fit, certificate, command_of, file, fits, form_of, form_text, forms, holds, join_with}
+use Rattle.iges_solid_cmd.specs.Forms.{number}
 use Rattle.iges_solid_cmd.specs.Forms.{number_among, reads_certificate, reads_file, slot_text, takes_certificate, takes_file, usage_line, word, word_in}
 use Rattle.iges_solid_cmd.specs.FormTable.{command_for, form_meant, slot_meant}
 
@@ -105,7 +106,7 @@ Given = List (String Global)
 abbrev bytes_of : Given → List (List ℕ)
 bytes_of words = map string_bytes words
 
-abbrev meant : List CodeSlot → List Slot
+abbrev meant : List CodeSlot → List FormSlot
 meant slots = map slot_meant slots
 
 abbrev pub each_fits : List CodeSlot → Given → Bool
@@ -125,10 +126,10 @@ fit_meant slots words =
     ap (λ b. b && list_all (λ p. fits p.0 p.1) (zip (meant slots) (bytes_of words))) (lengths_meant slots words)
     ∙ ap (λ b. nat_eq (length slots) (length words) && b) (each_meant slots words)
 
-abbrev others_fit : List Slot → List (List ℕ) → Bool
+abbrev others_fit : List FormSlot → List (List ℕ) → Bool
 others_fit slots words = list_all (λ p. fits p.0 p.1) (zip slots words)
 
-each_at : (slots : List Slot) (words : List (List ℕ)) (i : ℕ) (slot : Slot) (w : List ℕ) → others_fit slots words ≡ true → slice_get slots i ≡ Some slot
+each_at : (slots : List FormSlot) (words : List (List ℕ)) (i : ℕ) (slot : FormSlot) (w : List ℕ) → others_fit slots words ≡ true → slice_get slots i ≡ Some slot
     → slice_get words i ≡ Some w → fits slot w ≡ true
 each_at [] words i slot w each there at = absurd cc
 each_at (s ∷ slots) [] i slot w each there at = absurd cc
@@ -175,7 +176,7 @@ command_is words found row there n command is meant_is number_is n_is made =
 -- ---- what a form reads, and what its command takes
 
 -- the number is in the range of the first slot for one
-abbrev InRange : List Slot → ℕ → Type 0
+abbrev InRange : List FormSlot → ℕ → Type 0
 InRange [] n = Unit {0}
 InRange (number digits least greatest ∷ slots) n = (least ≤ n) × (n ≤ greatest)
 InRange (_ ∷ slots) n = InRange slots n
@@ -184,11 +185,11 @@ lengths_next : (n m : ℕ) → nat_eq (suc n) (suc m) ≡ true → nat_eq n m �
 lengths_next n m same = rw compare.suc-suc at same
 
 -- of words that fit, the first does, and so do the others
-first_fit : (s : Slot) (slots : List Slot) (w : List ℕ) (words : List (List ℕ)) → all_fit (s ∷ slots) (w ∷ words) ≡ true → fits s w ≡ true
+first_fit : (s : FormSlot) (slots : List FormSlot) (w : List ℕ) (words : List (List ℕ)) → all_fit (s ∷ slots) (w ∷ words) ≡ true → fits s w ≡ true
 first_fit s slots w words fit =
     (and_parts (fits s w) (others_fit slots words) (and_parts (nat_eq (suc (length slots)) (suc (length words))) (fits s w && others_fit slots words) fit).1).0
 
-rest_fit : (s : Slot) (slots : List Slot) (w : List ℕ) (words : List (List ℕ)) → all_fit (s ∷ slots) (w ∷ words) ≡ true → all_fit slots words ≡ true
+rest_fit : (s : FormSlot) (slots : List FormSlot) (w : List ℕ) (words : List (List ℕ)) → all_fit (s ∷ slots) (w ∷ words) ≡ true → all_fit slots words ≡ true
 rest_fit s slots w words fit =
     let parts = and_parts (nat_eq (suc (length slots)) (suc (length words))) (fits s w && others_fit slots words) fit in
     and_from (nat_eq (length slots) (length words)) (others_fit slots words) (lengths_next (length slots) (length words) parts.0)
@@ -207,20 +208,20 @@ later_word w words None = refl
 later_word w words (Some i) = refl
 
 -- the number among words behind a slot that is for none
-later_number : (s : Slot) (slots : List Slot) (w : List ℕ) (words : List (List ℕ)) (n : ℕ) → holds operand.Number s ≡ false
+later_number : (s : FormSlot) (slots : List FormSlot) (w : List ℕ) (words : List (List ℕ)) (n : ℕ) → holds operand.Number s ≡ false
     → number_among (s ∷ slots) (w ∷ words) ≡ n → number_among slots words ≡ n
 later_number s slots w words n other is =
     let later = ap (option_and_then (slice_get (w ∷ words))) (position_later (holds operand.Number) s slots other)
     ∙ later_word w words (position (holds operand.Number) slots) in
     sym (ap (λ o. unwrap_or (option_map (digits_value 10) o) 0) later) ∙ is
 
-first_number : (digits least greatest : ℕ) (slots : List Slot) (w : List ℕ) (words : List (List ℕ))
+first_number : (digits least greatest : ℕ) (slots : List FormSlot) (w : List ℕ) (words : List (List ℕ))
     → number_among (number digits least greatest ∷ slots) (w ∷ words) ≡ digits_value 10 w
 first_number digits least greatest slots w words =
     ap (λ t. unwrap_or (option_map (digits_value 10) (option_and_then (slice_get (w ∷ words)) (cond t (Some 0) None))) 0)
     (le-leb 1 (suc (length slots)) (omega arith))
 
-all_in_range : (slots : List Slot) (words : List (List ℕ)) (n : ℕ) → all_fit slots words ≡ true → number_among slots words ≡ n → InRange slots n
+all_in_range : (slots : List FormSlot) (words : List (List ℕ)) (n : ℕ) → all_fit slots words ≡ true → number_among slots words ≡ n → InRange slots n
 all_in_range [] words n fit is = tt
 all_in_range (s ∷ slots) [] n fit is = absurd (omega (arith, eqb-true (suc (length slots)) 0 (and_parts (nat_eq (suc (length slots)) 0) true fit).0))
 all_in_range (word text ∷ slots) (w ∷ words) n fit is = all_in_range slots words n (rest_fit (word text) slots w words fit)

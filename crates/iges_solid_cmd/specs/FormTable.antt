@@ -5,12 +5,12 @@ use Rattle.iges_solid_cmd.specs.declared.form.Command.TheVariants as command
 use Rattle.iges_solid_cmd.specs.declared.form.FileCommand.TheVariants as of_file
 use Rattle.iges_solid_cmd.specs.declared.form.CommandKind.{CommandKind}
 use Rattle.iges_solid_cmd.specs.declared.form.CommandKind.TheVariants as kind
-use Rattle.iges_solid_cmd.specs.declared.slot.Slot.{Slot as CodeSlot}
-use Rattle.iges_solid_cmd.specs.declared.slot.Slot.TheVariants as slot
+use Rattle.iges_solid_cmd.specs.declared.form_slot.FormSlot.{FormSlot as CodeSlot}
+use Rattle.iges_solid_cmd.specs.declared.form_slot.FormSlot.TheVariants as slot
 use Rattle.iges_solid_cmd.specs.declared.form.Form.{Form as Row}
-use Rattle.iges_solid_cmd.specs.Forms.{Form, Slot, certificate, file, number, word}
+use Rattle.iges_solid_cmd.specs.Forms.{Form, FormSlot, certificate, file, number, word}
 
-abbrev pub slot_meant : CodeSlot → Slot
+abbrev pub slot_meant : CodeSlot → FormSlot
 slot_meant (slot.Word text) = word text.now
 slot_meant slot.File = file
 slot_meant slot.Certificate = certificate

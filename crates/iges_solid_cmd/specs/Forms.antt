@@ -14,28 +14,28 @@ use Rattle.iges_solid_cmd.specs.declared.form.EntityCommand.{EntityCommand}
 use Rattle.iges_solid_cmd.specs.declared.form.EntityCommand.TheVariants as of_entity
 use Rattle.iges_solid_cmd.specs.declared.form.CertificateCommand.{CertificateCommand}
 use Rattle.iges_solid_cmd.specs.declared.form.CertificateCommand.TheVariants as of_certificate
-use Rattle.iges_solid_cmd.specs.declared.slot.Operand.{Operand}
-use Rattle.iges_solid_cmd.specs.declared.slot.Operand.TheVariants as operand
+use Rattle.iges_solid_cmd.specs.declared.form_slot.Operand.{Operand}
+use Rattle.iges_solid_cmd.specs.declared.form_slot.Operand.TheVariants as operand
 
 -- a fixed word, the name of a file or of a certificate, or a number with its most digits, its least and its greatest value
-pub data Slot : Type 0 where
-  word : List ℕ → Slot
-  file certificate : Slot
-  number : ℕ → ℕ → ℕ → Slot
+pub data FormSlot : Type 0 where
+  word : List ℕ → FormSlot
+  file certificate : FormSlot
+  number : ℕ → ℕ → ℕ → FormSlot
 
 -- what the words of a form are, and the command for the number among them
 pub record Form : Type 0 where
-  pub slots : List Slot
+  pub slots : List FormSlot
   pub command : ℕ → Command
 
-abbrev pub entry_number : Slot
+abbrev pub entry_number : FormSlot
 entry_number = number 7 1 LINE_LIMIT
 
-abbrev pub sample_number : Slot
+abbrev pub sample_number : FormSlot
 sample_number = number 3 3 200
 
 -- these slots for a command for all of a file
-abbrev pub for_whole : List Slot → WholeCommand → Form
+abbrev pub for_whole : List FormSlot → WholeCommand → Form
 for_whole slots c = record { slots = slots; command = λ _. command.File (of_file.Whole c) }
 
 -- this word, a file and a directory number
@@ -65,7 +65,7 @@ forms =
 
 -- ---- reading words
 
-abbrev pub fits : Slot → List ℕ → Bool
+abbrev pub fits : FormSlot → List ℕ → Bool
 fits (word text) w = bytes_eq w text
 fits file w = true
 fits certificate w = true
@@ -73,22 +73,22 @@ fits (number digits least greatest) w =
     are_digits w && nat_le (length w) digits && nat_le least (digits_value 10 w) && nat_le (digits_value 10 w) greatest
 
 -- the words are in the slots, one in each
-abbrev pub all_fit : List Slot → List (List ℕ) → Bool
+abbrev pub all_fit : List FormSlot → List (List ℕ) → Bool
 all_fit slots words = nat_eq (length slots) (length words) && list_all (λ p. fits p.0 p.1) (zip slots words)
 
 -- the slot is for such a word
-abbrev pub holds : Operand → Slot → Bool
+abbrev pub holds : Operand → FormSlot → Bool
 holds operand.File file = true
 holds operand.Certificate certificate = true
 holds operand.Number (number digits least greatest) = true
 holds _ _ = false
 
 -- the word that is in the first slot for such
-abbrev pub word_in : Operand → List Slot → List (List ℕ) → Option (List ℕ)
+abbrev pub word_in : Operand → List FormSlot → List (List ℕ) → Option (List ℕ)
 word_in what slots words = option_and_then (slice_get words) (position (holds what) slots)
 
 -- the number among the words, and 0 where there is none
-abbrev pub number_among : List Slot → List (List ℕ) → ℕ
+abbrev pub number_among : List FormSlot → List (List ℕ) → ℕ
 number_among slots words = unwrap_or (option_map (digits_value 10) (word_in operand.Number slots words)) 0
 
 abbrev pub form_of : List (List ℕ) → Option Form
@@ -142,7 +142,7 @@ IsSized (command.Sample n) = IsSize n
 
 -- ---- the usage line
 
-abbrev pub slot_text : Slot → List ℕ
+abbrev pub slot_text : FormSlot → List ℕ
 slot_text (word text) = text
 slot_text file = codes "FILE"
 slot_text certificate = codes "CERT"

@@ -4,7 +4,7 @@ ghost use Rattle.std.specs.List.{list_all};
 ghost use Rattle.std.specs.Prelude.{◌≡◌, None, MatchOption, Some, find, map, option_map, position, slice_get, string_bytes, true, zip};
 ghost use Rattle.std.specs.Str.Parse.{digits_value};
 
-use crate::slot::{ENTRY_NUMBER, Operand, SAMPLE_NUMBER, Slot};
+use crate::form_slot::{ENTRY_NUMBER, FormSlot, Operand, SAMPLE_NUMBER};
 
 /// A command for all of a file.
 #[derive(Clone, Copy, Debug, PartialEq, Eq)]
@@ -79,62 +79,82 @@ pub enum CommandKind {
 #[derive(Clone, Copy, Debug)]
 pub struct Form {
     /// One for each word, in the order of the words.
-    pub slots: &'static [Slot],
+    pub slots: &'static [FormSlot],
     pub kind: CommandKind,
 }
 
 // The listed forms, in the order of the usage line.
 const FORMS: &[Form] = &[
     Form {
-        slots: &[Slot::Word("solids"), Slot::File],
+        slots: &[FormSlot::Word("solids"), FormSlot::File],
         kind: CommandKind::Whole(WholeCommand::Solids),
     },
     Form {
-        slots: &[Slot::Word("show"), Slot::File, ENTRY_NUMBER],
+        slots: &[FormSlot::Word("show"), FormSlot::File, ENTRY_NUMBER],
         kind: CommandKind::Entity(EntityCommand::Show),
     },
     Form {
-        slots: &[Slot::Word("certify"), Slot::File, ENTRY_NUMBER],
+        slots: &[FormSlot::Word("certify"), FormSlot::File, ENTRY_NUMBER],
         kind: CommandKind::Entity(EntityCommand::Certify),
     },
     Form {
-        slots: &[Slot::Word("verify"), Slot::File, Slot::Certificate],
+        slots: &[
+            FormSlot::Word("verify"),
+            FormSlot::File,
+            FormSlot::Certificate,
+        ],
         kind: CommandKind::Certificate(CertificateCommand::Verify),
     },
     Form {
-        slots: &[Slot::Word("extract"), Slot::File, ENTRY_NUMBER],
+        slots: &[FormSlot::Word("extract"), FormSlot::File, ENTRY_NUMBER],
         kind: CommandKind::Entity(EntityCommand::Extract),
     },
     Form {
-        slots: &[Slot::Word("sample"), SAMPLE_NUMBER],
+        slots: &[FormSlot::Word("sample"), SAMPLE_NUMBER],
         kind: CommandKind::Sample,
     },
     Form {
-        slots: &[Slot::Word("upgrade"), Slot::File, Slot::Certificate],
+        slots: &[
+            FormSlot::Word("upgrade"),
+            FormSlot::File,
+            FormSlot::Certificate,
+        ],
         kind: CommandKind::Certificate(CertificateCommand::Upgrade),
     },
     Form {
-        slots: &[Slot::Word("certify"), Slot::File, Slot::Word("all")],
+        slots: &[
+            FormSlot::Word("certify"),
+            FormSlot::File,
+            FormSlot::Word("all"),
+        ],
         kind: CommandKind::Whole(WholeCommand::CertifyAll),
     },
     Form {
-        slots: &[Slot::Word("open"), Slot::File, ENTRY_NUMBER],
+        slots: &[FormSlot::Word("open"), FormSlot::File, ENTRY_NUMBER],
         kind: CommandKind::Entity(EntityCommand::Open),
     },
     Form {
-        slots: &[Slot::Word("open-verify"), Slot::File, Slot::Certificate],
+        slots: &[
+            FormSlot::Word("open-verify"),
+            FormSlot::File,
+            FormSlot::Certificate,
+        ],
         kind: CommandKind::Certificate(CertificateCommand::OpenVerify),
     },
     Form {
-        slots: &[Slot::Word("orient"), Slot::File, ENTRY_NUMBER],
+        slots: &[FormSlot::Word("orient"), FormSlot::File, ENTRY_NUMBER],
         kind: CommandKind::Entity(EntityCommand::Orient),
     },
     Form {
-        slots: &[Slot::Word("orient-verify"), Slot::File, Slot::Certificate],
+        slots: &[
+            FormSlot::Word("orient-verify"),
+            FormSlot::File,
+            FormSlot::Certificate,
+        ],
         kind: CommandKind::Certificate(CertificateCommand::OrientVerify),
     },
     Form {
-        slots: &[Slot::Word("compact"), Slot::File, ENTRY_NUMBER],
+        slots: &[FormSlot::Word("compact"), FormSlot::File, ENTRY_NUMBER],
         kind: CommandKind::Entity(EntityCommand::Compact),
     },
 ];
@@ -154,7 +174,7 @@ impl CommandKind {
 }
 
 // Whether each word fits the slot at its place.
-fn each_fits(slots: &[Slot], words: &[String]) -> bool
+fn each_fits(slots: &[FormSlot], words: &[String]) -> bool
     ensures { result ≡ list_all (λ p. fits (slot_meant p.0) (string_bytes p.1))
         (zip slots.now words.now) }
 {
@@ -190,7 +210,7 @@ impl Form {
         self.slots.iter().position(|slot| slot.holds(what))
     }
 
-    fn slot(self, place: usize) -> Option<Slot>
+    fn slot(self, place: usize) -> Option<FormSlot>
         ensures { result ≡ slice_get self.slots.now place }
     {
         self.slots.get(place).copied()

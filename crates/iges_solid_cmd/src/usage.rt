@@ -5,7 +5,7 @@ ghost use Rattle.iges_solid_cmd.specs.FormTable.{form_meant, slot_meant};
 ghost use Rattle.std.specs.Prelude.{◌≡◌, ◌++◌, IfOk, List, OnOk, map, ℕ};
 
 use crate::form::{Form, listed};
-use crate::slot::Slot;
+use crate::form_slot::FormSlot;
 use iges_fields::{Bytes, NoMemory, Out};
 use std::alloc::Global;
 
@@ -17,15 +17,15 @@ trait Shown {
         ensures { OnOk result (out.new ≡ out.old ++ text self.now) };
 }
 
-impl Shown for Slot {
+impl Shown for FormSlot {
     ghost text = { λ slot. slot_text (slot_meant slot) };
 
     fn put(&self, out: &mut Out) -> Result<(), NoMemory> {
         match self {
-            Slot::Word(text) => out.put(text.as_bytes()),
-            Slot::File => out.put(b"FILE"),
-            Slot::Certificate => out.put(b"CERT"),
-            Slot::Number { .. } => out.put(b"N"),
+            FormSlot::Word(text) => out.put(text.as_bytes()),
+            FormSlot::File => out.put(b"FILE"),
+            FormSlot::Certificate => out.put(b"CERT"),
+            FormSlot::Number { .. } => out.put(b"N"),
         }
     }
 }

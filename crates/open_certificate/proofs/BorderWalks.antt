@@ -3,9 +3,9 @@ use Rattle.std.specs.Prelude.{◌≡◌, ℕ, ◌+◌, ◌<◌, List, ◌∷◌,
 use Rattle.std.proofs.Common.{sym, ap, subst, arith}
 use Rattle.edge_uses.specs.ShellRows.{ShellRows}
 use Rattle.cert_text.specs.Text.{Begins, AreNumbers}
-use Rattle.cert_state.specs.Stand.{IsAbove}
+use Rattle.cert_state.specs.Progress.{IsAbove}
 use Rattle.cert_state.proofs.Rings.{next_left, none_left}
-use Rattle.open_certificate.specs.Stand.{OpenStand, GoesOnTo, FitsBorder}
+use Rattle.open_certificate.specs.Progress.{OpenProgress, GoesOnTo, FitsBorder}
 use Rattle.open_certificate.specs.Walks.{IsBorderRing, FitsBorderLine}
 
 -- The numbers that are left make the ring whole exactly where all make it.
@@ -60,14 +60,14 @@ walked_broken d lone first last rest all count never broken w r =
     broken k.1.0
 
 -- a border line whose first number is read
-pub border_of : (d : ShellRows) (at : OpenStand) (text others : List ℕ) (first : ℕ) (rs : List ℕ) → Begins text first others → AreNumbers text rs
+pub border_of : (d : ShellRows) (at : OpenProgress) (text others : List ℕ) (first : ℕ) (rs : List ℕ) → Begins text first others → AreNumbers text rs
     → FitsBorderLine d at rs → (ms : List ℕ) × AreNumbers others ms × FitsBorder d at first ms
 border_of d at text others first rs b h fits = let n = next_left text others first rs b h in (n.0, n.2, subst (FitsBorderLine d at) n.1 fits)
 
-pub border_ring : (d : ShellRows) (at : OpenStand) (first : ℕ) (ms : List ℕ) → FitsBorder d at first ms → IsBorderRing d at.lone first first ms
+pub border_ring : (d : ShellRows) (at : OpenProgress) (first : ℕ) (ms : List ℕ) → FitsBorder d at first ms → IsBorderRing d at.lone first first ms
 border_ring d at first ms fits = (fits.lone, fits.goes_on, fits.least)
 
-pub border_fits : (d : ShellRows) (at : OpenStand) (text others : List ℕ) (first len : ℕ) (rs : List ℕ) → Begins text first others → AreNumbers text rs
+pub border_fits : (d : ShellRows) (at : OpenProgress) (text others : List ℕ) (first len : ℕ) (rs : List ℕ) → Begins text first others → AreNumbers text rs
     → IsAbove at.last_border first
     → ((ms : List ℕ) → AreNumbers others ms → IsBorderRing d at.lone first first ms × (len ≡ length (first ∷ ms)))
     → (ms : List ℕ) × (rs ≡ first ∷ ms) × FitsBorder d at first ms × (length (first ∷ ms) ≡ len)

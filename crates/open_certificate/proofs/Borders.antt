@@ -16,12 +16,12 @@ use Rattle.edge_uses.specs.declared.row.Row.{Row}
 use Rattle.edge_uses.specs.ShellRows.{ShellRows}
 use Rattle.edge_uses.specs.RowRelations.{Turns, StartsAt}
 use Rattle.edge_uses.proofs.Counting.{mark, mark-same, mark-other, marks-one}
-use Rattle.cert_state.specs.Stand.{row_named, first_of, IsAbove}
+use Rattle.cert_state.specs.Progress.{row_named, first_of, IsAbove}
 use Rattle.cert_state.proofs.Segment.{AreGoodRows, Falls, falls_more, named_has}
 use Rattle.open_certificate.specs.Sound.{IsBorder, IsBorderCycle, IsBorderCycleOf, IsFanned, GoesOn, row_total}
 use Rattle.open_certificate.specs.Line.{OpenLine, head, shell, edge, lone, cycle, path, point, reach, border, end, IsSpelled}
-use Rattle.open_certificate.specs.Stand.{stand_from_latest, shell_of, GoesOnTo, FitsLine, lone_in, mates_in, edge_in, is_edge, number_of, border_in}
-use Rattle.open_certificate.specs.Stand.{border_rows}
+use Rattle.open_certificate.specs.Progress.{progress_from_latest, shell_of, GoesOnTo, FitsLine, lone_in, mates_in, edge_in, is_edge, number_of, border_in}
+use Rattle.open_certificate.specs.Progress.{border_rows}
 use Rattle.open_certificate.specs.Legal.{IsLegalAfter, IsOpenLegal}
 use Rattle.open_certificate.specs.Laws.{cycle_in, rows_in, AreAllBorders, BordersAreCycles}
 use Rattle.open_certificate.proofs.Spelling.{line_one}
@@ -145,7 +145,7 @@ ring_step d alone firsts rows r rs starts facts all goes least rises =
 rings_of : (s : SolidData) (alone : List ℕ) (lines : List OpenLine) → StartApart (shell_of s) alone → AllFit s lines
     → ((a : ℕ) → Contains (filter_map lone_in lines) a → Contains alone a)
     → RingFacts (shell_of s) alone (filter_map border_in lines) (flat_map border_rows lines)
-unfolding stand_from_latest
+unfolding progress_from_latest
 rings_of s alone [] starts fit into = no_rings (shell_of s) alone
 rings_of s alone (head ∷ lines) starts fit into = absurd fit.0.1
 rings_of s alone (shell n a b c d e ∷ lines) starts fit into = rings_of s alone lines starts fit.1 into
@@ -207,7 +207,7 @@ cycle_of_line d alone r rs borders all goes least = record {
 border_line_cycle : (s : SolidData) (alone : List ℕ) (lines : List OpenLine) → AreBorder (shell_of s) alone → AllFit s lines
     → ((a : ℕ) → Contains (filter_map lone_in lines) a → Contains alone a) → (rs : List ℕ) → Has lines (border rs)
     → IsBorderCycleOf (shell_of s) (map before rs)
-unfolding stand_from_latest
+unfolding progress_from_latest
 border_line_cycle s alone [] borders fit into rs m = absurd m
 border_line_cycle s alone (l ∷ lines) borders fit into rs (inr m) = border_line_cycle s alone lines borders fit.1 (λ a c. into a (more l a c)) rs m
   where
@@ -222,10 +222,10 @@ border_line_cycle s alone (l ∷ lines) borders fit into rs (inr m) = border_lin
     more (reach b) a c = c
     more (border qs) a c = c
     more end a c = c
-border_line_cycle s alone (l ∷ lines) borders fit into rs (inl e) = at_line rs (subst (λ k. FitsLine s (stand_from_latest s lines) k) e fit.0)
+border_line_cycle s alone (l ∷ lines) borders fit into rs (inl e) = at_line rs (subst (λ k. FitsLine s (progress_from_latest s lines) k) e fit.0)
     (λ a c. into a (subst (λ k. Contains (filter_map lone_in (k ∷ lines)) a) (sym e) c))
   where
-    at_line : (qs : List ℕ) → FitsLine s (stand_from_latest s lines) (border qs) → ((a : ℕ) → Contains (filter_map lone_in lines) a → Contains alone a)
+    at_line : (qs : List ℕ) → FitsLine s (progress_from_latest s lines) (border qs) → ((a : ℕ) → Contains (filter_map lone_in lines) a → Contains alone a)
         → IsBorderCycleOf (shell_of s) (map before qs)
     at_line [] fits in_all = absurd fits.1
     at_line (r ∷ qs) fits in_all =
@@ -240,13 +240,13 @@ turned [] before = before
 turned (l ∷ ls) before = turned ls (l ∷ before)
 
 pub fit_turned : (s : SolidData) (before : List OpenLine) (texts : List (List ℕ)) (lines : List OpenLine) → AllFit s before → IsLegalAfter s before texts
-    → AllZip IsSpelled texts lines → AllFit s (turned lines before) × ((stand_from_latest s (turned lines before)).ended ≡ true)
+    → AllZip IsSpelled texts lines → AllFit s (turned lines before) × ((progress_from_latest s (turned lines before)).ended ≡ true)
 fit_turned s before [] [] fit legal zip = (fit, legal)
 fit_turned s before [] (l ∷ lines) fit legal zip = absurd zip
 fit_turned s before (t ∷ texts) [] fit legal zip = absurd zip
 fit_turned s before (t ∷ texts) (l ∷ lines) fit (m, is_m, fits, more) zip =
     let same : m ≡ l = line_one t m l is_m zip.0 in
-    fit_turned s (l ∷ before) texts lines (subst (FitsLine s (stand_from_latest s before)) same fits, fit)
+    fit_turned s (l ∷ before) texts lines (subst (FitsLine s (progress_from_latest s before)) same fits, fit)
     (subst (λ k. IsLegalAfter s (k ∷ before) texts) same more) zip.1
 
 has_turned : (lines before : List OpenLine) (x : OpenLine) → Has lines x ⊎ Has before x → Has (turned lines before) x
@@ -323,7 +323,7 @@ each_cycle d (end ∷ lines) h = each_cycle d lines (λ rs m. h rs (inr m))
 -- Lines but END that fit, with nothing due, hold each border row once.
 borders_of : (s : SolidData) (f : FitsAll s) (lines : List OpenLine) → AreGoodRows (shell_of s) → turned lines [] ≡ end ∷ f.lines
     → AreAllBorders (shell_of s) (filter_map cycle_in lines)
-unfolding stand_from_latest
+unfolding progress_from_latest
 borders_of s f lines good is_all =
     let d : ShellRows = shell_of s in
     let alone : List ℕ = filter_map lone_in f.lines in

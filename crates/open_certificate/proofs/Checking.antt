@@ -2,12 +2,12 @@
 use Rattle.std.specs.Prelude.{◌≡◌, ℕ, ◌+◌, ◌<◌, true, false, List, [], ◌∷◌, length, None}
 use Rattle.std.proofs.Common.{refl, sym, ◌∙◌, ap, arith}
 use Rattle.open_certificate.specs.Line.{OpenLine, head, shell, edge, lone, cycle, path, point, reach, border, end}
-use Rattle.open_certificate.specs.Said.{IsRowLine}
+use Rattle.open_certificate.specs.Parsed.{IsRowLine}
 use Rattle.solid_data.specs.SolidData.{SolidData}
 use Rattle.solid_data.specs.declared.solid.Shell.{Shell}
 use Rattle.open_certificate.specs.Legal.{IsOpenShell}
-use Rattle.open_certificate.specs.Stand.{stand_from_latest, IsDone}
-use Rattle.open_certificate.specs.Kept.{KeptOpen, MatchesLines, Takes, KeptChecker, IsAt, TakesLine}
+use Rattle.open_certificate.specs.Progress.{progress_from_latest, IsDone}
+use Rattle.open_certificate.specs.CheckState.{OpenCheckState, MatchesLines, Takes, OpenCheckerState, IsAt, TakesLine}
 
 -- each line but END leaves it open whether END came
 abbrev pub IsOngoing : OpenLine → Type 0
@@ -26,13 +26,14 @@ row_goes_on (reach a) h = tt
 row_goes_on (border rs) h = tt
 row_goes_on end h = h
 
-next_number : (s : SolidData) (lines : List OpenLine) (line : OpenLine) → (stand_from_latest s (line ∷ lines)).number ≡ (stand_from_latest s lines).number + 1
-unfolding stand_from_latest
+next_number : (s : SolidData) (lines : List OpenLine) (line : OpenLine)
+    → (progress_from_latest s (line ∷ lines)).number ≡ (progress_from_latest s lines).number + 1
+unfolding progress_from_latest
 next_number s lines line = omega arith
 
-still_open : (s : SolidData) (lines : List OpenLine) (line : OpenLine) → IsOngoing line → (stand_from_latest s (line ∷ lines)).ended
-    ≡ (stand_from_latest s lines).ended
-unfolding stand_from_latest
+still_open : (s : SolidData) (lines : List OpenLine) (line : OpenLine) → IsOngoing line → (progress_from_latest s (line ∷ lines)).ended
+    ≡ (progress_from_latest s lines).ended
+unfolding progress_from_latest
 still_open s lines head h = refl
 still_open s lines (shell n a b c d e) h = refl
 still_open s lines (edge a b) h = refl
@@ -44,10 +45,10 @@ still_open s lines (reach a) h = refl
 still_open s lines (border rs) h = refl
 still_open s lines end h = absurd h
 
-abbrev pub with_line : KeptChecker → KeptOpen → ℕ → KeptChecker
+abbrev pub with_line : OpenCheckerState → OpenCheckState → ℕ → OpenCheckerState
 with_line old k n = record old { number = n; shell = k }
 
-pub line_taken : (old : KeptChecker) (new : KeptOpen) (line : OpenLine) (n : ℕ) → old.ended ≡ false → IsOngoing line → Takes old.shell new line true
+pub line_taken : (old : OpenCheckerState) (new : OpenCheckState) (line : OpenLine) (n : ℕ) → old.ended ≡ false → IsOngoing line → Takes old.shell new line true
     → n ≡ old.number + 1 → TakesLine old (with_line old new n) line true
 line_taken old new line n going kind takes more lines at =
     let s : SolidData = old.solid in
@@ -61,11 +62,11 @@ line_taken old new line n going kind takes more lines at =
       },
     )
 
-pub line_refused : (old new : KeptChecker) (now : KeptOpen) (line : OpenLine) → Takes old.shell now line false → TakesLine old new line false
+pub line_refused : (old new : OpenCheckerState) (now : OpenCheckState) (line : OpenLine) → Takes old.shell now line false → TakesLine old new line false
 line_refused old new now line takes lines at fits = takes old.solid lines at.shell fits.1
 
-end_told : (s : SolidData) (lines : List OpenLine) (k : KeptOpen) → MatchesLines s lines k → k.begun ≡ true → MatchesLines s (end ∷ lines) k
-unfolding stand_from_latest
+end_told : (s : SolidData) (lines : List OpenLine) (k : OpenCheckState) → MatchesLines s lines k → k.begun ≡ true → MatchesLines s (end ∷ lines) k
+unfolding progress_from_latest
 end_told s lines k t begun = record {
   entity = t.entity;
   rows = t.rows;
@@ -86,15 +87,15 @@ end_told s lines k t begun = record {
   last_border = t.last_border;
 }
 
-now_ended : (s : SolidData) (lines : List OpenLine) → (stand_from_latest s (end ∷ lines)).ended ≡ true
-unfolding stand_from_latest
+now_ended : (s : SolidData) (lines : List OpenLine) → (progress_from_latest s (end ∷ lines)).ended ≡ true
+unfolding progress_from_latest
 now_ended s lines = refl
 
-abbrev pub with_end : KeptChecker → ℕ → KeptChecker
+abbrev pub with_end : OpenCheckerState → ℕ → OpenCheckerState
 with_end old n = record old { number = n; ended = true }
 
-pub end_comes : (old : KeptChecker) (n : ℕ) → old.ended ≡ false
-    → ((s : SolidData) (lines : List OpenLine) → MatchesLines s lines old.shell → IsDone (stand_from_latest s lines)) → n ≡ old.number + 1
+pub end_comes : (old : OpenCheckerState) (n : ℕ) → old.ended ≡ false
+    → ((s : SolidData) (lines : List OpenLine) → MatchesLines s lines old.shell → IsDone (progress_from_latest s lines)) → n ≡ old.number + 1
     → TakesLine old (with_end old n) end true
 end_comes old n going done more lines at =
     let s : SolidData = old.solid in
@@ -108,19 +109,20 @@ end_comes old n going done more lines at =
       },
     )
 
-pub end_refused : (old new : KeptChecker) → ((s : SolidData) (lines : List OpenLine) → MatchesLines s lines old.shell → IsDone (stand_from_latest s lines) → ⊥)
+pub end_refused : (old new : OpenCheckerState) → ((s : SolidData) (lines : List OpenLine) → MatchesLines s lines old.shell
+    → IsDone (progress_from_latest s lines) → ⊥)
     → TakesLine old new end false
 end_refused old new never lines at fits = never old.solid lines at.shell fits.1
 
-first_number : (s : SolidData) → (stand_from_latest s []).number ≡ 2
-unfolding stand_from_latest
+first_number : (s : SolidData) → (progress_from_latest s []).number ≡ 2
+unfolding progress_from_latest
 first_number s = omega arith
 
-first_open : (s : SolidData) → (stand_from_latest s []).ended ≡ false
-unfolding stand_from_latest
+first_open : (s : SolidData) → (progress_from_latest s []).ended ≡ false
+unfolding progress_from_latest
 first_open s = refl
 
-pub begins : (c : KeptChecker) → c.failed ≡ None → c.number ≡ 2 → c.ended ≡ false → MatchesLines c.solid [] c.shell → IsAt c []
+pub begins : (c : OpenCheckerState) → c.failed ≡ None → c.number ≡ 2 → c.ended ≡ false → MatchesLines c.solid [] c.shell → IsAt c []
 begins c legal number ended tells =
     record { legal = legal; number = number ∙ sym (first_number c.solid); ended = ended ∙ sym (first_open c.solid); shell = tells }
 

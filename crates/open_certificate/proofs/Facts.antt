@@ -8,22 +8,22 @@ use Rattle.edge_uses.specs.declared.row.Row.{Row}
 use Rattle.edge_uses.specs.ShellRows.{ShellRows}
 use Rattle.edge_uses.specs.Around.{IsReached}
 use Rattle.solid_data.proofs.Members.{Has, covers}
-use Rattle.cert_state.specs.Stand.{IsAbove, first_of, row_named, row_start, point_named}
+use Rattle.cert_state.specs.Progress.{IsAbove, first_of, row_named, row_start, point_named}
 use Rattle.cert_state.proofs.Segment.{AreGoodRows, Falls, falls_none, falls_more, ReachFacts, reach_step, faces_reached, start_known, point_known}
 use Rattle.cert_state.proofs.Segment.{point_from_line}
 use Rattle.open_certificate.specs.Sound.{IsOnce, IsFanned}
 use Rattle.open_certificate.specs.Line.{OpenLine, head, shell, edge, lone, cycle, path, point, reach, border, end}
 use Rattle.open_certificate.specs.Legal.{IsLegalAfter}
-use Rattle.open_certificate.specs.Stand.{stand_from_latest, shell_of, shared, asked, is_shell, is_edge, is_corner, is_reach, number_of, mates_in, lone_in}
-use Rattle.open_certificate.specs.Stand.{edge_in}
-use Rattle.open_certificate.specs.Stand.{vertex_in, face_in, FitsShell, FitsLine, FitsOpen, IsDone}
+use Rattle.open_certificate.specs.Progress.{progress_from_latest, shell_of, shared, asked, is_shell, is_edge, is_corner, is_reach, number_of, mates_in, lone_in}
+use Rattle.open_certificate.specs.Progress.{edge_in}
+use Rattle.open_certificate.specs.Progress.{vertex_in, face_in, FitsShell, FitsLine, FitsOpen, IsDone}
 use Rattle.open_certificate.proofs.Once.{EdgeFacts, AreListed, no_edges, edge_step, lone_step, all_once, lone_border, once_rows}
 use Rattle.open_certificate.proofs.Fans.{fan_from_cycle, fan_from_path}
 
--- each line fits the stand behind those before it
+-- each line fits behind those before it
 abbrev pub AllFit : SolidData → List OpenLine → Type 0
 AllFit s [] = Unit {0}
-AllFit s (l ∷ ls) = FitsLine s (stand_from_latest s ls) l × AllFit s ls
+AllFit s (l ∷ ls) = FitsLine s (progress_from_latest s ls) l × AllFit s ls
 
 pub record FanFacts (d : ShellRows) (vs : List ℕ) (n : ℕ) : Type 0 where
   pub falls : Falls vs
@@ -54,14 +54,14 @@ pub record Facts (s : SolidData) (lines : List OpenLine) (d : ShellRows) : Type 
   pub asks_reach : (asked (find is_shell lines)).2 ≡ d.face_count - 1
 
 -- where no edge line is due, all rows are listed
-pub facts_listed : (s : SolidData) (lines : List OpenLine) (d : ShellRows) → Facts s lines d → (stand_from_latest s lines).edges_due ≡ 0
+pub facts_listed : (s : SolidData) (lines : List OpenLine) (d : ShellRows) → Facts s lines d → (progress_from_latest s lines).edges_due ≡ 0
     → AreListed d (filter_map mates_in lines) (filter_map lone_in lines) (filter_map (edge_in d) lines) (number_of is_edge lines)
-unfolding stand_from_latest
+unfolding progress_from_latest
 facts_listed s lines d facts none =
     let each : length d.edges ≤ number_of is_edge lines = omega (arith, none, facts.asks_edges) in
     record { facts = facts.edge_facts; each_edge = each; each_row = facts.listed each }
 
-pub facts_once : (s : SolidData) (lines : List OpenLine) (d : ShellRows) → Facts s lines d → (stand_from_latest s lines).edges_due ≡ 0 → (e : ℕ)
+pub facts_once : (s : SolidData) (lines : List OpenLine) (d : ShellRows) → Facts s lines d → (progress_from_latest s lines).edges_due ≡ 0 → (e : ℕ)
     → Has d.edges e → IsOnce d e
 facts_once s lines d facts none = all_once d (filter_map mates_in lines) (filter_map lone_in lines) (filter_map (edge_in d) lines) (number_of is_edge lines)
     (facts_listed s lines d facts none)
@@ -96,11 +96,11 @@ lists_more : (due asks before edges now more rows : ℕ) → due ≡ asks - befo
 lists_more due asks before edges now more rows is_due is_asks some last all = last (omega (arith, is_due, is_asks, some, all))
 
 facts_edge : (s : SolidData) (lines : List OpenLine) (a b : ℕ) → AreGoodRows (shell_of s) → Facts s lines (shell_of s)
-    → FitsOpen s (stand_from_latest s lines) (edge a b) → Facts s (edge a b ∷ lines) (shell_of s)
-unfolding stand_from_latest
+    → FitsOpen s (progress_from_latest s lines) (edge a b) → Facts s (edge a b ∷ lines) (shell_of s)
+unfolding progress_from_latest
 facts_edge s lines a b good facts fits =
     let d : ShellRows = shell_of s in record {
-      edge_facts = edge_step d (shared (stand_from_latest s lines)) (filter_map mates_in lines) (filter_map lone_in lines) (filter_map (edge_in d) lines)
+      edge_facts = edge_step d (shared (progress_from_latest s lines)) (filter_map mates_in lines) (filter_map lone_in lines) (filter_map (edge_in d) lines)
           (number_of is_edge lines) a b good facts.edge_facts refl fits.1;
       listed = λ all. (let h = lists_more ((asked (find is_shell lines)).0 - number_of is_edge lines) ((asked (find is_shell lines)).0)
           (number_of is_edge lines) (length d.edges) (2 * length (filter_map mates_in lines) + length (filter_map lone_in lines)) 2
@@ -114,11 +114,11 @@ facts_edge s lines a b good facts fits =
     }
 
 facts_lone : (s : SolidData) (lines : List OpenLine) (a : ℕ) → AreGoodRows (shell_of s) → Facts s lines (shell_of s)
-    → FitsOpen s (stand_from_latest s lines) (lone a) → Facts s (lone a ∷ lines) (shell_of s)
-unfolding stand_from_latest
+    → FitsOpen s (progress_from_latest s lines) (lone a) → Facts s (lone a ∷ lines) (shell_of s)
+unfolding progress_from_latest
 facts_lone s lines a good facts fits =
     let d : ShellRows = shell_of s in record {
-      edge_facts = lone_step d (stand_from_latest s lines) (filter_map mates_in lines) (filter_map lone_in lines) (filter_map (edge_in d) lines)
+      edge_facts = lone_step d (progress_from_latest s lines) (filter_map mates_in lines) (filter_map lone_in lines) (filter_map (edge_in d) lines)
           (number_of is_edge lines) a good facts.edge_facts refl fits.1;
       listed = λ all. (let h = lists_more ((asked (find is_shell lines)).0 - number_of is_edge lines) ((asked (find is_shell lines)).0)
           (number_of is_edge lines) (length d.edges) (2 * length (filter_map mates_in lines) + length (filter_map lone_in lines)) 1
@@ -132,12 +132,12 @@ facts_lone s lines a good facts fits =
     }
 
 facts_cycle : (s : SolidData) (lines : List OpenLine) (r : ℕ) (rs : List ℕ) → AreGoodRows (shell_of s) → Facts s lines (shell_of s)
-    → FitsOpen s (stand_from_latest s lines) (cycle (r ∷ rs)) → Facts s (cycle (r ∷ rs) ∷ lines) (shell_of s)
-unfolding stand_from_latest
+    → FitsOpen s (progress_from_latest s lines) (cycle (r ∷ rs)) → Facts s (cycle (r ∷ rs) ∷ lines) (shell_of s)
+unfolding progress_from_latest
 facts_cycle s lines r rs good facts fits =
     let d : ShellRows = shell_of s in
     let h = fits.1 in
-    let fan = fan_from_cycle d (shared (stand_from_latest s lines)) r rs good.meet good.exchanged facts.edge_facts.hold
+    let fan = fan_from_cycle d (shared (progress_from_latest s lines)) r rs good.meet good.exchanged facts.edge_facts.hold
     (once_rows d good (facts_once s lines d facts fits.0.0)) h in
     record {
       edge_facts = facts.edge_facts;
@@ -152,13 +152,13 @@ facts_cycle s lines r rs good facts fits =
     }
 
 facts_path : (s : SolidData) (lines : List OpenLine) (r : ℕ) (rs : List ℕ) → AreGoodRows (shell_of s) → Facts s lines (shell_of s)
-    → FitsOpen s (stand_from_latest s lines) (path (r ∷ rs)) → Facts s (path (r ∷ rs) ∷ lines) (shell_of s)
-unfolding stand_from_latest
+    → FitsOpen s (progress_from_latest s lines) (path (r ∷ rs)) → Facts s (path (r ∷ rs) ∷ lines) (shell_of s)
+unfolding progress_from_latest
 facts_path s lines r rs good facts fits =
     let d : ShellRows = shell_of s in
     let h = fits.1 in
     let all = facts_listed s lines d facts fits.0.0 in
-    let fan = fan_from_path d (stand_from_latest s lines) r rs good.meet good.exchanged facts.edge_facts.hold
+    let fan = fan_from_path d (progress_from_latest s lines) r rs good.meet good.exchanged facts.edge_facts.hold
     (once_rows d good (facts_once s lines d facts fits.0.0))
     (λ a c. lone_border d (filter_map mates_in lines) (filter_map lone_in lines) (filter_map (edge_in d) lines) (number_of is_edge lines) a all c) h in
     record {
@@ -174,8 +174,8 @@ facts_path s lines r rs good facts fits =
     }
 
 facts_point : (s : SolidData) (lines : List OpenLine) (face l : ℕ) → AreGoodRows (shell_of s) → Facts s lines (shell_of s)
-    → FitsOpen s (stand_from_latest s lines) (point face l) → Facts s (point face l ∷ lines) (shell_of s)
-unfolding stand_from_latest
+    → FitsOpen s (progress_from_latest s lines) (point face l) → Facts s (point face l ∷ lines) (shell_of s)
+unfolding progress_from_latest
 facts_point s lines face l good facts fits =
     let d : ShellRows = shell_of s in
     let h = fits.1 in
@@ -184,7 +184,7 @@ facts_point s lines face l good facts fits =
       listed = facts.listed;
       fan_facts = vertex_step d (filter_map (vertex_in d) lines) (number_of is_corner lines) h.vertex
           (option_map (λ (p : LoopAt × ℕ). p.1) (point_named d face l)) facts.fan_facts h.lies_at h.rises (point_known d good face l h.vertex h.lies_at)
-          (inr (point_from_line d (shared (stand_from_latest s lines)) face l h));
+          (inr (point_from_line d (shared (progress_from_latest s lines)) face l h));
       reach_facts = facts.reach_facts;
       begun = facts.begun;
       asks_edges = facts.asks_edges;
@@ -193,15 +193,15 @@ facts_point s lines face l good facts fits =
     }
 
 facts_reach : (s : SolidData) (lines : List OpenLine) (r : ℕ) → AreGoodRows (shell_of s) → Facts s lines (shell_of s)
-    → FitsOpen s (stand_from_latest s lines) (reach r) → Facts s (reach r ∷ lines) (shell_of s)
-unfolding stand_from_latest
+    → FitsOpen s (progress_from_latest s lines) (reach r) → Facts s (reach r ∷ lines) (shell_of s)
+unfolding progress_from_latest
 facts_reach s lines r good facts fits =
     let d : ShellRows = shell_of s in
     record {
       edge_facts = facts.edge_facts;
       listed = facts.listed;
       fan_facts = facts.fan_facts;
-      reach_facts = reach_step d (shared (stand_from_latest s lines)) (filter_map (face_in d) lines) (number_of is_reach lines) r good facts.edge_facts.hold
+      reach_facts = reach_step d (shared (progress_from_latest s lines)) (filter_map (face_in d) lines) (number_of is_reach lines) r good facts.edge_facts.hold
           facts.reach_facts refl fits.1;
       begun = facts.begun;
       asks_edges = facts.asks_edges;
@@ -241,8 +241,8 @@ false_is_not_true : false ≡ true → ⊥
 false_is_not_true h = cc
 
 -- the first line that fits is the SHELL line
-facts_first : (s : SolidData) → AreGoodRows (shell_of s) → (l : OpenLine) → FitsLine s (stand_from_latest s []) l → Facts s (l ∷ []) (shell_of s)
-unfolding stand_from_latest
+facts_first : (s : SolidData) → AreGoodRows (shell_of s) → (l : OpenLine) → FitsLine s (progress_from_latest s []) l → Facts s (l ∷ []) (shell_of s)
+unfolding progress_from_latest
 facts_first s good head fit = absurd fit.1
 facts_first s good (shell n a b c d e) fit = facts_begin s n a b c d e good fit.1.1
 facts_first s good (edge a b) fit = absurd (omega (arith, fit.1.0))
@@ -257,12 +257,12 @@ facts_first s good (border []) fit = absurd fit.1
 facts_first s good (border (r ∷ rs)) fit = absurd (omega (arith, fit.1.0.3))
 facts_first s good end fit = absurd (false_is_not_true fit.1.begun)
 
-twice_begun : (s : SolidData) (lines : List OpenLine) → Facts s lines (shell_of s) → (stand_from_latest s lines).begun ≡ false → ⊥
-unfolding stand_from_latest
+twice_begun : (s : SolidData) (lines : List OpenLine) → Facts s lines (shell_of s) → (progress_from_latest s lines).begun ≡ false → ⊥
+unfolding progress_from_latest
 twice_begun s lines facts h = false_is_not_true (sym h ∙ facts.begun)
 
 facts_more : (s : SolidData) → AreGoodRows (shell_of s) → (l : OpenLine) (lines : List OpenLine) → Facts s lines (shell_of s)
-    → FitsLine s (stand_from_latest s lines) l → Facts s (l ∷ lines) (shell_of s)
+    → FitsLine s (progress_from_latest s lines) l → Facts s (l ∷ lines) (shell_of s)
 facts_more s good head lines facts fit = absurd fit.1
 facts_more s good (shell n a b c d e) lines facts fit = absurd (twice_begun s lines facts fit.1.0)
 facts_more s good (edge a b) lines facts fit = facts_edge s lines a b good facts fit.1
@@ -286,8 +286,8 @@ pub record AreProper (d : ShellRows) : Type 0 where
   pub reached : (f : ℕ) → f < d.face_count → IsReached d f
   pub fanned : (v : ℕ) → Has d.vertices v → IsFanned d v
 
-proper_from_facts : (s : SolidData) (lines : List OpenLine) → Facts s lines (shell_of s) → IsDone (stand_from_latest s lines) → AreProper (shell_of s)
-unfolding stand_from_latest
+proper_from_facts : (s : SolidData) (lines : List OpenLine) → Facts s lines (shell_of s) → IsDone (progress_from_latest s lines) → AreProper (shell_of s)
+unfolding progress_from_latest
 proper_from_facts s lines facts done =
     let d : ShellRows = shell_of s in
     record {
@@ -297,20 +297,21 @@ proper_from_facts s lines facts done =
           (omega (arith, done.no_corner, facts.asks_corners));
     }
 
-none_ended : (s : SolidData) → (stand_from_latest s []).ended ≡ true → false ≡ true
-unfolding stand_from_latest
+none_ended : (s : SolidData) → (progress_from_latest s []).ended ≡ true → false ≡ true
+unfolding progress_from_latest
 none_ended s h = h
 
 -- legal lines are lines that each fit, with END as the last
 pub legal_fit : (s : SolidData) (before : List OpenLine) (lines : List (List ℕ)) → AllFit s before → IsLegalAfter s before lines
-    → (all : List OpenLine) × AllFit s all × ((stand_from_latest s all).ended ≡ true)
+    → (all : List OpenLine) × AllFit s all × ((progress_from_latest s all).ended ≡ true)
 legal_fit s before [] fit legal = (before, fit, legal)
 legal_fit s before (bytes ∷ rest) fit (line, is_line, fits, more) = legal_fit s (line ∷ before) rest (fits, fit) more
 
 -- END is the last, with nothing due
-pub last_is_end : (s : SolidData) (l : OpenLine) (lines : List OpenLine) → FitsLine s (stand_from_latest s lines) l → (stand_from_latest s (l ∷ lines)).ended
-    ≡ true → (l ≡ end) × IsDone (stand_from_latest s lines)
-unfolding stand_from_latest
+pub last_is_end : (s : SolidData) (l : OpenLine) (lines : List OpenLine) → FitsLine s (progress_from_latest s lines) l
+    → (progress_from_latest s (l ∷ lines)).ended
+    ≡ true → (l ≡ end) × IsDone (progress_from_latest s lines)
+unfolding progress_from_latest
 last_is_end s head lines fit ended = absurd fit.1
 last_is_end s (shell n a b c d e) lines fit ended = absurd (false_is_not_true (sym fit.0 ∙ ended))
 last_is_end s (edge a b) lines fit ended = absurd (false_is_not_true (sym fit.0 ∙ ended))
@@ -327,16 +328,16 @@ pub record FitsAll (s : SolidData) : Type 0 where
   pub lines : List OpenLine
   pub fit : AllFit s lines
   pub facts : Facts s lines (shell_of s)
-  pub done : IsDone (stand_from_latest s lines)
+  pub done : IsDone (progress_from_latest s lines)
 
-some_lines : (s : SolidData) (lines : List OpenLine) → AreGoodRows (shell_of s) → AllFit s lines → IsDone (stand_from_latest s lines)
+some_lines : (s : SolidData) (lines : List OpenLine) → AreGoodRows (shell_of s) → AllFit s lines → IsDone (progress_from_latest s lines)
     → Facts s lines (shell_of s)
-unfolding stand_from_latest
+unfolding progress_from_latest
 some_lines s [] good fit done = absurd (false_is_not_true done.begun)
 some_lines s (l ∷ lines) good fit done = facts_of s good l lines fit
 
 -- Lines that fit with END among them are END behind lines that fit, with nothing due.
-pub fits_all : (s : SolidData) → AreGoodRows (shell_of s) → (all : List OpenLine) → AllFit s all → (stand_from_latest s all).ended ≡ true
+pub fits_all : (s : SolidData) → AreGoodRows (shell_of s) → (all : List OpenLine) → AllFit s all → (progress_from_latest s all).ended ≡ true
     → (f : FitsAll s) × (all ≡ end ∷ f.lines)
 fits_all s good [] fit ended = absurd (false_is_not_true (none_ended s ended))
 fits_all s good (l ∷ ls) fit ended =

@@ -14,11 +14,11 @@ use Rattle.edge_uses.proofs.RowShape.{EndsExchanged}
 use Rattle.edge_uses.proofs.Turn.{not-not, one_of_edge}
 use Rattle.edge_uses.proofs.RowNumbers.{starting, length-starting}
 use Rattle.edge_uses.proofs.Counting.{counted, counts_of_edge}
-use Rattle.cert_state.specs.Stand.{Stand, row_named, row_start, FollowsAsNamed, TurnsTo, FitsCorner}
+use Rattle.cert_state.specs.Progress.{Progress, row_named, row_start, FollowsAsNamed, TurnsTo, FitsCorner}
 use Rattle.cert_state.proofs.Corner.{AreNamedMates, MatesHold, mates_named, chain_unnamed, StartsNamed, start_of_row, turn_start_by, turns_row}
 use Rattle.cert_state.proofs.Corner.{corner_starts, follows_one, starts_listed, above_least}
 use Rattle.open_certificate.specs.Sound.{IsOnce, IsFan, row_total}
-use Rattle.open_certificate.specs.Stand.{OpenStand, IsChain, last_of, FitsPath}
+use Rattle.open_certificate.specs.Progress.{OpenProgress, IsChain, last_of, FitsPath}
 use Rattle.open_certificate.proofs.Once.{OnceRows, way_one, total_uses}
 
 -- a row that has the edge in this direction is counted
@@ -157,7 +157,7 @@ all_listed d v r rs none start few n (row, at_n, e) = covers (r ∷ rs) (startin
     (starts_listed d v (suc n) (start_of_row d (suc n) row at_n ∙ ap Some e))
 
 -- A fitting cycle line shows that its vertex has one fan.
-pub fan_from_cycle : (d : ShellRows) (at : Stand) (r : ℕ) (rs : List ℕ) → EndsMeet d → EndsExchanged d → MatesHold d at.mates → OnceRows d
+pub fan_from_cycle : (d : ShellRows) (at : Progress) (r : ℕ) (rs : List ℕ) → EndsMeet d → EndsExchanged d → MatesHold d at.mates → OnceRows d
     → (h : FitsCorner d at r rs) → IsFan d h.vertex
 fan_from_cycle d at r rs meet exchanged hold once h =
     let R : ℕ → ℕ → Type 0 = TurnsTo d at.mates in
@@ -177,7 +177,7 @@ fan_from_cycle d at r rs meet exchanged hold once h =
     }
 
 -- A fitting path line does.
-pub fan_from_path : (d : ShellRows) (at : OpenStand) (r : ℕ) (rs : List ℕ) → EndsMeet d → EndsExchanged d → MatesHold d at.mates → OnceRows d
+pub fan_from_path : (d : ShellRows) (at : OpenProgress) (r : ℕ) (rs : List ℕ) → EndsMeet d → EndsExchanged d → MatesHold d at.mates → OnceRows d
     → ((a : ℕ) → Contains at.lone a → (row : Row) × (row_named d a ≡ Some row) × (row_total d row.edge.0 ≡ 1))
     → (h : FitsPath d at r rs) → IsFan d h.vertex
 fan_from_path d at r rs meet exchanged hold once lone h =

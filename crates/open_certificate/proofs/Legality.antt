@@ -4,7 +4,7 @@ use Rattle.std.proofs.Common.{sym, ◌∙◌, subst, inl, inr, ⊎_elim}
 use Rattle.solid_data.specs.SolidData.{SolidData}
 use Rattle.cert_text.specs.declared.fault.Illegal.{Illegal}
 use Rattle.open_certificate.specs.Line.{OpenLine, IsSpelled}
-use Rattle.open_certificate.specs.Stand.{stand_from_latest, FitsLine}
+use Rattle.open_certificate.specs.Progress.{progress_from_latest, FitsLine}
 use Rattle.open_certificate.specs.Legal.{IsLegalAfter, IsBadLine, IsFirstBadAfter, IsOpenLegal, IsOpenFirstBad}
 use Rattle.open_certificate.specs.Obligations.{OpenObligation, AllHold, FirstFalse}
 use Rattle.open_certificate.specs.declared.verdict.OpenFailing.{OpenFailing}
@@ -15,10 +15,10 @@ true_false h = cc
 
 -- a line that is spelled and fits isn't bad
 good_bad : (s : SolidData) (before : List OpenLine) (bytes : List ℕ) (l : OpenLine) (bad : Illegal) → IsSpelled bytes l
-    → FitsLine s (stand_from_latest s before) l → IsBadLine s before bytes bad → ⊥
+    → FitsLine s (progress_from_latest s before) l → IsBadLine s before bytes bad → ⊥
 good_bad s before bytes l bad is_l fits b =
     ⊎_elim (λ misspelt. misspelt.0 l is_l)
-    (λ unfit. unfit.0.2 (subst (FitsLine s (stand_from_latest s before)) (line_one bytes l unfit.0.0 is_l unfit.0.1) fits)) b
+    (λ unfit. unfit.0.2 (subst (FitsLine s (progress_from_latest s before)) (line_one bytes l unfit.0.0 is_l unfit.0.1) fits)) b
 
 -- a line is bad in one way
 one_badness : (s : SolidData) (before : List OpenLine) (bytes : List ℕ) (x y : Illegal) → IsBadLine s before bytes x → IsBadLine s before bytes y → x ≡ y

@@ -18,13 +18,14 @@ use Rattle.cert_text.specs.Text.{spaced, IsShort}
 use Rattle.cert_lines.specs.Line.{edge as edge_line, corner as corner_line, point as point_line, reach as reach_line}
 use Rattle.cert_text.specs.declared.fault.Illegal.{Illegal}
 use Rattle.cert_text.specs.declared.fault.Illegal.TheVariants.{Misspelt, Unfit, Missing}
-use Rattle.cert_state.specs.Stand.{Stand, row_named, row_start, start_count, IsAbove, IsMate, FollowsAsNamed, TurnsTo, FitsEdge, FitsCorner, FitsPoint}
-use Rattle.cert_state.specs.Stand.{FitsReach}
+use Rattle.cert_state.specs.Progress.{Progress, row_named, row_start, start_count, IsAbove, IsMate, FollowsAsNamed, TurnsTo, FitsEdge, FitsCorner, FitsPoint}
+use Rattle.cert_state.specs.Progress.{FitsReach}
 use Rattle.cert_state.proofs.FitsDecided.{line_decided as closed_line_decided}
 use Rattle.open_certificate.specs.Line.{OpenLine, head, shell, edge, lone, cycle, path, point, reach, border, end, spelling, numbers_of, HasRows, HasSpelling}
 use Rattle.open_certificate.specs.Line.{IsSpelled, IsMisspelt}
-use Rattle.open_certificate.specs.Stand.{OpenStand, shell_of, shared, stand_from_latest, FitsShell, ListsAll, FitsLone, IsChain, last_of, FitsPath, GoesOnTo}
-use Rattle.open_certificate.specs.Stand.{FitsBorder, CornerDue, ReachDue, BorderDue, IsDone, FitsOpen, FitsLine}
+use Rattle.open_certificate.specs.Progress.{OpenProgress, shell_of, shared, progress_from_latest, FitsShell, ListsAll, FitsLone, IsChain, last_of, FitsPath}
+use Rattle.open_certificate.specs.Progress.{GoesOnTo}
+use Rattle.open_certificate.specs.Progress.{FitsBorder, CornerDue, ReachDue, BorderDue, IsDone, FitsOpen, FitsLine}
 use Rattle.open_certificate.specs.Legal.{IsLegalAfter, IsFirstBadAfter, IsOpenLegal, IsOpenFirstBad}
 use Rattle.open_certificate.proofs.Spelling.{kind_of, prefix_of, line_from, rebuilt, spelling_parts}
 
@@ -91,8 +92,8 @@ some_line_decided bytes =
 
 -- Lines that closed solids' certificates have too, by the decision on these.
 
--- the stand of such a certificate, at which so many lines are due
-abbrev closed_at : OpenStand → ℕ → ℕ → ℕ → Stand
+-- the progress of such a certificate, at which so many lines are due
+abbrev closed_at : OpenProgress → ℕ → ℕ → ℕ → Progress
 closed_at at edges corners reach_lines =
     record {
       ended = false;
@@ -105,7 +106,7 @@ closed_at at edges corners reach_lines =
       reached = at.reached;
     }
 
-edge_decided : (s : SolidData) (at : OpenStand) (a b : ℕ) → Decided (FitsEdge (shell_of s) (shared at) a b)
+edge_decided : (s : SolidData) (at : OpenProgress) (a b : ℕ) → Decided (FitsEdge (shell_of s) (shared at) a b)
 edge_decided s at a b =
     decided_alike (λ (open_yet, (some, h)).
     record {
@@ -138,7 +139,7 @@ edge_decided s at a b =
     ))
     (closed_line_decided s (closed_at at 1 0 0) (edge_line a b))
 
-corner_decided : (s : SolidData) (at : OpenStand) (r : ℕ) (rs : List ℕ) → Decided (FitsCorner (shell_of s) (shared at) r rs)
+corner_decided : (s : SolidData) (at : OpenProgress) (r : ℕ) (rs : List ℕ) → Decided (FitsCorner (shell_of s) (shared at) r rs)
 corner_decided s at r rs =
     decided_alike (λ (open_yet, (some, h)).
     record { vertex = h.vertex; lies_at = h.lies_at; turns = h.turns; least = h.least; whole = h.whole; no_point = h.no_point; rises = h.rises })
@@ -151,13 +152,13 @@ corner_decided s at r rs =
     ))
     (closed_line_decided s (closed_at at 0 1 0) (corner_line (r ∷ rs)))
 
-point_decided : (s : SolidData) (at : OpenStand) (face l : ℕ) → Decided (FitsPoint (shell_of s) (shared at) face l)
+point_decided : (s : SolidData) (at : OpenProgress) (face l : ℕ) → Decided (FitsPoint (shell_of s) (shared at) face l)
 point_decided s at face l =
     decided_alike (λ (open_yet, (some, h)). record { vertex = h.vertex; lies_at = h.lies_at; no_row = h.no_row; one_point = h.one_point; rises = h.rises })
     (λ h. (refl, ((refl, omega arith), record { vertex = h.vertex; lies_at = h.lies_at; no_row = h.no_row; one_point = h.one_point; rises = h.rises })))
     (closed_line_decided s (closed_at at 0 1 0) (point_line face l))
 
-reach_decided : (s : SolidData) (at : OpenStand) (r : ℕ) → Decided (FitsReach (shell_of s) (shared at) r)
+reach_decided : (s : SolidData) (at : OpenProgress) (r : ℕ) → Decided (FitsReach (shell_of s) (shared at) r)
 reach_decided s at r =
     decided_alike (λ (open_yet, (some, h)).
     record { mate = h.mate; face = h.face; known = h.known; mates = h.mates; on_face = h.on_face; on_known = h.on_known; new = h.new; old = h.old })
@@ -184,10 +185,10 @@ shell_decided s n rows edges corners faces =
     (decided_three (decided_same edges (length (shell_of s).edges)) (decided_same corners (length (shell_of s).vertices))
     (decided_same faces (shell_of s).face_count)))
 
-lists_all_decided : (d : ShellRows) (at : OpenStand) (more : ℕ) → Decided (ListsAll d at more)
+lists_all_decided : (d : ShellRows) (at : OpenProgress) (more : ℕ) → Decided (ListsAll d at more)
 lists_all_decided d at more = decided_implies (decided_same at.edges_due 1) (decided_same (at.listed + more) (length d.rows))
 
-lone_decided : (d : ShellRows) (at : OpenStand) (a : ℕ) → Decided (FitsLone d at a)
+lone_decided : (d : ShellRows) (at : OpenProgress) (a : ℕ) → Decided (FitsLone d at a)
 lone_decided d at a =
     decided_alike (λ (row, at_a, rises). record { row = row; at_a = at_a; rises = rises }) (λ h. (h.row, h.at_a, h.rises))
     (decided_found (row_named d a) (λ (row : Row). IsAbove at.last_edge row.edge.0) (λ row. above_decided at.last_edge row.edge.0))
@@ -217,10 +218,10 @@ chain_decided R each r [] = inl tt
 chain_decided R each r (s ∷ rs) = decided_both (each r s) (chain_decided R each s rs)
 
 -- what a fitting path line asks of its vertex
-abbrev IsPathVertex : ShellRows → OpenStand → ℕ → ℕ → Type 0
+abbrev IsPathVertex : ShellRows → OpenProgress → ℕ → ℕ → Type 0
 IsPathVertex d at n v = (n ≡ start_count d v) × (point_count d v ≡ 0) × IsAbove at.last_vertex v
 
-path_decided : (d : ShellRows) (at : OpenStand) (r : ℕ) (rs : List ℕ) → Decided (FitsPath d at r rs)
+path_decided : (d : ShellRows) (at : OpenProgress) (r : ℕ) (rs : List ℕ) → Decided (FitsPath d at r rs)
 path_decided d at r rs =
     decided_alike (λ (turns, ends, (v, lies, (whole, none, rises))).
     record { vertex = v; lies_at = lies; turns = turns; ends = ends; whole = whole; no_point = none; rises = rises })
@@ -240,7 +241,7 @@ goes_on_decided d r s =
     (decided_found (row_named d r) (λ (a : Row). (b : Row) × (row_named d s ≡ Some b) × (a.to ≡ b.from))
     (λ a. decided_found (row_named d s) (λ (b : Row). a.to ≡ b.from) (λ b. vertex_id_decided a.to b.from)))
 
-border_decided : (d : ShellRows) (at : OpenStand) (r : ℕ) (rs : List ℕ) → Decided (FitsBorder d at r rs)
+border_decided : (d : ShellRows) (at : OpenProgress) (r : ℕ) (rs : List ℕ) → Decided (FitsBorder d at r rs)
 border_decided d at r rs =
     decided_alike (λ (alone, goes, (least, rises)). record { lone = alone; goes_on = goes; least = least; rises = rises })
     (λ h. (h.lone, h.goes_on, (h.least, h.rises)))
@@ -250,17 +251,17 @@ border_decided d at r rs =
 
 -- What is due.
 
-corner_due_decided : (at : OpenStand) → Decided (CornerDue at)
+corner_due_decided : (at : OpenProgress) → Decided (CornerDue at)
 corner_due_decided at = decided_both (decided_same at.edges_due 0) (decided_below 0 at.corners_due)
 
-reach_due_decided : (at : OpenStand) → Decided (ReachDue at)
+reach_due_decided : (at : OpenProgress) → Decided (ReachDue at)
 reach_due_decided at = decided_three (decided_same at.edges_due 0) (decided_same at.corners_due 0) (decided_below 0 at.reach_due)
 
-border_due_decided : (at : OpenStand) → Decided (BorderDue at)
+border_due_decided : (at : OpenProgress) → Decided (BorderDue at)
 border_due_decided at = decided_four (decided_same at.edges_due 0) (decided_same at.corners_due 0) (decided_same at.reach_due 0)
     (decided_below 0 at.borders_due)
 
-done_decided : (at : OpenStand) → Decided (IsDone at)
+done_decided : (at : OpenProgress) → Decided (IsDone at)
 done_decided at =
     decided_alike (λ ((begun, e, c), (r, b, all)). record { begun = begun; no_edge = e; no_corner = c; no_reach = r; no_border = b; all_bordered = all })
     (λ h. ((h.begun, h.no_edge, h.no_corner), (h.no_reach, h.no_border, h.all_bordered)))
@@ -269,7 +270,7 @@ done_decided at =
 
 -- Lines of all kinds.
 
-open_decided : (s : SolidData) (at : OpenStand) (l : OpenLine) → Decided (FitsOpen s at l)
+open_decided : (s : SolidData) (at : OpenProgress) (l : OpenLine) → Decided (FitsOpen s at l)
 open_decided s at head = inr (λ h. h)
 open_decided s at (shell n rows edges corners faces borders) = decided_both (decided_bool at.begun false) (shell_decided s n rows edges corners faces)
 open_decided s at (edge a b) = decided_three (decided_below 0 at.edges_due) (edge_decided s at a b) (lists_all_decided (shell_of s) at 2)
@@ -284,29 +285,29 @@ open_decided s at (border []) = inr (λ h. h)
 open_decided s at (border (r ∷ rs)) = decided_both (border_due_decided at) (border_decided (shell_of s) at r rs)
 open_decided s at end = done_decided at
 
-line_decided : (s : SolidData) (at : OpenStand) (l : OpenLine) → Decided (FitsLine s at l)
+line_decided : (s : SolidData) (at : OpenProgress) (l : OpenLine) → Decided (FitsLine s at l)
 line_decided s at l = decided_both (decided_bool at.ended false) (open_decided s at l)
 
 -- Behind lines before, the lines are legal or have a first bad one.
 abbrev Answers : SolidData → List OpenLine → List (List ℕ) → Type 0
 Answers s before lines = IsLegalAfter s before lines ⊎ ((bad : Illegal) × IsFirstBadAfter s before lines bad)
 
-by_end : (s : SolidData) (before : List OpenLine) (b : Bool) → (stand_from_latest s before).ended ≡ b → Answers s before []
+by_end : (s : SolidData) (before : List OpenLine) (b : Bool) → (progress_from_latest s before).ended ≡ b → Answers s before []
 by_end s before true e = inl e
-by_end s before false e = inr (Missing (stand_from_latest s before).number, (e, refl))
+by_end s before false e = inr (Missing (progress_from_latest s before).number, (e, refl))
 
 by_later : (s : SolidData) (before : List OpenLine) (bytes : List ℕ) (lines : List (List ℕ)) (l : OpenLine) → IsSpelled bytes l
-    → FitsLine s (stand_from_latest s before) l → Answers s (l ∷ before) lines → Answers s before (bytes ∷ lines)
+    → FitsLine s (progress_from_latest s before) l → Answers s (l ∷ before) lines → Answers s before (bytes ∷ lines)
 by_later s before bytes lines l is fits (inl legal) = inl (l, is, fits, legal)
 by_later s before bytes lines l is fits (inr (bad, h)) = inr (bad, inr (l, is, fits, h))
 
 legal_or_bad : (s : SolidData) (before : List OpenLine) (lines : List (List ℕ)) → Answers s before lines
-legal_or_bad s before [] = by_end s before (stand_from_latest s before).ended refl
+legal_or_bad s before [] = by_end s before (progress_from_latest s before).ended refl
 legal_or_bad s before (bytes ∷ lines) =
     ⊎_elim
     (λ (l, is). ⊎_elim (λ fits. by_later s before bytes lines l is fits (legal_or_bad s (l ∷ before) lines))
-    (λ other. inr (Unfit (stand_from_latest s before).number, inl (inr ((l, is, other), refl)))) (line_decided s (stand_from_latest s before) l))
-    (λ none. inr (Misspelt (stand_from_latest s before).number, inl (inl ((λ l h. none (l, h)), refl))))
+    (λ other. inr (Unfit (progress_from_latest s before).number, inl (inr ((l, is, other), refl)))) (line_decided s (progress_from_latest s before) l))
+    (λ none. inr (Misspelt (progress_from_latest s before).number, inl (inl ((λ l h. none (l, h)), refl))))
     (some_line_decided bytes)
 
 pub legal_or_first_bad : (s : SolidData) (lines : List (List ℕ)) → IsOpenLegal s lines ⊎ ((bad : Illegal) × IsOpenFirstBad s lines bad)

@@ -7,7 +7,7 @@ use Rattle.std.proofs.lemmas.Option.{same_Some}
 use Rattle.std.proofs.lemmas.List.{length-replicate}
 use Rattle.solid_data.proofs.Members.{Has, Has-from_Contains, Contains-from_Has}
 use Rattle.cert_state.proofs.Arrays.{get_set_same, get_set_other}
-use Rattle.open_certificate.specs.Kept.{IsMarked, HoldsRows}
+use Rattle.open_certificate.specs.CheckState.{IsMarked, HoldsRows}
 
 -- one row more is marked
 pub rows_more : (marks : List Bool) (rows : List ℕ) (a : ℕ) → 0 < a → a ≤ length marks → HoldsRows marks rows

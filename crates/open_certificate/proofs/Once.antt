@@ -10,11 +10,11 @@ use Rattle.edge_uses.specs.declared.row.Row.{Row}
 use Rattle.edge_uses.specs.ShellRows.{ShellRows}
 use Rattle.edge_uses.specs.RowRelations.{row_count}
 use Rattle.edge_uses.proofs.Counting.{uses_of_edge, uses-most, counts_of_edge, one_place}
-use Rattle.cert_state.specs.Stand.{Stand, FitsEdge, IsAbove, first_of, row_named, row_edge}
+use Rattle.cert_state.specs.Progress.{Progress, FitsEdge, IsAbove, first_of, row_named, row_edge}
 use Rattle.cert_state.proofs.Corner.{AreNamedMates, MatesHold}
 use Rattle.cert_state.proofs.Segment.{AreGoodRows, Falls, falls_none, falls_more, named_has, row_has, counted_named, mates_of_line}
 use Rattle.open_certificate.specs.Sound.{IsOnce, IsBorder, row_total}
-use Rattle.open_certificate.specs.Stand.{OpenStand, FitsLone}
+use Rattle.open_certificate.specs.Progress.{OpenProgress, FitsLone}
 
 -- Numbers that are at least what is listed for them, and whose sum is no more, are as listed.
 least_listed : (f : ℕ → ℕ) (xs : List (ℕ × ℕ)) → ((x : ℕ × ℕ) → Has xs x → x.1 ≤ f x.0) → total (λ (x : ℕ × ℕ). x.1) xs ≤ total f (map (λ (x : ℕ × ℕ). x.0) xs)
@@ -73,7 +73,7 @@ against_here : (d : ShellRows) (a : ℕ) (row : Row) (e : ℕ) → row_named d a
 against_here d a row e at is_e way = counted_named (λ (r : Row). (r.edge.0 == e) && not r.along) d a row at
     (and_from (row.edge.0 == e) (not row.along) (eq-eqb row.edge.0 e is_e) (ap not way))
 
-pub edge_step : (d : ShellRows) (at : Stand) (mates : List (ℕ × ℕ)) (alone es : List ℕ) (n a b : ℕ) → AreGoodRows d → EdgeFacts d mates alone es n
+pub edge_step : (d : ShellRows) (at : Progress) (mates : List (ℕ × ℕ)) (alone es : List ℕ) (n a b : ℕ) → AreGoodRows d → EdgeFacts d mates alone es n
     → at.last_edge ≡ first_of es
     → FitsEdge d at a b → EdgeFacts d ((a, b) ∷ mates) alone (cons_option (row_edge (row_named d a)) es) (suc n)
 edge_step d at mates alone es n a b good facts last h =
@@ -102,7 +102,7 @@ edge_step d at mates alone es n a b good facts last h =
           (λ k. facts.by_lone x k one) m;
     })
 
-pub lone_step : (d : ShellRows) (at : OpenStand) (mates : List (ℕ × ℕ)) (alone es : List ℕ) (n a : ℕ) → AreGoodRows d → EdgeFacts d mates alone es n
+pub lone_step : (d : ShellRows) (at : OpenProgress) (mates : List (ℕ × ℕ)) (alone es : List ℕ) (n a : ℕ) → AreGoodRows d → EdgeFacts d mates alone es n
     → at.last_edge ≡ first_of es
     → FitsLone d at a → EdgeFacts d mates (a ∷ alone) (cons_option (row_edge (row_named d a)) es) (suc n)
 lone_step d at mates alone es n a good facts last h =

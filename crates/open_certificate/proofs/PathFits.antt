@@ -6,32 +6,33 @@ use Rattle.edge_uses.specs.declared.row.Row.{Row}
 use Rattle.edge_uses.specs.ShellRows.{ShellRows}
 use Rattle.edge_uses.specs.RowRelations.{point_count}
 use Rattle.cert_text.specs.Text.{Begins, AreNumbers}
-use Rattle.cert_state.specs.Stand.{IsAbove, TurnsTo, row_named, row_start, start_count}
-use Rattle.cert_state.specs.Kept.{corner_size}
+use Rattle.cert_state.specs.Progress.{IsAbove, TurnsTo, row_named, row_start, start_count}
+use Rattle.cert_state.specs.CheckState.{corner_size}
 use Rattle.cert_state.proofs.Rings.{next_left}
 use Rattle.cert_state.proofs.CornerFits.{size_tells, size_of}
 use Rattle.open_certificate.specs.Line.{path}
-use Rattle.open_certificate.specs.Stand.{OpenStand, FitsPath, IsChain, last_of, vertex_in}
+use Rattle.open_certificate.specs.Progress.{OpenProgress, FitsPath, IsChain, last_of, vertex_in}
 use Rattle.open_certificate.specs.Walks.{FitsPathLine}
 
 -- the rest of a fitting line whose first number is read
-pub path_of : (d : ShellRows) (at : OpenStand) (text others : List ℕ) (first : ℕ) (rs : List ℕ) → Begins text first others → AreNumbers text rs
+pub path_of : (d : ShellRows) (at : OpenProgress) (text others : List ℕ) (first : ℕ) (rs : List ℕ) → Begins text first others → AreNumbers text rs
     → FitsPathLine d at rs → (ms : List ℕ) × AreNumbers others ms × FitsPath d at first ms
 path_of d at text others first rs b h fits = let n = next_left text others first rs b h in (n.0, n.2, subst (FitsPathLine d at) n.1 fits)
 
-pub path_no_row : (d : ShellRows) (at : OpenStand) (first : ℕ) (ms : List ℕ) → row_named d first ≡ None → FitsPath d at first ms → ⊥
+pub path_no_row : (d : ShellRows) (at : OpenProgress) (first : ℕ) (ms : List ℕ) → row_named d first ≡ None → FitsPath d at first ms → ⊥
 path_no_row d at first ms none fits = let e : None ≡ Some fits.vertex = sym (ap row_start none) ∙ fits.lies_at in cc
 
-pub path_vertex : (d : ShellRows) (at : OpenStand) (first : ℕ) (ms : List ℕ) (row : Row) → row_named d first ≡ Some row → (fits : FitsPath d at first ms)
+pub path_vertex : (d : ShellRows) (at : OpenProgress) (first : ℕ) (ms : List ℕ) (row : Row) → row_named d first ≡ Some row → (fits : FitsPath d at first ms)
     → fits.vertex ≡ row.from.0
 path_vertex d at first ms row h fits = same_Some fits.vertex row.from.0 (sym fits.lies_at ∙ ap row_start h)
 
-pub path_low : (d : ShellRows) (at : OpenStand) (first : ℕ) (ms : List ℕ) (row : Row) (last : Option ℕ) → row_named d first ≡ Some row → at.last_vertex ≡ last
+pub path_low : (d : ShellRows) (at : OpenProgress) (first : ℕ) (ms : List ℕ) (row : Row) (last : Option ℕ) → row_named d first ≡ Some row
+    → at.last_vertex ≡ last
     → (IsAbove last row.from.0 → ⊥) → FitsPath d at first ms → ⊥
 path_low d at first ms row last h same low fits =
     low (subst (λ o. IsAbove o row.from.0) same (subst (IsAbove at.last_vertex) (path_vertex d at first ms row h fits) fits.rises))
 
-pub path_fits : (d : ShellRows) (at : OpenStand) (text others : List ℕ) (first end : ℕ) (rs : List ℕ) (row : Row) (last : Option ℕ) (len : ℕ)
+pub path_fits : (d : ShellRows) (at : OpenProgress) (text others : List ℕ) (first end : ℕ) (rs : List ℕ) (row : Row) (last : Option ℕ) (len : ℕ)
     → Begins text first others → AreNumbers text rs → row_named d first ≡ Some row → at.last_vertex ≡ last → IsAbove last row.from.0
     → Contains at.lone end → ((ms : List ℕ) → AreNumbers others ms → IsChain (TurnsTo d at.mates) first ms × (end ≡ last_of first ms)
     × (len ≡ length (first ∷ ms))) → corner_size d row.from.0 ≡ len
@@ -51,7 +52,7 @@ path_fits d at text others first end rs row last len b h is_row same above lone 
     } in
     (subst (FitsPathLine d at) (sym n.1) fits, ap (λ xs. vertex_in d (path xs)) n.1 ∙ ap row_start is_row)
 
-pub path_other_size : (d : ShellRows) (at : OpenStand) (first : ℕ) (ms : List ℕ) (row : Row) (len : ℕ) → row_named d first ≡ Some row
+pub path_other_size : (d : ShellRows) (at : OpenProgress) (first : ℕ) (ms : List ℕ) (row : Row) (len : ℕ) → row_named d first ≡ Some row
     → (corner_size d row.from.0 ≡ len → ⊥) → len ≡ length (first ∷ ms) → FitsPath d at first ms → ⊥
 path_other_size d at first ms row len h differ is fits =
     let v = path_vertex d at first ms row h fits in

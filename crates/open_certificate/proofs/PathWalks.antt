@@ -2,10 +2,10 @@
 use Rattle.std.specs.Prelude.{◌≡◌, ℕ, ◌+◌, List, ◌∷◌, length}
 use Rattle.std.proofs.Common.{refl, sym, ◌∙◌, ap, subst, arith}
 use Rattle.edge_uses.specs.ShellRows.{ShellRows}
-use Rattle.cert_state.specs.Stand.{TurnsTo}
+use Rattle.cert_state.specs.Progress.{TurnsTo}
 use Rattle.cert_text.specs.Text.{Begins, AreNumbers}
 use Rattle.cert_state.proofs.Rings.{next_left, none_left}
-use Rattle.open_certificate.specs.Stand.{IsChain, last_of}
+use Rattle.open_certificate.specs.Progress.{IsChain, last_of}
 
 -- The numbers that are left make the chain whole exactly where all make it.
 pub record Walked (d : ShellRows) (pairs : List (ℕ × ℕ)) (first last : ℕ) (rest : List ℕ) (all : List ℕ) (count : ℕ) : Type 0 where

@@ -3,7 +3,7 @@ use Rattle.std.specs.Prelude.{◌≡◌, ℕ, List, [], ◌∷◌, ◌++◌, len
 use Rattle.std.proofs.Common.{sym, ◌∙◌, ap, arith}
 use Rattle.cert_text.specs.Text.{spaced, IsSpaced}
 use Rattle.cert_text.proofs.Spacing.{same_front}
-use Rattle.open_certificate.specs.Said.{HasRowsAfter}
+use Rattle.open_certificate.specs.Parsed.{HasRowsAfter}
 
 rest_is : (text word rest rs : List ℕ) → text ≡ word ++ rest → HasRowsAfter text word rs → rest ≡ spaced rs
 rest_is text word rest rs e h = same_front word rest (spaced rs) (sym e ∙ h.text_is)

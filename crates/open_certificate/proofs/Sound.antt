@@ -19,7 +19,7 @@ use Rattle.edge_uses.proofs.Whole.{vertices_known}
 use Rattle.cert_state.proofs.PointOrder.{faces_of_rows}
 use Rattle.cert_state.proofs.Segment.{AreGoodRows}
 use Rattle.open_certificate.specs.Sound.{IsOnce, IsFanned, IsSoundShell}
-use Rattle.open_certificate.specs.Stand.{shell_of}
+use Rattle.open_certificate.specs.Progress.{shell_of}
 use Rattle.open_certificate.specs.Legal.{IsOpenLegal}
 use Rattle.open_certificate.specs.Obligations.{AllHold, open_shell_obligations, open_obligations, of_shells}
 use Rattle.open_certificate.specs.Legal.{AllJoin}

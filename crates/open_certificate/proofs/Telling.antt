@@ -11,19 +11,20 @@ use Rattle.solid_data.specs.SolidData.{SolidData}
 use Rattle.edge_uses.specs.declared.row.Row.{Row}
 use Rattle.edge_uses.specs.ShellRows.{ShellRows}
 use Rattle.cert_lines.specs.Line.{edge as pair_edge, corner as pair_corner, point as pair_point, reach as pair_reach}
-use Rattle.cert_state.specs.Stand.{Stand, row_named, first_of, IsAbove, FitsEdge, FitsPoint, FitsReach}
-use Rattle.cert_state.specs.Stand.{edge_of, vertex_of, face_of}
-use Rattle.cert_state.specs.Kept.{HoldsMates, HoldsFaces}
+use Rattle.cert_state.specs.Progress.{Progress, row_named, first_of, IsAbove, FitsEdge, FitsPoint, FitsReach}
+use Rattle.cert_state.specs.Progress.{edge_of, vertex_of, face_of}
+use Rattle.cert_state.specs.CheckState.{HoldsMates, HoldsFaces}
 use Rattle.cert_state.specs.Ring.{FitsCornerLine}
 use Rattle.cert_state.proofs.Arrays.{CanMate, MateCases, with_mates, mate_cases, mates_more, faces_more}
 use Rattle.cert_state.proofs.CornerFits.{named_below}
-use Rattle.cert_state.proofs.Standing.{due_of, stand_of}
+use Rattle.cert_state.proofs.Progressing.{due_of, progress_of}
 use Rattle.cert_state.proofs.Telling.{not_passed}
 use Rattle.open_certificate.specs.Line.{OpenLine, shell, edge, lone, cycle, path, point, reach, border}
-use Rattle.open_certificate.specs.Stand.{OpenStand, stand_from_latest, shell_of, shared, edge_in, vertex_in, face_in, border_in, border_rows, FitsShell}
-use Rattle.open_certificate.specs.Stand.{FitsLone}
-use Rattle.open_certificate.specs.Stand.{FitsOpen, CornerDue, BorderDue}
-use Rattle.open_certificate.specs.Kept.{KeptOpen, IsKept, AreCounts, MatchesLines, Takes, HoldsRows, dues, count_limit}
+use Rattle.open_certificate.specs.Progress.{OpenProgress, progress_from_latest, shell_of, shared, edge_in, vertex_in, face_in, border_in, border_rows}
+use Rattle.open_certificate.specs.Progress.{FitsShell}
+use Rattle.open_certificate.specs.Progress.{FitsLone}
+use Rattle.open_certificate.specs.Progress.{FitsOpen, CornerDue, BorderDue}
+use Rattle.open_certificate.specs.CheckState.{OpenCheckState, IsCheckState, AreCounts, MatchesLines, Takes, HoldsRows, dues, count_limit}
 use Rattle.open_certificate.specs.Walks.{FitsPathLine, FitsBorderLine}
 use Rattle.open_certificate.proofs.Marks.{rows_more}
 
@@ -31,34 +32,34 @@ true_false : true ≡ false → ⊥
 true_false h = cc
 
 -- behind a line something was begun
-due_begun : (k : KeptOpen) → IsKept k → 0 < dues k → k.begun ≡ false → ⊥
+due_begun : (k : OpenCheckState) → IsCheckState k → 0 < dues k → k.begun ≡ false → ⊥
 due_begun k kept due e = omega (arith, due, (kept.unbegun e).0)
 
 -- Edge lines of two rows.
 
-abbrev pub with_edge : KeptOpen → ℕ → ℕ → ℕ → ℕ → ℕ → KeptOpen
+abbrev pub with_edge : OpenCheckState → ℕ → ℕ → ℕ → ℕ → ℕ → OpenCheckState
 with_edge k a b e n l = record k { edges_due = n; listed = l; mates = with_mates k.mates a b; last_edge = Some e }
 
 -- where an edge line fits behind the last edge
-pub record EdgeFits (k : KeptOpen) (a b e : ℕ) : Type 0 where
-  pub fits : (at : Stand) → at.last_edge ≡ k.last_edge → FitsEdge k.rows at a b × (edge_of k.rows (pair_edge a b) ≡ Some e)
+pub record EdgeFits (k : OpenCheckState) (a b e : ℕ) : Type 0 where
+  pub fits : (at : Progress) → at.last_edge ≡ k.last_edge → FitsEdge k.rows at a b × (edge_of k.rows (pair_edge a b) ≡ Some e)
 
--- a stand with this last edge
-stand_at : Option ℕ → Stand
-stand_at last = stand_of false 0 (due_of 0 0 0 0) [] last None []
+-- the progress with this last edge
+progress_at : Option ℕ → Progress
+progress_at last = progress_of false 0 (due_of 0 0 0 0) [] last None []
 
-stand_at_last : (last : Option ℕ) → (stand_at last).last_edge ≡ last
-unfolding stand_at
-stand_at_last last = refl
+progress_at_last : (last : Option ℕ) → (progress_at last).last_edge ≡ last
+unfolding progress_at
+progress_at_last last = refl
 
-pub can_mate : (k : KeptOpen) (a b e : ℕ) → IsKept k → EdgeFits k a b e → CanMate k.mates a b
-can_mate k a b e kept h = by_fit (h.fits (stand_at k.last_edge) (stand_at_last k.last_edge)).0
+pub can_mate : (k : OpenCheckState) (a b e : ℕ) → IsCheckState k → EdgeFits k a b e → CanMate k.mates a b
+can_mate k a b e kept h = by_fit (h.fits (progress_at k.last_edge) (progress_at_last k.last_edge)).0
   where
-    by_fit : FitsEdge k.rows (stand_at k.last_edge) a b → CanMate k.mates a b
+    by_fit : FitsEdge k.rows (progress_at k.last_edge) a b → CanMate k.mates a b
     by_fit f =
         let pa = named_below k.rows a f.along_row f.at_a in
         let pb = named_below k.rows b f.against_row f.at_b in
-        let above : IsAbove k.last_edge f.along_row.edge.0 = subst (λ o. IsAbove o f.along_row.edge.0) (stand_at_last k.last_edge) f.rises in
+        let above : IsAbove k.last_edge f.along_row.edge.0 = subst (λ o. IsAbove o f.along_row.edge.0) (progress_at_last k.last_edge) f.rises in
         let one : f.along_row.edge.0 ≡ f.against_row.edge.0 = ap (λ x. x.0) f.one_edge in
         record {
           pos_a = pa.0;
@@ -78,8 +79,8 @@ can_mate k a b e kept h = by_fit (h.fits (stand_at k.last_edge) (stand_at_last k
               omega (arith, q, one, not_passed k.last_edge f.along_row.edge.0 p.0.edge.0 above p.2));
         }
 
-pub edge_kept : (k : KeptOpen) (a b e n l : ℕ) → IsKept k → EdgeFits k a b e → 0 < k.edges_due → n ≡ k.edges_due - 1 → l ≡ k.listed + 2
-    → IsKept (with_edge k a b e n l)
+pub edge_kept : (k : OpenCheckState) (a b e n l : ℕ) → IsCheckState k → EdgeFits k a b e → 0 < k.edges_due → n ≡ k.edges_due - 1 → l ≡ k.listed + 2
+    → IsCheckState (with_edge k a b e n l)
 edge_kept k a b e n l kept h due less more = record {
   sizes = kept.sizes;
   alone = kept.alone;
@@ -92,15 +93,15 @@ edge_kept k a b e n l kept h due less more = record {
   few_listed = omega (arith, kept.few_listed, less, more, due);
   few_lone = omega (arith, kept.few_lone, less);
   unbegun = λ e. absurd (due_begun k kept (omega (arith, due)) e);
-  passed = λ r m is. by_case r m (h.fits (stand_at k.last_edge) (stand_at_last k.last_edge)) (mate_cases k.mates a b r m (can_mate k a b e kept h) is);
+  passed = λ r m is. by_case r m (h.fits (progress_at k.last_edge) (progress_at_last k.last_edge)) (mate_cases k.mates a b r m (can_mate k a b e kept h) is);
 }
   where
-    by_case : (r m : ℕ) → FitsEdge k.rows (stand_at k.last_edge) a b × (edge_of k.rows (pair_edge a b) ≡ Some e) → MateCases k.mates a b r m
+    by_case : (r m : ℕ) → FitsEdge k.rows (progress_at k.last_edge) a b × (edge_of k.rows (pair_edge a b) ≡ Some e) → MateCases k.mates a b r m
         → (row : Row) × (row_named k.rows r ≡ Some row) × (row.edge.0 ≤ e)
     by_case r m (f, is_e) cases =
         let edge_is : f.along_row.edge.0 ≡ e = same_Some f.along_row.edge.0 e (sym (ap (λ o. edge_at o) f.at_a) ∙ is_e) in
         let one : f.along_row.edge.0 ≡ f.against_row.edge.0 = ap (λ x. x.0) f.one_edge in
-        let above : IsAbove k.last_edge f.along_row.edge.0 = subst (λ o. IsAbove o f.along_row.edge.0) (stand_at_last k.last_edge) f.rises in
+        let above : IsAbove k.last_edge f.along_row.edge.0 = subst (λ o. IsAbove o f.along_row.edge.0) (progress_at_last k.last_edge) f.rises in
         ⊎_elim (λ p. (f.along_row, ap (row_named k.rows) p.0 ∙ f.at_a, omega (arith, edge_is)))
         (λ q. ⊎_elim (λ p. (f.against_row, ap (row_named k.rows) p.0 ∙ f.at_b, omega (arith, edge_is, one)))
         (λ old. let p = kept.passed r m old in (p.0, p.1, omega (arith, edge_is, not_passed k.last_edge f.along_row.edge.0 p.0.edge.0 above p.2))) q) cases
@@ -109,12 +110,12 @@ edge_kept k a b e n l kept h due less more = record {
         edge_at None = None
         edge_at (Some x) = Some x.edge.0
 
-pub edge_takes : (k : KeptOpen) (a b e n l : ℕ) → IsKept k → 0 < k.edges_due → n ≡ k.edges_due - 1 → l ≡ k.listed + 2
+pub edge_takes : (k : OpenCheckState) (a b e n l : ℕ) → IsCheckState k → 0 < k.edges_due → n ≡ k.edges_due - 1 → l ≡ k.listed + 2
     → (k.edges_due ≡ 1 → k.listed + 2 ≡ length k.rows.rows) → EdgeFits k a b e
     → Takes k (with_edge k a b e n l) (edge a b) true
-unfolding stand_from_latest
+unfolding progress_from_latest
 edge_takes k a b e n l kept due less more all h s lines t =
-    let at : OpenStand = stand_from_latest s lines in
+    let at : OpenProgress = progress_from_latest s lines in
     let f = h.fits (shared at) (sym t.last_edge) in
     let held = mates_more k.mates at.mates a b (can_mate k a b e kept h) t.mates in
     let is_e : edge_in (shell_of s) (edge a b) ≡ Some e = subst (λ d. edge_of d (pair_edge a b) ≡ Some e) t.rows f.1 in
@@ -146,25 +147,25 @@ edge_takes k a b e n l kept due less more all h s lines t =
       },
     )
 
-pub edge_unfit : (k new : KeptOpen) (a b : ℕ) → ((at : Stand) → at.last_edge ≡ k.last_edge → FitsEdge k.rows at a b → ⊥) → Takes k new (edge a b) false
-edge_unfit k new a b never s lines t f = never (shared (stand_from_latest s lines)) (sym t.last_edge)
-    (subst (λ d. FitsEdge d (shared (stand_from_latest s lines)) a b) (sym t.rows) f.1)
+pub edge_unfit : (k new : OpenCheckState) (a b : ℕ) → ((at : Progress) → at.last_edge ≡ k.last_edge → FitsEdge k.rows at a b → ⊥) → Takes k new (edge a b) false
+edge_unfit k new a b never s lines t f = never (shared (progress_from_latest s lines)) (sym t.last_edge)
+    (subst (λ d. FitsEdge d (shared (progress_from_latest s lines)) a b) (sym t.rows) f.1)
 
-pub edge_short : (k new : KeptOpen) (a b : ℕ) → ((k.edges_due ≡ 1 → k.listed + 2 ≡ length k.rows.rows) → ⊥) → Takes k new (edge a b) false
+pub edge_short : (k new : OpenCheckState) (a b : ℕ) → ((k.edges_due ≡ 1 → k.listed + 2 ≡ length k.rows.rows) → ⊥) → Takes k new (edge a b) false
 edge_short k new a b never s lines t f =
     let rows : length k.rows.rows ≡ length (shell_of s).rows = ap (λ (d : ShellRows). length d.rows) t.rows in
     never (λ one. omega (arith, f.2 (omega (arith, one, t.edges_due)), t.listed, rows))
 
 -- Edge lines of one row.
 
-abbrev pub with_lone : KeptOpen → ℕ → ℕ → ℕ → ℕ → ℕ → KeptOpen
+abbrev pub with_lone : OpenCheckState → ℕ → ℕ → ℕ → ℕ → ℕ → OpenCheckState
 with_lone k a e n l c = record k { edges_due = n; listed = l; lone_count = c; lone = slice_set k.lone (a - 1) true; last_edge = Some e }
 
-pub record LoneFits (k : KeptOpen) (a e : ℕ) : Type 0 where
-  pub fits : (at : OpenStand) → at.last_edge ≡ k.last_edge → FitsLone k.rows at a × (edge_in k.rows (lone a) ≡ Some e)
+pub record LoneFits (k : OpenCheckState) (a e : ℕ) : Type 0 where
+  pub fits : (at : OpenProgress) → at.last_edge ≡ k.last_edge → FitsLone k.rows at a × (edge_in k.rows (lone a) ≡ Some e)
 
--- an open shell's stand with this last edge
-open_at : Option ℕ → OpenStand
+-- an open shell's progress with this last edge
+open_at : Option ℕ → OpenProgress
 open_at last = record {
   number = 0;
   ended = false;
@@ -188,10 +189,10 @@ open_at_last : (last : Option ℕ) → (open_at last).last_edge ≡ last
 unfolding open_at
 open_at_last last = refl
 
-pub lone_within : (k : KeptOpen) (a e : ℕ) → LoneFits k a e → (0 < a) × (a ≤ length k.rows.rows)
+pub lone_within : (k : OpenCheckState) (a e : ℕ) → LoneFits k a e → (0 < a) × (a ≤ length k.rows.rows)
 lone_within k a e h = let f = (h.fits (open_at k.last_edge) (open_at_last k.last_edge)).0 in named_below k.rows a f.row f.at_a
 
-lone_above : (k : KeptOpen) (a e : ℕ) → LoneFits k a e → IsAbove k.last_edge e
+lone_above : (k : OpenCheckState) (a e : ℕ) → LoneFits k a e → IsAbove k.last_edge e
 lone_above k a e h =
     let f = h.fits (open_at k.last_edge) (open_at_last k.last_edge) in
     let edge_is : f.0.row.edge.0 ≡ e = same_Some f.0.row.edge.0 e (sym (ap (λ o. edge_at o) f.0.at_a) ∙ f.1) in
@@ -201,8 +202,9 @@ lone_above k a e h =
     edge_at None = None
     edge_at (Some x) = Some x.edge.0
 
-pub lone_kept : (k : KeptOpen) (a e n l c : ℕ) → IsKept k → LoneFits k a e → 0 < k.edges_due → n ≡ k.edges_due - 1 → l ≡ k.listed + 1 → c ≡ k.lone_count + 1
-    → IsKept (with_lone k a e n l c)
+pub lone_kept : (k : OpenCheckState) (a e n l c : ℕ) → IsCheckState k → LoneFits k a e → 0 < k.edges_due → n ≡ k.edges_due - 1 → l ≡ k.listed + 1
+    → c ≡ k.lone_count + 1
+    → IsCheckState (with_lone k a e n l c)
 lone_kept k a e n l c kept h due less more count = record {
   sizes = kept.sizes;
   alone = kept.alone;
@@ -218,12 +220,12 @@ lone_kept k a e n l c kept h due less more count = record {
   passed = λ r m is. let p = kept.passed r m is in (p.0, p.1, omega (arith, not_passed k.last_edge e p.0.edge.0 (lone_above k a e h) p.2));
 }
 
-pub lone_takes : (k : KeptOpen) (a e n l c : ℕ) → IsKept k → 0 < k.edges_due → n ≡ k.edges_due - 1 → l ≡ k.listed + 1 → c ≡ k.lone_count + 1
+pub lone_takes : (k : OpenCheckState) (a e n l c : ℕ) → IsCheckState k → 0 < k.edges_due → n ≡ k.edges_due - 1 → l ≡ k.listed + 1 → c ≡ k.lone_count + 1
     → (k.edges_due ≡ 1 → k.listed + 1 ≡ length k.rows.rows) → LoneFits k a e
     → Takes k (with_lone k a e n l c) (lone a) true
-unfolding stand_from_latest
+unfolding progress_from_latest
 lone_takes k a e n l c kept due less more count all h s lines t =
-    let at : OpenStand = stand_from_latest s lines in
+    let at : OpenProgress = progress_from_latest s lines in
     let f = h.fits at (sym t.last_edge) in
     let w = lone_within k a e h in
     let is_e : edge_in (shell_of s) (lone a) ≡ Some e = subst (λ d. edge_in d (lone a) ≡ Some e) t.rows f.1 in
@@ -250,21 +252,21 @@ lone_takes k a e n l c kept due less more count all h s lines t =
       },
     )
 
-pub lone_unfit : (k new : KeptOpen) (a : ℕ) → ((at : OpenStand) → at.last_edge ≡ k.last_edge → FitsLone k.rows at a → ⊥) → Takes k new (lone a) false
+pub lone_unfit : (k new : OpenCheckState) (a : ℕ) → ((at : OpenProgress) → at.last_edge ≡ k.last_edge → FitsLone k.rows at a → ⊥) → Takes k new (lone a) false
 lone_unfit k new a never s lines t f =
-    never (stand_from_latest s lines) (sym t.last_edge) (subst (λ d. FitsLone d (stand_from_latest s lines) a) (sym t.rows) f.1)
+    never (progress_from_latest s lines) (sym t.last_edge) (subst (λ d. FitsLone d (progress_from_latest s lines) a) (sym t.rows) f.1)
 
-pub lone_short : (k new : KeptOpen) (a : ℕ) → ((k.edges_due ≡ 1 → k.listed + 1 ≡ length k.rows.rows) → ⊥) → Takes k new (lone a) false
+pub lone_short : (k new : OpenCheckState) (a : ℕ) → ((k.edges_due ≡ 1 → k.listed + 1 ≡ length k.rows.rows) → ⊥) → Takes k new (lone a) false
 lone_short k new a never s lines t f =
     let rows : length k.rows.rows ≡ length (shell_of s).rows = ap (λ (d : ShellRows). length d.rows) t.rows in
     never (λ one. omega (arith, f.2 (omega (arith, one, t.edges_due)), t.listed, rows))
 
 -- Corner, path and point lines.
 
-abbrev pub with_vertex : KeptOpen → ℕ → ℕ → KeptOpen
+abbrev pub with_vertex : OpenCheckState → ℕ → ℕ → OpenCheckState
 with_vertex k v n = record k { corners_due = n; last_vertex = Some v }
 
-pub vertex_kept : (k : KeptOpen) (v n : ℕ) → IsKept k → 0 < k.corners_due → n ≡ k.corners_due - 1 → IsKept (with_vertex k v n)
+pub vertex_kept : (k : OpenCheckState) (v n : ℕ) → IsCheckState k → 0 < k.corners_due → n ≡ k.corners_due - 1 → IsCheckState (with_vertex k v n)
 vertex_kept k v n kept due less = record {
   sizes = kept.sizes;
   alone = kept.alone;
@@ -280,19 +282,19 @@ vertex_kept k v n kept due less = record {
   passed = kept.passed;
 }
 
-cycle_open : (s : SolidData) (at : OpenStand) (rs : List ℕ) → CornerDue at → FitsCornerLine (shell_of s) (shared at) rs → FitsOpen s at (cycle rs)
+cycle_open : (s : SolidData) (at : OpenProgress) (rs : List ℕ) → CornerDue at → FitsCornerLine (shell_of s) (shared at) rs → FitsOpen s at (cycle rs)
 cycle_open s at [] due h = h
 cycle_open s at (r ∷ rs) due h = (due, h)
 
-cycle_line : (s : SolidData) (at : OpenStand) (rs : List ℕ) → FitsOpen s at (cycle rs) → CornerDue at × FitsCornerLine (shell_of s) (shared at) rs
+cycle_line : (s : SolidData) (at : OpenProgress) (rs : List ℕ) → FitsOpen s at (cycle rs) → CornerDue at × FitsCornerLine (shell_of s) (shared at) rs
 cycle_line s at [] h = absurd h
 cycle_line s at (r ∷ rs) h = h
 
-path_open : (s : SolidData) (at : OpenStand) (rs : List ℕ) → CornerDue at → FitsPathLine (shell_of s) at rs → FitsOpen s at (path rs)
+path_open : (s : SolidData) (at : OpenProgress) (rs : List ℕ) → CornerDue at → FitsPathLine (shell_of s) at rs → FitsOpen s at (path rs)
 path_open s at [] due h = h
 path_open s at (r ∷ rs) due h = (due, h)
 
-path_line : (s : SolidData) (at : OpenStand) (rs : List ℕ) → FitsOpen s at (path rs) → CornerDue at × FitsPathLine (shell_of s) at rs
+path_line : (s : SolidData) (at : OpenProgress) (rs : List ℕ) → FitsOpen s at (path rs) → CornerDue at × FitsPathLine (shell_of s) at rs
 path_line s at [] h = absurd h
 path_line s at (r ∷ rs) h = h
 
@@ -307,9 +309,9 @@ CornerKind (path rs) = Unit {0}
 CornerKind (point face l) = Unit {0}
 CornerKind _ = ⊥
 
-vertex_told : (s : SolidData) (lines : List OpenLine) (line : OpenLine) (k : KeptOpen) (v n : ℕ) → CornerKind line → IsKept k → 0 < k.corners_due
+vertex_told : (s : SolidData) (lines : List OpenLine) (line : OpenLine) (k : OpenCheckState) (v n : ℕ) → CornerKind line → IsCheckState k → 0 < k.corners_due
     → MatchesLines s lines k → n ≡ k.corners_due - 1 → vertex_in (shell_of s) line ≡ Some v → MatchesLines s (line ∷ lines) (with_vertex k v n)
-unfolding stand_from_latest
+unfolding progress_from_latest
 vertex_told s lines (cycle rs) k v n kind kept due t less is_v = record {
   entity = t.entity;
   rows = t.rows;
@@ -369,70 +371,70 @@ vertex_told s lines (point face l) k v n kind kept due t less is_v = record {
 }
 vertex_told s lines _ k v n kind kept due t less is_v = absurd kind
 
-pub cycle_takes : (k : KeptOpen) (rs : List ℕ) (v n : ℕ) → IsKept k → k.edges_due ≡ 0 → 0 < k.corners_due → n ≡ k.corners_due - 1
-    → ((at : Stand) → HoldsMates k.mates at.mates → at.last_vertex ≡ k.last_vertex
+pub cycle_takes : (k : OpenCheckState) (rs : List ℕ) (v n : ℕ) → IsCheckState k → k.edges_due ≡ 0 → 0 < k.corners_due → n ≡ k.corners_due - 1
+    → ((at : Progress) → HoldsMates k.mates at.mates → at.last_vertex ≡ k.last_vertex
     → FitsCornerLine k.rows at rs × (vertex_of k.rows (pair_corner rs) ≡ Some v)) → Takes k (with_vertex k v n) (cycle rs) true
 cycle_takes k rs v n kept none due less fit s lines t =
-    let at : OpenStand = stand_from_latest s lines in
+    let at : OpenProgress = progress_from_latest s lines in
     let f = fit (shared at) t.mates (sym t.last_vertex) in (
       cycle_open s at rs (omega (arith, none, t.edges_due), omega (arith, due, t.corners_due)) (subst (λ d. FitsCornerLine d (shared at) rs) t.rows f.0),
       vertex_told s lines (cycle rs) k v n tt kept due t less (cycle_vertex (shell_of s) rs ∙ subst (λ d. vertex_of d (pair_corner rs) ≡ Some v) t.rows f.1),
     )
 
-pub cycle_unfit : (k new : KeptOpen) (rs : List ℕ)
-    → ((at : Stand) → HoldsMates k.mates at.mates → at.last_vertex ≡ k.last_vertex → FitsCornerLine k.rows at rs → ⊥) → Takes k new (cycle rs) false
+pub cycle_unfit : (k new : OpenCheckState) (rs : List ℕ)
+    → ((at : Progress) → HoldsMates k.mates at.mates → at.last_vertex ≡ k.last_vertex → FitsCornerLine k.rows at rs → ⊥) → Takes k new (cycle rs) false
 cycle_unfit k new rs never s lines t f =
-    let at : OpenStand = stand_from_latest s lines in
+    let at : OpenProgress = progress_from_latest s lines in
     never (shared at) t.mates (sym t.last_vertex) (subst (λ d. FitsCornerLine d (shared at) rs) (sym t.rows) (cycle_line s at rs f).1)
 
-pub cycle_not_due : (k new : KeptOpen) (rs : List ℕ) → (k.edges_due ≡ 0 → 0 < k.corners_due → ⊥) → Takes k new (cycle rs) false
+pub cycle_not_due : (k new : OpenCheckState) (rs : List ℕ) → (k.edges_due ≡ 0 → 0 < k.corners_due → ⊥) → Takes k new (cycle rs) false
 cycle_not_due k new rs never s lines t f =
-    let c = (cycle_line s (stand_from_latest s lines) rs f).0 in
+    let c = (cycle_line s (progress_from_latest s lines) rs f).0 in
     never (omega (arith, c.0, t.edges_due)) (omega (arith, c.1, t.corners_due))
 
-pub path_takes : (k : KeptOpen) (rs : List ℕ) (v n : ℕ) → IsKept k → k.edges_due ≡ 0 → 0 < k.corners_due → n ≡ k.corners_due - 1
-    → ((at : OpenStand) → HoldsMates k.mates at.mates → HoldsRows k.lone at.lone → at.last_vertex ≡ k.last_vertex
+pub path_takes : (k : OpenCheckState) (rs : List ℕ) (v n : ℕ) → IsCheckState k → k.edges_due ≡ 0 → 0 < k.corners_due → n ≡ k.corners_due - 1
+    → ((at : OpenProgress) → HoldsMates k.mates at.mates → HoldsRows k.lone at.lone → at.last_vertex ≡ k.last_vertex
     → FitsPathLine k.rows at rs × (vertex_in k.rows (path rs) ≡ Some v)) → Takes k (with_vertex k v n) (path rs) true
 path_takes k rs v n kept none due less fit s lines t =
-    let at : OpenStand = stand_from_latest s lines in
+    let at : OpenProgress = progress_from_latest s lines in
     let f = fit at t.mates t.lone (sym t.last_vertex) in (
       path_open s at rs (omega (arith, none, t.edges_due), omega (arith, due, t.corners_due)) (subst (λ d. FitsPathLine d at rs) t.rows f.0),
       vertex_told s lines (path rs) k v n tt kept due t less (subst (λ d. vertex_in d (path rs) ≡ Some v) t.rows f.1),
     )
 
-pub path_unfit : (k new : KeptOpen) (rs : List ℕ)
-    → ((at : OpenStand) → HoldsMates k.mates at.mates → HoldsRows k.lone at.lone → at.last_vertex ≡ k.last_vertex → FitsPathLine k.rows at rs → ⊥)
+pub path_unfit : (k new : OpenCheckState) (rs : List ℕ)
+    → ((at : OpenProgress) → HoldsMates k.mates at.mates → HoldsRows k.lone at.lone → at.last_vertex ≡ k.last_vertex → FitsPathLine k.rows at rs → ⊥)
     → Takes k new (path rs) false
 path_unfit k new rs never s lines t f =
-    let at : OpenStand = stand_from_latest s lines in
+    let at : OpenProgress = progress_from_latest s lines in
     never at t.mates t.lone (sym t.last_vertex) (subst (λ d. FitsPathLine d at rs) (sym t.rows) (path_line s at rs f).1)
 
-pub path_not_due : (k new : KeptOpen) (rs : List ℕ) → (k.edges_due ≡ 0 → 0 < k.corners_due → ⊥) → Takes k new (path rs) false
+pub path_not_due : (k new : OpenCheckState) (rs : List ℕ) → (k.edges_due ≡ 0 → 0 < k.corners_due → ⊥) → Takes k new (path rs) false
 path_not_due k new rs never s lines t f =
-    let c = (path_line s (stand_from_latest s lines) rs f).0 in
+    let c = (path_line s (progress_from_latest s lines) rs f).0 in
     never (omega (arith, c.0, t.edges_due)) (omega (arith, c.1, t.corners_due))
 
-pub point_takes : (k : KeptOpen) (face place v n : ℕ) → IsKept k → k.edges_due ≡ 0 → 0 < k.corners_due → n ≡ k.corners_due - 1
-    → ((at : Stand) → at.last_vertex ≡ k.last_vertex → FitsPoint k.rows at face place × (vertex_of k.rows (pair_point face place) ≡ Some v))
+pub point_takes : (k : OpenCheckState) (face place v n : ℕ) → IsCheckState k → k.edges_due ≡ 0 → 0 < k.corners_due → n ≡ k.corners_due - 1
+    → ((at : Progress) → at.last_vertex ≡ k.last_vertex → FitsPoint k.rows at face place × (vertex_of k.rows (pair_point face place) ≡ Some v))
     → Takes k (with_vertex k v n) (point face place) true
 point_takes k face place v n kept none due less fit s lines t =
-    let at : OpenStand = stand_from_latest s lines in
+    let at : OpenProgress = progress_from_latest s lines in
     let f = fit (shared at) (sym t.last_vertex) in (
       ((omega (arith, none, t.edges_due), omega (arith, due, t.corners_due)), subst (λ d. FitsPoint d (shared at) face place) t.rows f.0),
       vertex_told s lines (point face place) k v n tt kept due t less (subst (λ d. vertex_of d (pair_point face place) ≡ Some v) t.rows f.1),
     )
 
-pub point_unfit : (k new : KeptOpen) (face place : ℕ) → ((at : Stand) → at.last_vertex ≡ k.last_vertex → FitsPoint k.rows at face place → ⊥)
+pub point_unfit : (k new : OpenCheckState) (face place : ℕ) → ((at : Progress) → at.last_vertex ≡ k.last_vertex → FitsPoint k.rows at face place → ⊥)
     → Takes k new (point face place) false
-point_unfit k new face place never s lines t f = let at : OpenStand = stand_from_latest s lines in never (shared at) (sym t.last_vertex)
+point_unfit k new face place never s lines t f = let at : OpenProgress = progress_from_latest s lines in never (shared at) (sym t.last_vertex)
     (subst (λ d. FitsPoint d (shared at) face place) (sym t.rows) f.1)
 
 -- Reach lines.
 
-abbrev pub with_face : KeptOpen → ℕ → ℕ → KeptOpen
+abbrev pub with_face : OpenCheckState → ℕ → ℕ → OpenCheckState
 with_face k f n = record k { reached = slice_set k.reached f true; reach_due = n }
 
-pub face_kept : (k : KeptOpen) (f n : ℕ) → IsKept k → 0 < k.reach_due → n ≡ k.reach_due - 1 → IsKept (with_face k f n)
+pub face_kept : (k : OpenCheckState) (f n : ℕ) → IsCheckState k → 0 < k.reach_due → n ≡ k.reach_due - 1 → IsCheckState (with_face k f n)
 face_kept k f n kept due less = record {
   sizes = kept.sizes;
   alone = kept.alone;
@@ -448,12 +450,13 @@ face_kept k f n kept due less = record {
   passed = kept.passed;
 }
 
-pub reach_takes : (k : KeptOpen) (r f n : ℕ) → IsKept k → f < length k.reached → k.edges_due ≡ 0 → k.corners_due ≡ 0 → 0 < k.reach_due → n ≡ k.reach_due - 1
-    → ((at : Stand) → HoldsMates k.mates at.mates → HoldsFaces k.reached at.reached → FitsReach k.rows at r × (face_of k.rows (pair_reach r) ≡ Some f))
+pub reach_takes : (k : OpenCheckState) (r f n : ℕ) → IsCheckState k → f < length k.reached → k.edges_due ≡ 0 → k.corners_due ≡ 0 → 0 < k.reach_due
+    → n ≡ k.reach_due - 1
+    → ((at : Progress) → HoldsMates k.mates at.mates → HoldsFaces k.reached at.reached → FitsReach k.rows at r × (face_of k.rows (pair_reach r) ≡ Some f))
     → Takes k (with_face k f n) (reach r) true
-unfolding stand_from_latest
+unfolding progress_from_latest
 reach_takes k r f n kept within no_edges no_corners due less fit s lines t =
-    let at : OpenStand = stand_from_latest s lines in
+    let at : OpenProgress = progress_from_latest s lines in
     let g = fit (shared at) t.mates t.reached in
     let others : List ℕ = filter_map (face_in (shell_of s)) lines in
     let is_f : face_in (shell_of s) (reach r) ≡ Some f = subst (λ d. face_of d (pair_reach r) ≡ Some f) t.rows g.1 in
@@ -484,17 +487,18 @@ reach_takes k r f n kept within no_edges no_corners due less fit s lines t =
       },
     )
 
-pub reach_unfit : (k new : KeptOpen) (r : ℕ) → ((at : Stand) → HoldsMates k.mates at.mates → HoldsFaces k.reached at.reached → FitsReach k.rows at r → ⊥)
+pub reach_unfit : (k new : OpenCheckState) (r : ℕ) → ((at : Progress) → HoldsMates k.mates at.mates → HoldsFaces k.reached at.reached
+    → FitsReach k.rows at r → ⊥)
     → Takes k new (reach r) false
-reach_unfit k new r never s lines t f = let at : OpenStand = stand_from_latest s lines in never (shared at) t.mates t.reached
+reach_unfit k new r never s lines t f = let at : OpenProgress = progress_from_latest s lines in never (shared at) t.mates t.reached
     (subst (λ d. FitsReach d (shared at) r) (sym t.rows) f.1)
 
 -- Border lines.
 
-abbrev pub with_border : KeptOpen → ℕ → ℕ → ℕ → KeptOpen
+abbrev pub with_border : OpenCheckState → ℕ → ℕ → ℕ → OpenCheckState
 with_border k r n c = record k { borders_due = n; bordered = c; last_border = Some r }
 
-pub border_kept : (k : KeptOpen) (r n c : ℕ) → IsKept k → 0 < k.borders_due → n ≡ k.borders_due - 1 → IsKept (with_border k r n c)
+pub border_kept : (k : OpenCheckState) (r n c : ℕ) → IsCheckState k → 0 < k.borders_due → n ≡ k.borders_due - 1 → IsCheckState (with_border k r n c)
 border_kept k r n c kept due less = record {
   sizes = kept.sizes;
   alone = kept.alone;
@@ -525,21 +529,22 @@ capped limit total more now next is_now is_next = by_size (cases_lt total limit)
         let whole : min (more + total) limit ≡ limit = min-eq_right (omega (arith, high)) in
         is_next ∙ (full ∙ sym whole)
 
-border_line : (s : SolidData) (at : OpenStand) (rs : List ℕ) → FitsOpen s at (border rs) → BorderDue at × FitsBorderLine (shell_of s) at rs
+border_line : (s : SolidData) (at : OpenProgress) (rs : List ℕ) → FitsOpen s at (border rs) → BorderDue at × FitsBorderLine (shell_of s) at rs
 border_line s at [] h = absurd h
 border_line s at (r ∷ rs) h = h
 
-border_open : (s : SolidData) (at : OpenStand) (rs : List ℕ) → BorderDue at → FitsBorderLine (shell_of s) at rs → FitsOpen s at (border rs)
+border_open : (s : SolidData) (at : OpenProgress) (rs : List ℕ) → BorderDue at → FitsBorderLine (shell_of s) at rs → FitsOpen s at (border rs)
 border_open s at [] due h = h
 border_open s at (r ∷ rs) due h = (due, h)
 
-pub border_takes : (k : KeptOpen) (rs : List ℕ) (r len n c : ℕ) → IsKept k → k.edges_due ≡ 0 → k.corners_due ≡ 0 → k.reach_due ≡ 0 → 0 < k.borders_due
+pub border_takes : (k : OpenCheckState) (rs : List ℕ) (r len n c : ℕ) → IsCheckState k → k.edges_due ≡ 0 → k.corners_due ≡ 0 → k.reach_due ≡ 0
+    → 0 < k.borders_due
     → n ≡ k.borders_due - 1 → c ≡ min (k.bordered + len) count_limit
-    → ((at : OpenStand) → HoldsRows k.lone at.lone → at.last_border ≡ k.last_border → FitsBorderLine k.rows at rs × (border_in (border rs) ≡ Some r)
+    → ((at : OpenProgress) → HoldsRows k.lone at.lone → at.last_border ≡ k.last_border → FitsBorderLine k.rows at rs × (border_in (border rs) ≡ Some r)
     × (length rs ≡ len)) → Takes k (with_border k r n c) (border rs) true
-unfolding stand_from_latest
+unfolding progress_from_latest
 border_takes k rs r len n c kept no_edges no_corners no_reach due less counted fit s lines t =
-    let at : OpenStand = stand_from_latest s lines in
+    let at : OpenProgress = progress_from_latest s lines in
     let f = fit at t.lone (sym t.last_border) in (
       border_open s at rs (
         omega (arith, no_edges, t.edges_due),
@@ -571,30 +576,31 @@ border_takes k rs r len n c kept no_edges no_corners no_reach due less counted f
       },
     )
 
-pub border_unfit : (k new : KeptOpen) (rs : List ℕ)
-    → ((at : OpenStand) → HoldsRows k.lone at.lone → at.last_border ≡ k.last_border → FitsBorderLine k.rows at rs → ⊥) → Takes k new (border rs) false
+pub border_unfit : (k new : OpenCheckState) (rs : List ℕ)
+    → ((at : OpenProgress) → HoldsRows k.lone at.lone → at.last_border ≡ k.last_border → FitsBorderLine k.rows at rs → ⊥) → Takes k new (border rs) false
 border_unfit k new rs never s lines t f =
-    let at : OpenStand = stand_from_latest s lines in
+    let at : OpenProgress = progress_from_latest s lines in
     never at t.lone (sym t.last_border) (subst (λ d. FitsBorderLine d at rs) (sym t.rows) (border_line s at rs f).1)
 
-pub border_not_due : (k new : KeptOpen) (rs : List ℕ) → (k.edges_due ≡ 0 → k.corners_due ≡ 0 → k.reach_due ≡ 0 → 0 < k.borders_due → ⊥)
+pub border_not_due : (k new : OpenCheckState) (rs : List ℕ) → (k.edges_due ≡ 0 → k.corners_due ≡ 0 → k.reach_due ≡ 0 → 0 < k.borders_due → ⊥)
     → Takes k new (border rs) false
 border_not_due k new rs never s lines t f =
-    let c = (border_line s (stand_from_latest s lines) rs f).0 in
+    let c = (border_line s (progress_from_latest s lines) rs f).0 in
     never (omega (arith, c.0, t.edges_due)) (omega (arith, c.1, t.corners_due)) (omega (arith, c.2, t.reach_due)) (omega (arith, c.3, t.borders_due))
 
 -- The SHELL line.
 
-abbrev pub with_shell : KeptOpen → ℕ → ℕ → ℕ → ℕ → KeptOpen
+abbrev pub with_shell : OpenCheckState → ℕ → ℕ → ℕ → ℕ → OpenCheckState
 with_shell k edges corners faces borders = record k { begun = true; edges_due = edges; corners_due = corners; reach_due = faces; borders_due = borders }
 
-pub shell_takes : (k : KeptOpen) (n rows edges corners faces borders : ℕ) → IsKept k → k.begun ≡ false → n ≡ k.entity
+pub shell_takes : (k : OpenCheckState) (n rows edges corners faces borders : ℕ) → IsCheckState k → k.begun ≡ false → n ≡ k.entity
     → AreCounts k.rows rows edges corners faces → Takes k (with_shell k edges corners (faces - 1) borders) (shell n rows edges corners faces borders) true
-unfolding stand_from_latest
+unfolding progress_from_latest
 shell_takes k n rows edges corners faces borders kept fresh named counts s lines t = at_first lines (t.first fresh) t
   where
     at_first : (ls : List OpenLine) → ls ≡ [] → MatchesLines s ls k
-        → ((((stand_from_latest s ls).begun ≡ false) × FitsShell s n rows edges corners faces) × MatchesLines s (shell n rows edges corners faces borders ∷ ls)
+        → ((((progress_from_latest s ls).begun ≡ false) × FitsShell s n rows edges corners faces)
+            × MatchesLines s (shell n rows edges corners faces borders ∷ ls)
         (with_shell k edges corners (faces - 1) borders))
     at_first (l ∷ ls) e t = absurd (let h : l ∷ ls ≡ [] = e in cc)
     at_first [] e t = (
@@ -629,8 +635,8 @@ shell_takes k n rows edges corners faces borders kept fresh named counts s lines
       },
     )
 
-pub shell_kept : (k : KeptOpen) (rows edges corners faces borders : ℕ) → IsKept k → k.begun ≡ false → AreCounts k.rows rows edges corners faces
-    → edges < 2 ^ 32 → corners < 2 ^ 32 → faces < 2 ^ 32 → borders < 2 ^ 32 → IsKept (with_shell k edges corners (faces - 1) borders)
+pub shell_kept : (k : OpenCheckState) (rows edges corners faces borders : ℕ) → IsCheckState k → k.begun ≡ false → AreCounts k.rows rows edges corners faces
+    → edges < 2 ^ 32 → corners < 2 ^ 32 → faces < 2 ^ 32 → borders < 2 ^ 32 → IsCheckState (with_shell k edges corners (faces - 1) borders)
 shell_kept k rows edges corners faces borders kept fresh counts e c f b = record {
   sizes = kept.sizes;
   alone = kept.alone;
@@ -646,14 +652,15 @@ shell_kept k rows edges corners faces borders kept fresh counts e c f b = record
   passed = kept.passed;
 }
 
-pub shell_again : (k new : KeptOpen) (n rows edges corners faces borders : ℕ) → k.begun ≡ true → Takes k new (shell n rows edges corners faces borders) false
+pub shell_again : (k new : OpenCheckState) (n rows edges corners faces borders : ℕ) → k.begun ≡ true
+    → Takes k new (shell n rows edges corners faces borders) false
 shell_again k new n rows edges corners faces borders begun s lines t f = true_false (sym begun ∙ (t.begun ∙ f.0))
 
-pub other_shell : (k new : KeptOpen) (n rows edges corners faces borders : ℕ) → (n ≡ k.entity → ⊥)
+pub other_shell : (k new : OpenCheckState) (n rows edges corners faces borders : ℕ) → (n ≡ k.entity → ⊥)
     → Takes k new (shell n rows edges corners faces borders) false
 other_shell k new n rows edges corners faces borders other s lines t f = other (f.1.names ∙ sym t.entity)
 
-pub other_counts : (k new : KeptOpen) (n rows edges corners faces borders : ℕ) → (AreCounts k.rows rows edges corners faces → ⊥)
+pub other_counts : (k new : OpenCheckState) (n rows edges corners faces borders : ℕ) → (AreCounts k.rows rows edges corners faces → ⊥)
     → Takes k new (shell n rows edges corners faces borders) false
 other_counts k new n rows edges corners faces borders other s lines t f = other (record {
   rows_counted = subst (λ (d : ShellRows). rows ≡ length d.rows) (sym t.rows) f.1.rows_counted;
@@ -663,10 +670,11 @@ other_counts k new n rows edges corners faces borders other s lines t f = other 
 })
 
 -- no line
-pub fresh_tells : (k : KeptOpen) (s : SolidData) → k.entity ≡ s.entity.0 → k.rows ≡ shell_of s → k.begun ≡ false → HoldsMates k.mates [] → HoldsRows k.lone []
+pub fresh_tells : (k : OpenCheckState) (s : SolidData) → k.entity ≡ s.entity.0 → k.rows ≡ shell_of s → k.begun ≡ false → HoldsMates k.mates []
+    → HoldsRows k.lone []
     → k.lone_count ≡ 0 → HoldsFaces k.reached (0 ∷ []) → dues k ≡ 0 → k.listed ≡ 0 → k.bordered ≡ 0
     → k.last_edge ≡ None → k.last_vertex ≡ None → k.last_border ≡ None → MatchesLines s [] k
-unfolding stand_from_latest
+unfolding progress_from_latest
 fresh_tells k s entity rows begun mates marks count reached none listed bordered is_edge_of is_vertex_of is_border_of = record {
   entity = entity;
   rows = rows;

@@ -8,7 +8,7 @@ use Rattle.shell_rules.specs.Closed.{IsClosedShell}
 use Rattle.edge_uses.specs.ShellRows.{ShellRows, shell_rows}
 use Rattle.open_certificate.specs.Sound.{IsBorder, IsBorderCycleOf, IsSoundShell}
 use Rattle.open_certificate.specs.Line.{OpenLine, border, IsSpelled}
-use Rattle.open_certificate.specs.Stand.{shell_of}
+use Rattle.open_certificate.specs.Progress.{shell_of}
 use Rattle.open_certificate.specs.Legal.{IsOpenLegal}
 use Rattle.open_certificate.specs.Obligations.{open_obligations, AllHold}
 use Rattle.open_certificate.specs.Legal.{IsOpenShell, IsOpenAccepted, AllJoin}

@@ -1,11 +1,11 @@
 pub mod Sound
 pub mod Obligations
 pub mod Line
-pub mod Stand
+pub mod Progress
 pub mod Legal
-pub mod Said
+pub mod Parsed
 pub mod Written
-pub mod Kept
+pub mod CheckState
 pub mod Walks
 pub mod Laws
 pub use Rattle.cert_text.specs.Text

@@ -72,8 +72,8 @@ IsSpelled bytes line = HasSpelling line × (bytes ≡ spelling line)
 abbrev pub IsMisspelt : List ℕ → Type 0
 IsMisspelt bytes = (line : OpenLine) → ¬ IsSpelled bytes line
 
-abbrev pub IsHead : OpenLine → Type 0
-IsHead line = line ≡ head
+abbrev pub IsHeadLine : OpenLine → Type 0
+IsHeadLine line = line ≡ head
 
 -- a SHELL line of this number
 abbrev pub NamesShell : ℕ → OpenLine → Type 0

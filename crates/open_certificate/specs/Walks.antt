@@ -2,15 +2,15 @@
 use Rattle.std.specs.Prelude.{ℕ, ◌<◌, List, [], ◌∷◌, ◌++◌, Contains}
 use Rattle.std.specs.List.{AllByRecursion, AllZip}
 use Rattle.edge_uses.specs.ShellRows.{ShellRows}
-use Rattle.open_certificate.specs.Stand.{OpenStand, GoesOnTo, FitsPath, FitsBorder}
+use Rattle.open_certificate.specs.Progress.{OpenProgress, GoesOnTo, FitsPath, FitsBorder}
 
 -- A path line of these rows fits.
-abbrev pub FitsPathLine : ShellRows → OpenStand → List ℕ → Type 0
+abbrev pub FitsPathLine : ShellRows → OpenProgress → List ℕ → Type 0
 FitsPathLine d at [] = ⊥
 FitsPathLine d at (r ∷ rs) = FitsPath d at r rs
 
 -- A border line of these rows fits.
-abbrev pub FitsBorderLine : ShellRows → OpenStand → List ℕ → Type 0
+abbrev pub FitsBorderLine : ShellRows → OpenProgress → List ℕ → Type 0
 FitsBorderLine d at [] = ⊥
 FitsBorderLine d at (r ∷ rs) = FitsBorder d at r rs
 

@@ -1,7 +1,7 @@
 //! The checker of the lines of an open shell's certificate.
 
+use crate::parsed::{OpenCounts, ParsedOpenLine, read_line};
 use crate::state::OpenState;
-use crate::words::{OpenCounts, OpenWords, read_line};
 use cert_lines::Illegal;
 use edge_uses::rows;
 use iges_base::NoMemory;
@@ -21,20 +21,20 @@ pub struct OpenChecker<'a> {
 }
 
 impl<'a> Model for OpenChecker<'a> {
-    ghost use Rattle.open_certificate.specs.Kept.{KeptChecker};
+    ghost use Rattle.open_certificate.specs.CheckState.{OpenCheckerState};
 
-    ghost Value = { KeptChecker };
+    ghost Value = { OpenCheckerState };
 
     ghost view = { λ c. record { solid = c.solid.now; failed = c.failed; number = c.number; ended = c.ended; shell = c.shell } };
 
-    ghost use Rattle.open_certificate.specs.Kept.{HasRoom};
+    ghost use Rattle.open_certificate.specs.CheckState.{HasRoom};
 
     ghost invariant = { λ c. HasRoom (record { solid = c.solid.now; failed = c.failed; number = c.number; ended = c.ended; shell = c.shell }) };
 }
 
 ghost use Rattle.std.specs.Prelude.{◌≡◌, [], IfOk, false};
 ghost use Rattle.open_certificate.specs.Legal.{IsOpenShell};
-ghost use Rattle.open_certificate.specs.Kept.{MatchesLines, dues};
+ghost use Rattle.open_certificate.specs.CheckState.{MatchesLines, dues};
 
 /// The shell of the solid, of which no line was read.
 fn state_of(alloc: Global, solid: &Solid) -> Result<OpenState, NoMemory>
@@ -53,10 +53,10 @@ impl<'a> OpenChecker<'a> {
     ghost use Rattle.edge_uses.specs.ShellRows.{EndsMeet};
     ghost use Rattle.open_certificate.specs.Legal.{IsOpenShell, AllJoin};
     ghost use Rattle.open_certificate.specs.Line.{OpenLine, HasSpelling, IsSpelled, shell, end};
-    ghost use Rattle.open_certificate.specs.Said.{Means, IsRowLine};
-    ghost use Rattle.open_certificate.specs.Stand.{stand_from_latest, FitsLine};
+    ghost use Rattle.open_certificate.specs.Parsed.{Means, IsRowLine};
+    ghost use Rattle.open_certificate.specs.Progress.{progress_from_latest, FitsLine};
     ghost use Rattle.open_certificate.specs.Legal.{IsBadLine};
-    ghost use Rattle.open_certificate.specs.Kept.{IsAt, TakesLine};
+    ghost use Rattle.open_certificate.specs.CheckState.{IsAt, TakesLine};
     ghost use Rattle.cert_text.specs.declared.fault.Illegal.TheVariants.{Missing as IsMissing};
 
     /// A checker of which the next line is line 2. The solid has one shell, whose entity is the solid's own, and whose
@@ -116,7 +116,7 @@ impl<'a> OpenChecker<'a> {
     }
 
     /// Takes an edge, corner, path, point, reach or border line, exactly where it fits.
-    fn take_row_line(&mut self, words: OpenWords<'_>) -> bool
+    fn take_row_line(&mut self, words: ParsedOpenLine<'_>) -> bool
         requires { self.old.ended ≡ false }
         ensures line { (line : OpenLine) → Means words.entry line → HasSpelling line
             → IsRowLine line → TakesLine self.old self.new line result }
@@ -131,7 +131,7 @@ impl<'a> OpenChecker<'a> {
     }
 
     /// Takes a line, exactly where it fits.
-    fn take(&mut self, words: OpenWords<'_>) -> bool
+    fn take(&mut self, words: ParsedOpenLine<'_>) -> bool
         ensures line { (line : OpenLine) → Means words.entry line → HasSpelling line
             → TakesLine self.old self.new line result }
         ensures solid { self.new.solid ≡ self.old.solid }
@@ -141,16 +141,16 @@ impl<'a> OpenChecker<'a> {
             return false;
         }
         match words {
-            OpenWords::Head => false,
-            OpenWords::Shell(counts) => self.take_shell(&counts),
-            OpenWords::End => self.take_end(),
-            OpenWords::Edge(..)
-            | OpenWords::Lone(_)
-            | OpenWords::Cycle(_)
-            | OpenWords::Path(_)
-            | OpenWords::Point(..)
-            | OpenWords::Reach(_)
-            | OpenWords::Border(_) => self.take_row_line(words),
+            ParsedOpenLine::Head => false,
+            ParsedOpenLine::Shell(counts) => self.take_shell(&counts),
+            ParsedOpenLine::End => self.take_end(),
+            ParsedOpenLine::Edge(..)
+            | ParsedOpenLine::Lone(_)
+            | ParsedOpenLine::Cycle(_)
+            | ParsedOpenLine::Path(_)
+            | ParsedOpenLine::Point(..)
+            | ParsedOpenLine::Reach(_)
+            | ParsedOpenLine::Border(_) => self.take_row_line(words),
         }
     }
 
@@ -158,7 +158,7 @@ impl<'a> OpenChecker<'a> {
     /// that is misspelt or unfit. Once a line was Illegal, or `finish` found one missing, each call answers the same.
     pub fn line(&mut self, line: &[u8]) -> Result<(), Illegal>
         ensures line { (lines : List OpenLine) → IsAt self.old lines → MatchResult result
-            (λ _. (l : OpenLine) × IsSpelled line.now l × FitsLine self.old.solid (stand_from_latest self.old.solid lines) l × IsAt self.new (l ∷ lines))
+            (λ _. (l : OpenLine) × IsSpelled line.now l × FitsLine self.old.solid (progress_from_latest self.old.solid lines) l × IsAt self.new (l ∷ lines))
             (λ bad. IsBadLine self.old.solid lines line.now bad × (self.new.failed ≡ Some bad)) }
         ensures stays { IfSome self.old.failed (λ bad. (result ≡ Err bad) × (self.new ≡ self.old)) }
         ensures solid { self.new.solid ≡ self.old.solid }
@@ -181,8 +181,8 @@ impl<'a> OpenChecker<'a> {
     /// Whether END was the last line. Where it wasn't, the line after the last one is missing.
     pub fn finish(&mut self) -> Result<(), Illegal>
         ensures ended { (lines : List OpenLine) → IsAt self.old lines → MatchResult result
-            (λ _. ((stand_from_latest self.old.solid lines).ended ≡ true) × (self.new ≡ self.old))
-            (λ bad. ((stand_from_latest self.old.solid lines).ended ≡ false) × (bad ≡ IsMissing (stand_from_latest self.old.solid lines).number) × (self.new.failed ≡ Some bad)) }
+            (λ _. ((progress_from_latest self.old.solid lines).ended ≡ true) × (self.new ≡ self.old))
+            (λ bad. ((progress_from_latest self.old.solid lines).ended ≡ false) × (bad ≡ IsMissing (progress_from_latest self.old.solid lines).number) × (self.new.failed ≡ Some bad)) }
         ensures stays { IfSome self.old.failed (λ bad. (result ≡ Err bad) × (self.new ≡ self.old)) }
         ensures solid { self.new.solid ≡ self.old.solid }
     {

@@ -3,14 +3,14 @@
 ghost use Rattle.std.specs.Prelude.{◌≡◌, ◌↔◌, ℕ, ◌+◌, ◌-◌, ◌<◌, ◌^◌, ◌∷◌, List, IsTrue, MatchOption, Some, length, map};
 ghost use Rattle.edge_uses.specs.declared.row.Row.{Row as AnyRow};
 ghost use Rattle.cert_text.specs.Text.{AreNumbers};
-ghost use Rattle.cert_state.specs.Stand.{TurnsTo};
-ghost use Rattle.cert_state.specs.Kept.{HoldsMates, corner_size};
+ghost use Rattle.cert_state.specs.Progress.{TurnsTo};
+ghost use Rattle.cert_state.specs.CheckState.{HoldsMates, corner_size};
 ghost use Rattle.open_certificate.specs.Line.{lone as lone_line, path as path_line, border as border_line};
-ghost use Rattle.open_certificate.specs.Stand.{OpenStand, edge_in, vertex_in, border_in, GoesOnTo, IsChain, last_of, FitsLone};
-ghost use Rattle.open_certificate.specs.Kept.{IsMarked, HoldsRows, AreCounts};
+ghost use Rattle.open_certificate.specs.Progress.{OpenProgress, edge_in, vertex_in, border_in, GoesOnTo, IsChain, last_of, FitsLone};
+ghost use Rattle.open_certificate.specs.CheckState.{IsMarked, HoldsRows, AreCounts};
 ghost use Rattle.open_certificate.specs.Walks.{FitsPathLine, FitsBorderLine, IsBorderRing};
 
-use crate::words::OpenCounts;
+use crate::parsed::OpenCounts;
 use cert_state::{is_above, named_row, turns_to};
 use cert_text::next_number;
 use edge_uses::Rows;
@@ -38,7 +38,7 @@ pub(crate) fn lists_all(rows: &Rows, edges_due: u32, listed: u64, more: u64) -> 
 
 /// The edge of a line of the only row of an edge that fits after one of the last edge.
 pub(crate) fn fitting_lone(rows: &Rows, last: Option<u32>, row: u32) -> Option<EdgeId>
-    ensures { (at : OpenStand) → at.last_edge ≡ last → MatchOption result (¬ FitsLone rows.now at row)
+    ensures { (at : OpenProgress) → at.last_edge ≡ last → MatchOption result (¬ FitsLone rows.now at row)
         (λ e. FitsLone rows.now at row × (edge_in rows.now (lone_line row) ≡ Some e.0)) }
 {
     let Some(here) = named_row(rows, row) else {
@@ -96,7 +96,7 @@ pub(crate) fn fitting_path(
     numbers: &[u8],
 ) -> Option<VertexId>
     requires { sizes.now ≡ map (λ (r : AnyRow). corner_size rows.now r.from.0) rows.now.rows }
-    ensures { (at : OpenStand) (rs : List ℕ) → HoldsMates mates.now at.mates → HoldsRows lone.now at.lone → at.last_vertex ≡ last → AreNumbers numbers.now rs →
+    ensures { (at : OpenProgress) (rs : List ℕ) → HoldsMates mates.now at.mates → HoldsRows lone.now at.lone → at.last_vertex ≡ last → AreNumbers numbers.now rs →
         MatchOption result (¬ FitsPathLine rows.now at rs) (λ v. FitsPathLine rows.now at rs × (vertex_in rows.now (path_line rs) ≡ Some v.0)) }
 {
     let Some((first, others)) = next_number(numbers) else {
@@ -176,7 +176,7 @@ pub(crate) fn fitting_border(
     last: Option<u32>,
     numbers: &[u8],
 ) -> Option<(u32, usize)>
-    ensures { (at : OpenStand) (rs : List ℕ) → HoldsRows lone.now at.lone → at.last_border ≡ last → AreNumbers numbers.now rs →
+    ensures { (at : OpenProgress) (rs : List ℕ) → HoldsRows lone.now at.lone → at.last_border ≡ last → AreNumbers numbers.now rs →
         MatchOption result (¬ FitsBorderLine rows.now at rs) (λ p. FitsBorderLine rows.now at rs × (border_in (border_line rs) ≡ Some p.0) × (length rs ≡ p.1)) }
 {
     let Some((first, others)) = next_number(numbers) else {

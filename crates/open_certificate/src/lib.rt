@@ -9,10 +9,10 @@ mod checker;
 mod fitting;
 mod law;
 mod opening;
+mod parsed;
 mod parts;
 mod state;
 mod verdict;
-mod words;
 mod writing;
 
 pub use cert_lines::ReachRows;

@@ -2,9 +2,9 @@
 
 ghost use Rattle.std.specs.Prelude.{MatchResult};
 ghost use Rattle.open_certificate.specs.Line.{head, IsSpelled};
-ghost use Rattle.open_certificate.specs.Line.{IsHead, IsShell, NamesShell, IsOf, IsMisfit};
+ghost use Rattle.open_certificate.specs.Line.{IsHeadLine, IsShell, NamesShell, IsOf, IsMisfit};
 
-use crate::words::{OpenWords, read_line};
+use crate::parsed::{ParsedOpenLine, read_line};
 use cert_lines::Misfit;
 use iges_base::EntryNo;
 
@@ -12,10 +12,10 @@ use iges_base::EntryNo;
 /// no memory.
 pub fn open_head(line: &[u8]) -> Result<(), Misfit>
     ensures { MatchResult result (λ _. IsSpelled line.now head)
-        (λ misfit. IsMisfit IsHead line.now misfit) }
+        (λ misfit. IsMisfit IsHeadLine line.now misfit) }
 {
     match read_line(line) {
-        Some(OpenWords::Head) => Ok(()),
+        Some(ParsedOpenLine::Head) => Ok(()),
         Some(_) => Err(Misfit::Unfit),
         None => Err(Misfit::Misspelt),
     }
@@ -28,7 +28,7 @@ pub fn shell_number(line: &[u8]) -> Result<EntryNo, Misfit>
         (λ misfit. IsMisfit IsShell line.now misfit) }
 {
     match read_line(line) {
-        Some(OpenWords::Shell(counts)) => Ok(EntryNo(counts.shell)),
+        Some(ParsedOpenLine::Shell(counts)) => Ok(EntryNo(counts.shell)),
         Some(_) => Err(Misfit::Unfit),
         None => Err(Misfit::Misspelt),
     }

@@ -1,7 +1,7 @@
 //! How far the lines of an open shell have come.
 
 use crate::fitting::{fits_counts, fitting_border, fitting_lone, fitting_path, lists_all};
-use crate::words::{OpenCounts, OpenWords};
+use crate::parsed::{OpenCounts, ParsedOpenLine};
 use cert_state::{fitting_corner, fitting_edge, fitting_face, fitting_point, sizes_of};
 use edge_uses::Rows;
 use iges_base::{EntryNo, NoMemory};
@@ -49,17 +49,17 @@ pub(crate) struct OpenState {
 }
 
 impl Model for OpenState {
-    ghost use Rattle.open_certificate.specs.Kept.{KeptOpen, IsKept};
+    ghost use Rattle.open_certificate.specs.CheckState.{OpenCheckState, IsCheckState};
 
-    ghost Value = { KeptOpen };
+    ghost Value = { OpenCheckState };
 
     ghost view = { λ k. record { entity = k.entity.0; rows = k.rows; sizes = k.sizes.items; alone = k.alone.items; begun = k.begun; mates = k.mates.items; lone = k.lone.items; lone_count = k.lone_count; reached = k.reached.items; edges_due = k.edges_due; corners_due = k.corners_due; reach_due = k.reach_due; borders_due = k.borders_due; listed = k.listed; bordered = k.bordered; last_edge = k.last_edge; last_vertex = k.last_vertex; last_border = k.last_border } };
 
-    ghost invariant = { λ k. IsKept (record { entity = k.entity.0; rows = k.rows; sizes = k.sizes.items; alone = k.alone.items; begun = k.begun; mates = k.mates.items; lone = k.lone.items; lone_count = k.lone_count; reached = k.reached.items; edges_due = k.edges_due; corners_due = k.corners_due; reach_due = k.reach_due; borders_due = k.borders_due; listed = k.listed; bordered = k.bordered; last_edge = k.last_edge; last_vertex = k.last_vertex; last_border = k.last_border }) };
+    ghost invariant = { λ k. IsCheckState (record { entity = k.entity.0; rows = k.rows; sizes = k.sizes.items; alone = k.alone.items; begun = k.begun; mates = k.mates.items; lone = k.lone.items; lone_count = k.lone_count; reached = k.reached.items; edges_due = k.edges_due; corners_due = k.corners_due; reach_due = k.reach_due; borders_due = k.borders_due; listed = k.listed; bordered = k.bordered; last_edge = k.last_edge; last_vertex = k.last_vertex; last_border = k.last_border }) };
 }
 
 ghost use Rattle.std.specs.Prelude.{◌≡◌, ◌<◌, IfOk, length, replicate, ◌∷◌, [], false};
-ghost use Rattle.cert_state.specs.Kept.{HoldsFaces};
+ghost use Rattle.cert_state.specs.CheckState.{HoldsFaces};
 
 // One number for each row: its mate, from 1, or 0 while no line has named one.
 fn no_mates(alloc: Global, rows: usize) -> Result<Vec<u32>, NoMemory>
@@ -90,11 +90,11 @@ impl OpenState {
     ghost use Rattle.std.specs.Prelude.{◌≡◌, ◌↔◌, ℕ, ◌+◌, ◌<◌, ◌^◌, [], List, IsTrue, IfOk, true, false, length};
     ghost use Rattle.solid_data.specs.SolidData.{SolidData};
     ghost use Rattle.cert_text.specs.Text.{AreNumbers};
-    ghost use Rattle.cert_state.specs.Kept.{InFileOrder};
+    ghost use Rattle.cert_state.specs.CheckState.{InFileOrder};
     ghost use Rattle.open_certificate.specs.Line.{OpenLine, HasSpelling, shell, edge, lone, cycle, path, point, reach, border};
-    ghost use Rattle.open_certificate.specs.Stand.{OpenStand, stand_from_latest, shell_of, IsDone};
-    ghost use Rattle.open_certificate.specs.Said.{Means, IsRowLine};
-    ghost use Rattle.open_certificate.specs.Kept.{Takes, MatchesLines, dues};
+    ghost use Rattle.open_certificate.specs.Progress.{OpenProgress, progress_from_latest, shell_of, IsDone};
+    ghost use Rattle.open_certificate.specs.Parsed.{Means, IsRowLine};
+    ghost use Rattle.open_certificate.specs.CheckState.{Takes, MatchesLines, dues};
 
     /// A shell of which no line was read.
     pub(crate) fn of(alloc: Global, entity: EntryNo, rows: Rows) -> Result<OpenState, NoMemory>
@@ -137,7 +137,7 @@ impl OpenState {
     pub(crate) fn is_done(&self) -> bool
         ensures begun { IsTrue result → self.now.begun ≡ true }
         ensures done { (s : SolidData) (lines : List OpenLine) → MatchesLines s lines self.now
-            → IsTrue result ↔ IsDone (stand_from_latest s lines) }
+            → IsTrue result ↔ IsDone (progress_from_latest s lines) }
     {
         self.begun
             && self.edges_due == 0
@@ -328,7 +328,7 @@ impl OpenState {
     }
 
     /// Takes an edge, corner, path, point, reach or border line, exactly where it fits.
-    pub(crate) fn take(&mut self, words: OpenWords<'_>) -> bool
+    pub(crate) fn take(&mut self, words: ParsedOpenLine<'_>) -> bool
         ensures line { (line : OpenLine) → Means words.entry line → HasSpelling line
             → IsRowLine line → Takes self.old self.new line result }
         ensures due { IsTrue result → dues self.new + 1 ≡ dues self.old }
@@ -336,14 +336,14 @@ impl OpenState {
         ensures refused { result ≡ false → self.new ≡ self.old }
     {
         match words {
-            OpenWords::Edge(along, against) => self.take_edge(along, against),
-            OpenWords::Lone(row) => self.take_lone(row),
-            OpenWords::Cycle(numbers) => self.take_cycle(numbers),
-            OpenWords::Path(numbers) => self.take_path(numbers),
-            OpenWords::Point(face, place) => self.take_point(face, place),
-            OpenWords::Reach(row) => self.take_reach(row),
-            OpenWords::Border(numbers) => self.take_border(numbers),
-            OpenWords::Head | OpenWords::Shell(_) | OpenWords::End => false,
+            ParsedOpenLine::Edge(along, against) => self.take_edge(along, against),
+            ParsedOpenLine::Lone(row) => self.take_lone(row),
+            ParsedOpenLine::Cycle(numbers) => self.take_cycle(numbers),
+            ParsedOpenLine::Path(numbers) => self.take_path(numbers),
+            ParsedOpenLine::Point(face, place) => self.take_point(face, place),
+            ParsedOpenLine::Reach(row) => self.take_reach(row),
+            ParsedOpenLine::Border(numbers) => self.take_border(numbers),
+            ParsedOpenLine::Head | ParsedOpenLine::Shell(_) | ParsedOpenLine::End => false,
         }
     }
 }

@@ -10,7 +10,7 @@ use Rattle.open_certificate.specs.Legal.{IsOpenAccepted}
 use Rattle.open_certificate.specs.Legal.{IsOpenLegal}
 use Rattle.open_certificate.specs.Line.{OpenLine, head, shell, edge, lone, cycle, path, point, reach, border, end}
 use Rattle.open_certificate.specs.Line.{NamesShell, IsOf}
-use Rattle.open_certificate.specs.Stand.{stand_from_latest, FitsOpen}
+use Rattle.open_certificate.specs.Progress.{progress_from_latest, FitsOpen}
 use Rattle.open_certificate.proofs.Borders as of_solids
 use Rattle.open_shells.proofs.Complete.{sound_exactly as sound_exactly_of_solids}
 use Rattle.open_certificate.proofs.Sound.{accepted_is_sound}
@@ -23,8 +23,8 @@ none_due : 0 < 0 → ⊥
 none_due h = omega (arith, h)
 
 -- The only line that fits first is a SHELL line of the solid's number.
-first_names : (s : SolidData) (l : OpenLine) → FitsOpen s (stand_from_latest s []) l → NamesShell s.entity.0 l
-unfolding stand_from_latest
+first_names : (s : SolidData) (l : OpenLine) → FitsOpen s (progress_from_latest s []) l → NamesShell s.entity.0 l
+unfolding progress_from_latest
 first_names s head h = absurd h
 first_names s (shell n rows edges corners faces borders) h =
     (rows, edges, corners, faces, borders, ap (λ m. shell m rows edges corners faces borders) h.1.names)
@@ -40,8 +40,8 @@ first_names s (border []) h = absurd h
 first_names s (border (r ∷ rs)) h = absurd (none_due h.0.3)
 first_names s end h = absurd (let e : false ≡ true = h.begun in cc)
 
-unended : (s : SolidData) → (stand_from_latest s []).ended ≡ true → ⊥
-unfolding stand_from_latest
+unended : (s : SolidData) → (progress_from_latest s []).ended ≡ true → ⊥
+unfolding progress_from_latest
 unended s h = absurd (let e : false ≡ true = h in cc)
 
 legal_names : (s : SolidData) (lines : List (List ℕ)) → IsOpenLegal s lines → (second : List ℕ) × (rest : List (List ℕ)) × (lines ≡ second ∷ rest)

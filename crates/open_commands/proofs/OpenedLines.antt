@@ -9,7 +9,7 @@ use Rattle.cert_text.specs.declared.fault.Illegal.TheVariants.{Missing}
 use Rattle.cert_text.specs.declared.fault.Misfit.{Misfit}
 use Rattle.cert_text.specs.declared.fault.Misfit.TheVariants.{Misspelt, Unfit}
 use Rattle.open_certificate.specs.Line.{OpenLine, head, shell, edge, lone, cycle, path, point, reach, border, end, IsSpelled}
-use Rattle.open_certificate.specs.Line.{IsHead, IsShell, NamesShell, IsOf, IsMisfit}
+use Rattle.open_certificate.specs.Line.{IsHeadLine, IsShell, NamesShell, IsOf, IsMisfit}
 use Rattle.open_certificate.proofs.Spelling.{line_one}
 use Rattle.open_certificate.proofs.LinesDecided.{some_line_decided}
 use Rattle.open_commands.specs.Opening.{OpensShell, IsWrong, IsSecondWrong, IsFirstWrong, IsBadOpening}
@@ -39,9 +39,9 @@ one_second (second ∷ rest) x y p q = one_wrong IsShell 2 second x y p q
 
 one_first : (lines : List (List ℕ)) (x y : Illegal) → IsFirstWrong lines x → IsFirstWrong lines y → x ≡ y
 one_first [] x y p q = p ∙ sym q
-one_first (first ∷ lines) x y (inl p) (inl q) = one_wrong IsHead 1 first x y p q
-one_first (first ∷ lines) x y (inl p) (inr q) = absurd (wrong_good IsHead 1 first head x q.0 refl p)
-one_first (first ∷ lines) x y (inr p) (inl q) = absurd (wrong_good IsHead 1 first head y p.0 refl q)
+one_first (first ∷ lines) x y (inl p) (inl q) = one_wrong IsHeadLine 1 first x y p q
+one_first (first ∷ lines) x y (inl p) (inr q) = absurd (wrong_good IsHeadLine 1 first head x q.0 refl p)
+one_first (first ∷ lines) x y (inr p) (inl q) = absurd (wrong_good IsHeadLine 1 first head y p.0 refl q)
 one_first (first ∷ lines) x y (inr p) (inr q) = one_second lines x y p.1 q.1
 
 pub one_bad_opening : (certificate : List ℕ) (x y : Illegal) → IsBadOpening certificate x → IsBadOpening certificate y → x ≡ y
@@ -52,7 +52,7 @@ names_a_shell n bytes (l, is, names) = (l, is, (n, names))
 
 no_wrong : (first second : List ℕ) (rest : List (List ℕ)) (n : ℕ) (x : Illegal) → IsSpelled first head → IsOf (NamesShell n) second
     → IsFirstWrong (first ∷ second ∷ rest) x → ⊥
-no_wrong first second rest n x is names (inl p) = wrong_good IsHead 1 first head x is refl p
+no_wrong first second rest n x is names (inl p) = wrong_good IsHeadLine 1 first head x is refl p
 no_wrong first second rest n x is names (inr p) = let a = names_a_shell n second names in wrong_good IsShell 2 second a.0 x a.1 a.2 p.1
 
 pub opens_or_bad : (certificate : List ℕ) (n : ℕ) (lines : List (List ℕ)) (x : Illegal) → OpensShell certificate n lines → IsBadOpening certificate x → ⊥
@@ -88,7 +88,7 @@ one_opening certificate n m lines other a b =
 
 -- One of these at least.
 
-head_decided : (l : OpenLine) → Decided (IsHead l)
+head_decided : (l : OpenLine) → Decided (IsHeadLine l)
 head_decided head = inl refl
 head_decided (shell n rows edges corners faces borders) = inr (λ e. cc)
 head_decided (edge a b) = inr (λ e. cc)
@@ -138,9 +138,9 @@ second_decided (second ∷ rest) = by_second (wanted_or_wrong IsShell shell_deci
 opening_of : (certificate : List ℕ) (lines : List (List ℕ)) → cut_lines certificate ≡ lines
     → ((n : ℕ) × (behind : List (List ℕ)) × OpensShell certificate n behind) ⊎ ((x : Illegal) × IsFirstWrong lines x)
 opening_of certificate [] cut = inr (Missing 1, refl)
-opening_of certificate (first ∷ lines) cut = by_first (wanted_or_wrong IsHead head_decided 1 first) (second_decided lines)
+opening_of certificate (first ∷ lines) cut = by_first (wanted_or_wrong IsHeadLine head_decided 1 first) (second_decided lines)
   where
-    by_first : IsOf IsHead first ⊎ ((x : Illegal) × IsWrong IsHead 1 first x)
+    by_first : IsOf IsHeadLine first ⊎ ((x : Illegal) × IsWrong IsHeadLine 1 first x)
         → ((second : List ℕ) × (rest : List (List ℕ)) × (n : ℕ) × (lines ≡ second ∷ rest) × IsOf (NamesShell n) second)
         ⊎ ((x : Illegal) × IsSecondWrong lines x)
         → ((n : ℕ) × (behind : List (List ℕ)) × OpensShell certificate n behind) ⊎ ((x : Illegal) × IsFirstWrong (first ∷ lines) x)

@@ -9,7 +9,7 @@ use Rattle.command_replies.specs.declared.answer.Answer.TheVariants.{No}
 use Rattle.open_certificate.specs.Laws.{AreAllBorders, cycle_in}
 use Rattle.open_certificate.specs.Legal.{IsOpenLegal}
 use Rattle.open_certificate.specs.Line.{OpenLine, IsSpelled}
-use Rattle.open_certificate.specs.Stand.{shell_of}
+use Rattle.open_certificate.specs.Progress.{shell_of}
 use Rattle.solid_data.specs.Obligations.{AllHold}
 use Rattle.open_commands.specs.Verdict.{IsOpenAcceptedFor}
 use Rattle.open_commands.specs.Verdict.{open_checked}

@@ -6,7 +6,7 @@ use Rattle.cert_text.specs.declared.fault.Illegal.{Illegal}
 use Rattle.cert_text.specs.declared.fault.Illegal.TheVariants.{Missing}
 use Rattle.cert_text.specs.declared.fault.Misfit.{Misfit}
 use Rattle.open_certificate.specs.Line.{OpenLine, head, IsSpelled}
-use Rattle.open_certificate.specs.Line.{IsHead, IsShell, NamesShell, IsOf, IsMisfit}
+use Rattle.open_certificate.specs.Line.{IsHeadLine, IsShell, NamesShell, IsOf, IsMisfit}
 
 -- The certificate begins with the head, and these are the lines after it, of which the first is a SHELL line of number n.
 pub record OpensShell (certificate : List ℕ) (n : ℕ) (lines : List (List ℕ)) : Type 0 where
@@ -28,7 +28,7 @@ IsSecondWrong (second ∷ rest) bad = IsWrong IsShell 2 second bad
 
 abbrev pub IsFirstWrong : List (List ℕ) → Illegal → Type 0
 IsFirstWrong [] bad = bad ≡ Missing 1
-IsFirstWrong (first ∷ lines) bad = IsWrong IsHead 1 first bad ⊎ (IsSpelled first head × IsSecondWrong lines bad)
+IsFirstWrong (first ∷ lines) bad = IsWrong IsHeadLine 1 first bad ⊎ (IsSpelled first head × IsSecondWrong lines bad)
 
 -- the first of the two that is missing, misspelt or unfit
 abbrev pub IsBadOpening : List ℕ → Illegal → Type 0

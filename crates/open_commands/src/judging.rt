@@ -2,7 +2,7 @@
 
 ghost use Rattle.std.specs.Prelude.{[], MatchResult};
 ghost use Rattle.cert_lines.specs.Line.{cut_lines};
-ghost use Rattle.open_certificate.specs.Kept.{IsAt};
+ghost use Rattle.open_certificate.specs.CheckState.{IsAt};
 ghost use Rattle.open_certificate.specs.Legal.{IsOpenLegal, IsOpenFirstBad};
 
 use cert_lines::first_line;

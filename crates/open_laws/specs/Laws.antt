@@ -6,7 +6,7 @@ use Rattle.brep_walk.specs.Places.{places, shells}
 use Rattle.solid_data.specs.Obligations.{AllHold}
 use Rattle.solid_verdict.specs.Closed.{IsClosed}
 use Rattle.open_certificate.specs.Sound.{IsBorder}
-use Rattle.open_certificate.specs.Stand.{shell_of}
+use Rattle.open_certificate.specs.Progress.{shell_of}
 use Rattle.open_commands.specs.Verdict.{IsOpenVerdict, sound}
 
 -- Where the places of a solid hold, so do those of each of its shells as an open one.

@@ -9,7 +9,7 @@ use Rattle.solid_data.specs.SolidData.{SolidData}
 use Rattle.solid_data.proofs.Members.{Has}
 use Rattle.cert_state.proofs.Segment.{AreGoodRows}
 use Rattle.open_certificate.specs.Line.{OpenLine, head, shell, edge, lone, cycle, path, point, reach, border, end, spelling, IsSpelled}
-use Rattle.open_certificate.specs.Stand.{stand_from_latest, shell_of, FitsLine, is_shell, is_edge, is_corner, is_reach, is_border, is_last, asked}
+use Rattle.open_certificate.specs.Progress.{progress_from_latest, shell_of, FitsLine, is_shell, is_edge, is_corner, is_reach, is_border, is_last, asked}
 use Rattle.open_certificate.specs.Legal.{IsLegalAfter, IsOpenLegal}
 use Rattle.open_certificate.proofs.Borders.{turned}
 use Rattle.open_certificate.proofs.Facts.{AllFit, FitsAll, fits_all}
@@ -31,8 +31,8 @@ Alike x y = (x ≡ y) ⊎ ((r t : ℕ) × (x ≡ reach r) × (y ≡ reach t))
 
 -- each fits behind those before it, and END came
 abbrev IsRun : SolidData → List OpenLine → List OpenLine → Type 0
-IsRun s before [] = (stand_from_latest s before).ended ≡ true
-IsRun s before (l ∷ ls) = FitsLine s (stand_from_latest s before) l × IsRun s (l ∷ before) ls
+IsRun s before [] = (progress_from_latest s before).ended ≡ true
+IsRun s before (l ∷ ls) = FitsLine s (progress_from_latest s before) l × IsRun s (l ∷ before) ls
 
 run_of : (s : SolidData) (before : List OpenLine) (texts : List (List ℕ)) → IsLegalAfter s before texts
     → (ls : List OpenLine) × AllZip IsSpelled texts ls × IsRun s before ls
@@ -40,7 +40,7 @@ run_of s before [] ended = ([], tt, ended)
 run_of s before (t ∷ texts) (l, is_l, fits, more) = let k = run_of s (l ∷ before) texts more in (l ∷ k.0, (is_l, k.1), (fits, k.2))
 
 run_fits : (s : SolidData) (before ls : List OpenLine) → AllFit s before → IsRun s before ls
-    → AllFit s (turned ls before) × ((stand_from_latest s (turned ls before)).ended ≡ true)
+    → AllFit s (turned ls before) × ((progress_from_latest s (turned ls before)).ended ≡ true)
 run_fits s before [] fit ended = (fit, ended)
 run_fits s before (l ∷ ls) fit run = run_fits s (l ∷ before) ls (run.0, fit) run.1
 
@@ -65,13 +65,13 @@ kind_of_shell : (x : OpenLine) → is_shell x ≡ true → kind x ≡ 0
 kind_of_shell x t = eqb-true (kind x) 0 (sym (tests_tell x).0 ∙ t)
 
 module _ (s : SolidData) where
-  ends_same : (us ws : List OpenLine) → map kind us ≡ map kind ws → (stand_from_latest s us).ended ≡ (stand_from_latest s ws).ended
-  unfolding stand_from_latest
+  ends_same : (us ws : List OpenLine) → map kind us ≡ map kind ws → (progress_from_latest s us).ended ≡ (progress_from_latest s ws).ended
+  unfolding progress_from_latest
   ends_same us ws same = kinds_any is_last 5 (λ x. (tests_tell x).5) us ws same
 
   due_same : (us ws : List OpenLine) → map kind us ≡ map kind ws → find is_shell us ≡ find is_shell ws
-      → kind_at (stand_from_latest s us) ≡ kind_at (stand_from_latest s ws)
-  unfolding stand_from_latest
+      → kind_at (progress_from_latest s us) ≡ kind_at (progress_from_latest s ws)
+  unfolding progress_from_latest
   due_same us ws same heads = λ i. next_kind (kinds_any is_shell 0 (λ x. (tests_tell x).0) us ws same i)
       ((asked (heads i)).0 - kinds_count is_edge 1 (λ x. (tests_tell x).1) us ws same i)
       ((asked (heads i)).1 - kinds_count is_corner 2 (λ x. (tests_tell x).2) us ws same i)
@@ -85,8 +85,8 @@ module _ (s : SolidData) where
   kinds_same us ws [] (m ∷ ms) run go one same heads = absurd (no_test (sym go.0.0 ∙ (sym (ends_same us ws same) ∙ run)))
   kinds_same us ws (l ∷ ls) [] run go one same heads = absurd (no_test (sym run.0.0 ∙ (ends_same us ws same ∙ go)))
   kinds_same us ws (l ∷ ls) (m ∷ ms) run go one same heads =
-      let next : kind l ≡ kind m = kind_due s (stand_from_latest s us) (waits_for_shell s us) l run.0.1
-      ∙ (due_same us ws same heads ∙ sym (kind_due s (stand_from_latest s ws) (waits_for_shell s ws) m go.0.1)) in
+      let next : kind l ≡ kind m = kind_due s (progress_from_latest s us) (waits_for_shell s us) l run.0.1
+      ∙ (due_same us ws same heads ∙ sym (kind_due s (progress_from_latest s ws) (waits_for_shell s ws) m go.0.1)) in
       let shells : is_shell l ≡ is_shell m = (tests_tell l).0 ∙ (ap (λ k. k == 0) next ∙ sym (tests_tell m).0) in
       let k = kinds_same (l ∷ us) (m ∷ ws) ls ms run.1 go.1 (λ x y a b. one x y (inr a) (inr b)) (λ i. next i ∷ same i)
       (by_test (is_shell l) (is_shell m) refl refl shells) in

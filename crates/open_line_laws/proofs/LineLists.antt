@@ -6,7 +6,7 @@ use Rattle.solid_data.specs.Chain.{Steps}
 use Rattle.solid_data.proofs.Members.{Has, All-at, covers}
 use Rattle.solid_data.proofs.Trail.{Trail}
 use Rattle.cert_state.proofs.Segment.{Falls, falls_none}
-use Rattle.open_certificate.specs.Stand.{IsChain, last_of}
+use Rattle.open_certificate.specs.Progress.{IsChain, last_of}
 
 -- ---- numbers that fall
 

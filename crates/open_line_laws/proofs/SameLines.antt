@@ -11,8 +11,8 @@ use Rattle.edge_uses.specs.ShellRows.{ShellRows}
 use Rattle.cert_state.proofs.Segment.{AreGoodRows}
 use Rattle.open_certificate.specs.Sound.{IsOnce}
 use Rattle.open_certificate.specs.Line.{OpenLine, head, shell, edge, lone, cycle, path, point, reach, border, end}
-use Rattle.open_certificate.specs.Stand.{OpenStand, stand_from_latest, shell_of, FitsOpen, lone_in, mates_in, edge_in, vertex_in, border_in}
-use Rattle.open_certificate.specs.Stand.{border_rows, is_shell, is_edge, is_corner, is_reach, is_border, is_last, number_of, asked}
+use Rattle.open_certificate.specs.Progress.{OpenProgress, progress_from_latest, shell_of, FitsOpen, lone_in, mates_in, edge_in, vertex_in, border_in}
+use Rattle.open_certificate.specs.Progress.{border_rows, is_shell, is_edge, is_corner, is_reach, is_border, is_last, number_of, asked}
 use Rattle.open_certificate.proofs.Borders.{AreBorder, StartApart, Goes, RingFacts, start_apart, goes_one, keeps_steps, no_rings, ring_step}
 use Rattle.open_certificate.proofs.Facts.{AllFit, FitsAll, facts_listed, proper_of}
 use Rattle.open_certificate.proofs.Once.{AreListed, once_rows, lone_border}
@@ -26,7 +26,7 @@ use Rattle.open_line_laws.proofs.SameParts.{FitsAt, fit_at}
 rings_of : (s : SolidData) (alone : List ℕ) (lines : List OpenLine) → StartApart (shell_of s) alone → AllFit s lines
     → ((a : ℕ) → Contains (filter_map lone_in lines) a → Contains alone a)
     → RingFacts (shell_of s) alone (filter_map border_in lines) (flat_map border_rows lines)
-unfolding stand_from_latest
+unfolding progress_from_latest
 rings_of s alone [] starts fit into = no_rings (shell_of s) alone
 rings_of s alone (head ∷ lines) starts fit into = absurd fit.0.1
 rings_of s alone (shell n a b c d e ∷ lines) starts fit into = rings_of s alone lines starts fit.1 into
@@ -162,14 +162,14 @@ due_border begun (suc e) c r b x y z h = absurd (omega (arith, x))
 none_due : (begun now : Bool) (e c r b : ℕ) → begun ≡ now → e ≡ 0 → c ≡ 0 → r ≡ 0 → b ≡ 0 → next_kind begun e c r b ≡ next_kind now 0 0 0 0
 none_due begun now e c r b p x y z w = λ i. next_kind (p i) (x i) (y i) (z i) (w i)
 
-abbrev pub kind_at : OpenStand → ℕ
+abbrev pub kind_at : OpenProgress → ℕ
 kind_at at = next_kind at.begun at.edges_due at.corners_due at.reach_due at.borders_due
 
 -- nothing is due before the SHELL line
-abbrev pub WaitsForShell : OpenStand → Type 0
+abbrev pub WaitsForShell : OpenProgress → Type 0
 WaitsForShell at = at.begun ≡ false → (at.edges_due ≡ 0) × (at.corners_due ≡ 0) × (at.reach_due ≡ 0) × (at.borders_due ≡ 0)
 
-pub kind_due : (s : SolidData) (at : OpenStand) → WaitsForShell at → (x : OpenLine) → FitsOpen s at x → kind x ≡ kind_at at
+pub kind_due : (s : SolidData) (at : OpenProgress) → WaitsForShell at → (x : OpenLine) → FitsOpen s at x → kind x ≡ kind_at at
 kind_due s at waits head fits = absurd fits
 kind_due s at waits (shell n a b c e f) fits =
     let z = waits fits.0 in sym (none_due at.begun false at.edges_due at.corners_due at.reach_due at.borders_due fits.0 z.0 z.1 z.2 z.3)
@@ -195,8 +195,8 @@ none_found test (x ∷ xs) e = by_test (test x) e (none_found test xs)
     by_test true e more = absurd cc
     by_test false e more = more e
 
-pub waits_for_shell : (s : SolidData) (lines : List OpenLine) → WaitsForShell (stand_from_latest s lines)
-unfolding stand_from_latest
+pub waits_for_shell : (s : SolidData) (lines : List OpenLine) → WaitsForShell (progress_from_latest s lines)
+unfolding progress_from_latest
 waits_for_shell s lines e =
     let none = none_found is_shell lines e in (
       ap (λ o. (asked o).0 - number_of is_edge lines) none ∙ omega arith,
@@ -209,12 +209,12 @@ waits_for_shell s lines e =
 
 shell_found : (s : SolidData) (lines : List OpenLine) → AllFit s lines → (n a b c e f : ℕ) → Has lines (shell n a b c e f)
     → find is_shell lines ≡ Some (shell n a b c e f)
-unfolding stand_from_latest
+unfolding progress_from_latest
 shell_found s [] fit n a b c e f m = absurd m
 shell_found s (x ∷ ls) fit n a b c e f (inl same) = ap (λ y. cond (is_shell y) (Some y) (find is_shell ls)) same
 shell_found s (x ∷ ls) fit n a b c e f (inr m) = by_test (is_shell x) refl (shell_found s ls fit.1 n a b c e f m)
   where
-    no_more : (y : OpenLine) → is_shell y ≡ true → FitsOpen s (stand_from_latest s ls) y → list_any is_shell ls ≡ false
+    no_more : (y : OpenLine) → is_shell y ≡ true → FitsOpen s (progress_from_latest s ls) y → list_any is_shell ls ≡ false
     no_more head t fits = absurd fits
     no_more (shell n a b c e f) t fits = fits.0
     no_more (edge a b) t fits = absurd cc
@@ -233,7 +233,7 @@ shell_found s (x ∷ ls) fit n a b c e f (inr m) = by_test (is_shell x) refl (sh
 
 -- no more border lines than it asks for
 borders_asked : (s : SolidData) (lines : List OpenLine) → AllFit s lines → number_of is_border lines ≤ (asked (find is_shell lines)).3
-unfolding stand_from_latest
+unfolding progress_from_latest
 borders_asked s [] fit = omega arith
 borders_asked s (head ∷ ls) fit = absurd fit.0.1
 borders_asked s (shell n a b c e f ∷ ls) fit =
@@ -255,7 +255,7 @@ abbrev pub the_shell : (s : SolidData) → ℕ → OpenLine
 the_shell s borders = shell s.entity.0 (length (shell_of s).rows) (length (shell_of s).edges) (length (shell_of s).vertices) (shell_of s).face_count borders
 
 pub shell_is : (s : SolidData) (f : FitsAll s) (x : OpenLine) → Has f.lines x → is_shell x ≡ true → x ≡ the_shell s (number_of is_border f.lines)
-unfolding stand_from_latest
+unfolding progress_from_latest
 shell_is s f x m t = at_line x m t (fit_at s f.lines f.fit x m)
   where
     at_line : (x : OpenLine) → Has f.lines x → is_shell x ≡ true → FitsAt s f.lines x → x ≡ the_shell s (number_of is_border f.lines)
@@ -359,11 +359,11 @@ module _ (s : SolidData) (good : AreGoodRows (shell_of s)) where
   all_edges h = omega (arith, (listed_in h).facts.number, (listed_in h).each_edge)
 
   all_vertices : (h : FitsAll s) → length d.vertices ≤ length (filter_map (vertex_in d) h.lines)
-  unfolding stand_from_latest
+  unfolding progress_from_latest
   all_vertices h = let none = h.done.no_corner in omega (arith, none, h.facts.asks_corners, h.facts.fan_facts.number)
 
   all_bordered : (h : FitsAll s) → length (flat_map border_rows h.lines) ≡ length (alone_of h)
-  unfolding stand_from_latest
+  unfolding progress_from_latest
   all_bordered h = h.done.all_bordered
 
   -- two lists of lines for the shell

@@ -17,15 +17,16 @@ use Rattle.edge_uses.specs.RowRelations.{point_count}
 use Rattle.edge_uses.proofs.Counting.{one_place}
 use Rattle.edge_uses.proofs.RowNumbers.{starting, length-starting}
 use Rattle.edge_uses.proofs.Turn.{one_of_edge}
-use Rattle.cert_state.specs.Stand.{row_named}
-use Rattle.cert_state.specs.Stand.{point_named, start_count, TurnsTo}
+use Rattle.cert_state.specs.Progress.{row_named}
+use Rattle.cert_state.specs.Progress.{point_named, start_count, TurnsTo}
 use Rattle.cert_state.proofs.Corner.{MatesHold, mates_named, StartsNamed, turn_start_by, turns_row, corner_starts, starts_listed, above_least}
 use Rattle.cert_state.proofs.Segment.{AreGoodRows, named_has}
 use Rattle.open_certificate.specs.Sound.{IsOnce, row_total}
 use Rattle.open_certificate.specs.Line.{OpenLine, head, shell, edge, lone, cycle, path, point, reach, border, end}
-use Rattle.open_certificate.specs.Stand.{stand_from_latest, shell_of, FitsLine, IsChain, last_of, GoesOnTo, lone_in, mates_in, edge_in, vertex_in, border_in}
-use Rattle.open_certificate.specs.Stand.{is_edge}
-use Rattle.open_certificate.specs.Stand.{is_corner, is_border}
+use Rattle.open_certificate.specs.Progress.{progress_from_latest, shell_of, FitsLine, IsChain, last_of, GoesOnTo, lone_in, mates_in, edge_in, vertex_in}
+use Rattle.open_certificate.specs.Progress.{border_in}
+use Rattle.open_certificate.specs.Progress.{is_edge}
+use Rattle.open_certificate.specs.Progress.{is_corner, is_border}
 use Rattle.open_certificate.proofs.Borders.{AreBorder, StartApart, Goes, goes_one}
 use Rattle.open_certificate.proofs.Facts.{AllFit}
 use Rattle.open_certificate.proofs.Fans.{counted_way, both_ways_counted, turns_one, lone_no_turn, chain_no_repeat}
@@ -263,12 +264,12 @@ pub record FitsAt (s : SolidData) (lines : List OpenLine) (x : OpenLine) : Type 
   pub later : List OpenLine
   pub before : List OpenLine
   pub all : lines ≡ later ++ before
-  pub fits : FitsLine s (stand_from_latest s before) x
+  pub fits : FitsLine s (progress_from_latest s before) x
 
 pub fit_at : (s : SolidData) (lines : List OpenLine) → AllFit s lines → (x : OpenLine) → Has lines x → FitsAt s lines x
 fit_at s [] fit x m = absurd m
 fit_at s (y ∷ ls) fit x (inl same) =
-    record { later = y ∷ []; before = ls; all = refl; fits = subst (FitsLine s (stand_from_latest s ls)) same fit.0 }
+    record { later = y ∷ []; before = ls; all = refl; fits = subst (FitsLine s (progress_from_latest s ls)) same fit.0 }
 fit_at s (y ∷ ls) fit x (inr m) =
     let k = fit_at s ls fit.1 x m in record { later = y ∷ k.later; before = k.before; all = ap (λ zs. y ∷ zs) k.all; fits = k.fits }
 
@@ -319,7 +320,7 @@ module _ (s : SolidData) (mates : List (ℕ × ℕ)) (alone : List ℕ) (lines :
   )
 
   pub edge_line_is : (x : OpenLine) → Has lines x → is_edge x ≡ true → (e : ℕ) × (edge_in d x ≡ Some e) × EdgeIs d e x
-  unfolding stand_from_latest
+  unfolding progress_from_latest
   edge_line_is x m e = at_line x m e (fit_at s lines fit x m)
     where
       at_line : (x : OpenLine) → Has lines x → is_edge x ≡ true → FitsAt s lines x → (e : ℕ) × (edge_in d x ≡ Some e) × EdgeIs d e x
@@ -347,7 +348,7 @@ module _ (s : SolidData) (mates : List (ℕ × ℕ)) (alone : List ℕ) (lines :
       at_line end m e k = absurd (no_test e)
 
   pub corner_line_is : (x : OpenLine) → Has lines x → is_corner x ≡ true → (v : ℕ) × (vertex_in d x ≡ Some v) × CornerIs d mates alone v x
-  unfolding stand_from_latest
+  unfolding progress_from_latest
   corner_line_is x m e = at_line x e (fit_at s lines fit x m)
     where
       at_line : (x : OpenLine) → is_corner x ≡ true → FitsAt s lines x → (v : ℕ) × (vertex_in d x ≡ Some v) × CornerIs d mates alone v x
@@ -379,7 +380,7 @@ module _ (s : SolidData) (mates : List (ℕ × ℕ)) (alone : List ℕ) (lines :
       at_line end e k = absurd (no_test e)
 
   pub border_line_is : (x : OpenLine) → Has lines x → is_border x ≡ true → (r : ℕ) × (border_in x ≡ Some r) × BorderIs d alone r x
-  unfolding stand_from_latest
+  unfolding progress_from_latest
   border_line_is x m e = at_line x e (fit_at s lines fit x m)
     where
       at_line : (x : OpenLine) → is_border x ≡ true → FitsAt s lines x → (r : ℕ) × (border_in x ≡ Some r) × BorderIs d alone r x

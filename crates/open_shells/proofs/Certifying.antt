@@ -17,13 +17,13 @@ use Rattle.edge_uses.specs.ShellRows.{ShellRows, shell_rows}
 use Rattle.edge_uses.specs.RowRelations.{AreMates}
 use Rattle.edge_uses.proofs.Counting.{uses-all}
 use Rattle.edge_uses.proofs.RowFacts.{edges_rise, vertices_rise}
-use Rattle.cert_state.specs.Stand.{IsMate}
+use Rattle.cert_state.specs.Progress.{IsMate}
 use Rattle.cert_state.proofs.Segment.{AreGoodRows}
 use Rattle.topo_certificate.proofs.Build.{PointsDiffer}
 use Rattle.topo_certificate.proofs.Complete.{any_above}
 use Rattle.open_certificate.specs.Sound.{IsBorder, IsBorderCycleOf, IsSoundShell}
 use Rattle.open_certificate.specs.Line.{OpenLine, head, shell, end, spelling, HasSpelling}
-use Rattle.open_certificate.specs.Stand.{shell_of}
+use Rattle.open_certificate.specs.Progress.{shell_of}
 use Rattle.open_certificate.specs.Legal.{IsOpenLegal}
 use Rattle.open_certificate.specs.Obligations.{OpenObligation, AllHold, FirstFalse, open_obligations}
 use Rattle.open_certificate.specs.Legal.{IsOpenAccepted}

@@ -13,7 +13,7 @@ use Rattle.edge_uses.proofs.RowLemmas.{ends_meet}
 use Rattle.edge_uses.proofs.Whole.{are_rows}
 use Rattle.cert_state.proofs.PointOrder.{faces_of_rows}
 use Rattle.open_certificate.specs.Sound.{IsSoundShell}
-use Rattle.open_certificate.specs.Stand.{shell_of}
+use Rattle.open_certificate.specs.Progress.{shell_of}
 use Rattle.open_certificate.specs.Obligations.{AllHold, open_obligations}
 use Rattle.open_certificate.specs.Legal.{IsOpenAccepted}
 use Rattle.open_shells.specs.Listed.{AreListedParts}

@@ -15,7 +15,7 @@ use Rattle.edge_uses.proofs.Cycle.{on_trail, zip_from_trail}
 use Rattle.edge_uses.proofs.Turns.{mates_back, follows_apart}
 use Rattle.edge_uses.proofs.RowNumbers.{starting, length-starting, starting_has, starting_none, starting_is}
 use Rattle.open_certificate.specs.Sound.{IsBorder, IsFan, IsFanned}
-use Rattle.open_certificate.specs.Stand.{IsChain, last_of}
+use Rattle.open_certificate.specs.Progress.{IsChain, last_of}
 use Rattle.open_shells.specs.Mating.{AreOnce}
 use Rattle.open_shells.specs.FanParts.{IsCycle, IsPath, IsCycleOf, IsPathOf, IsHeadOf}
 use Rattle.shell_tables.specs.Starting.{AreStarts, ArePoints}

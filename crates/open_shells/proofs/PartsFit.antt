@@ -11,10 +11,11 @@ use Rattle.solid_data.proofs.Members.{Has, Has-from_Contains, Contains-from_Has}
 use Rattle.edge_uses.specs.declared.row.Row.{Row}
 use Rattle.edge_uses.specs.RowRelations.{point_count}
 use Rattle.cert_lines.specs.Written.{row_number}
-use Rattle.cert_state.specs.Stand.{IsAbove, first_of, row_named, row_edge, row_start, row_face, point_named, start_count, IsMate, TurnsTo}
+use Rattle.cert_state.specs.Progress.{IsAbove, first_of, row_named, row_edge, row_start, row_face, point_named, start_count, IsMate, TurnsTo}
 use Rattle.open_certificate.specs.Line.{OpenLine, shell, edge, lone, cycle, path, point, reach, border, end, spelling, HasSpelling}
-use Rattle.open_certificate.specs.Stand.{stand_from_latest, shell_of, is_shell, is_edge, is_corner, is_reach, is_border, is_last, number_of, asked, mates_in}
-use Rattle.open_certificate.specs.Stand.{lone_in, edge_in, vertex_in, face_in, border_in, border_rows, FitsLine, IsChain, last_of, GoesOnTo}
+use Rattle.open_certificate.specs.Progress.{progress_from_latest, shell_of, is_shell, is_edge, is_corner, is_reach, is_border, is_last, number_of, asked}
+use Rattle.open_certificate.specs.Progress.{mates_in}
+use Rattle.open_certificate.specs.Progress.{lone_in, edge_in, vertex_in, face_in, border_in, border_rows, FitsLine, IsChain, last_of, GoesOnTo}
 use Rattle.open_certificate.specs.Legal.{IsLegalAfter}
 use Rattle.open_certificate.specs.Written.{edge_line}
 use Rattle.shell_flood.specs.Reaching.{row_numbers}
@@ -22,8 +23,8 @@ use Rattle.open_certificate.specs.declared.parts.OpenEdge.TheVariants.{Two}
 
 -- Behind the lines before, the latest first: each line is spelled and fits, and the last is END.
 abbrev pub Follow : SolidData → List OpenLine → List OpenLine → Type 0
-Follow s before [] = (stand_from_latest s before).ended ≡ true
-Follow s before (l ∷ ls) = HasSpelling l × FitsLine s (stand_from_latest s before) l × Follow s (l ∷ before) ls
+Follow s before [] = (progress_from_latest s before).ended ≡ true
+Follow s before (l ∷ ls) = HasSpelling l × FitsLine s (progress_from_latest s before) l × Follow s (l ∷ before) ls
 
 pub follow_legal : (s : SolidData) (before ls : List OpenLine) → Follow s before ls → IsLegalAfter s before (map spelling ls)
 follow_legal s before [] h = h
@@ -64,67 +65,67 @@ pub record Stage (s : SolidData) (lines : List OpenLine) (b : ℕ) (es vs fs bs 
 
 module _ (s : SolidData) (lines : List OpenLine) (b : ℕ) (es vs fs bs : List ℕ) (ms : List (ℕ × ℕ)) (ls rows : List ℕ)
     (stage : Stage s lines b es vs fs bs ms ls rows) where
-  pub edges_left : (stand_from_latest s lines).edges_due ≡ length (shell_of s).edges - length es
-  unfolding stand_from_latest
+  pub edges_left : (progress_from_latest s lines).edges_due ≡ length (shell_of s).edges - length es
+  unfolding progress_from_latest
   edges_left = ap (λ (a : ℕ × ℕ × ℕ × ℕ). a.0 - number_of is_edge lines) stage.asks ∙ ap (λ n. length (shell_of s).edges - n) stage.edge_count
 
-  pub corners_left : (stand_from_latest s lines).corners_due ≡ length (shell_of s).vertices - length vs
-  unfolding stand_from_latest
+  pub corners_left : (progress_from_latest s lines).corners_due ≡ length (shell_of s).vertices - length vs
+  unfolding progress_from_latest
   corners_left = ap (λ (a : ℕ × ℕ × ℕ × ℕ). a.1 - number_of is_corner lines) stage.asks ∙ ap (λ n. length (shell_of s).vertices - n) stage.corner_count
 
-  pub reach_left : (stand_from_latest s lines).reach_due ≡ (shell_of s).face_count - 1 - length fs
-  unfolding stand_from_latest
+  pub reach_left : (progress_from_latest s lines).reach_due ≡ (shell_of s).face_count - 1 - length fs
+  unfolding progress_from_latest
   reach_left = ap (λ (a : ℕ × ℕ × ℕ × ℕ). a.2 - number_of is_reach lines) stage.asks ∙ ap (λ n. (shell_of s).face_count - 1 - n) stage.reach_count
 
-  pub borders_left : (stand_from_latest s lines).borders_due ≡ b - length bs
-  unfolding stand_from_latest
+  pub borders_left : (progress_from_latest s lines).borders_due ≡ b - length bs
+  unfolding progress_from_latest
   borders_left = ap (λ (a : ℕ × ℕ × ℕ × ℕ). a.3 - number_of is_border lines) stage.asks ∙ ap (λ n. b - n) stage.border_count
 
-  pub edge_before : (stand_from_latest s lines).last_edge ≡ first_of es
-  unfolding stand_from_latest
+  pub edge_before : (progress_from_latest s lines).last_edge ≡ first_of es
+  unfolding progress_from_latest
   edge_before = ap first_of stage.edges
 
-  pub vertex_before : (stand_from_latest s lines).last_vertex ≡ first_of vs
-  unfolding stand_from_latest
+  pub vertex_before : (progress_from_latest s lines).last_vertex ≡ first_of vs
+  unfolding progress_from_latest
   vertex_before = ap first_of stage.vertices
 
-  pub reached_before : (stand_from_latest s lines).reached ≡ 0 ∷ fs
-  unfolding stand_from_latest
+  pub reached_before : (progress_from_latest s lines).reached ≡ 0 ∷ fs
+  unfolding progress_from_latest
   reached_before = ap (λ xs. 0 ∷ xs) stage.faces
 
-  pub border_before : (stand_from_latest s lines).last_border ≡ first_of bs
-  unfolding stand_from_latest
+  pub border_before : (progress_from_latest s lines).last_border ≡ first_of bs
+  unfolding progress_from_latest
   border_before = ap first_of stage.firsts
 
-  pub mates_before : (stand_from_latest s lines).mates ≡ ms
-  unfolding stand_from_latest
+  pub mates_before : (progress_from_latest s lines).mates ≡ ms
+  unfolding progress_from_latest
   mates_before = stage.mated
 
-  pub lone_before : (stand_from_latest s lines).lone ≡ ls
-  unfolding stand_from_latest
+  pub lone_before : (progress_from_latest s lines).lone ≡ ls
+  unfolding progress_from_latest
   lone_before = stage.alone
 
-  pub bordered_before : (stand_from_latest s lines).bordered ≡ rows
-  unfolding stand_from_latest
+  pub bordered_before : (progress_from_latest s lines).bordered ≡ rows
+  unfolding progress_from_latest
   bordered_before = stage.rows_in
 
-  pub listed_before : (stand_from_latest s lines).listed ≡ 2 * length ms + length ls
-  unfolding stand_from_latest
+  pub listed_before : (progress_from_latest s lines).listed ≡ 2 * length ms + length ls
+  unfolding progress_from_latest
   listed_before = ap (λ xs. 2 * length xs + length (filter_map lone_in lines)) stage.mated ∙ ap (λ ys. 2 * length ms + length ys) stage.alone
 
-  pub not_ended : (stand_from_latest s lines).ended ≡ false
-  unfolding stand_from_latest
+  pub not_ended : (progress_from_latest s lines).ended ≡ false
+  unfolding progress_from_latest
   not_ended = stage.begun
 
-  pub shell_shown : (stand_from_latest s lines).begun ≡ true
-  unfolding stand_from_latest
+  pub shell_shown : (progress_from_latest s lines).begun ≡ true
+  unfolding progress_from_latest
   shell_shown = stage.shown
 
   -- a line for an edge with two rows
   pub edge_fits : (a c e : ℕ) (x y : Row) → length es < length (shell_of s).edges → row_named (shell_of s) a ≡ Some x → row_named (shell_of s) c ≡ Some y
       → x.edge.0 ≡ e → x.edge ≡ y.edge → x.along ≡ true → y.along ≡ false → IsAbove (first_of es) e
       → (length (shell_of s).edges ≡ suc (length es) → 2 * length ms + length ls + 2 ≡ length (shell_of s).rows)
-      → FitsLine s (stand_from_latest s lines) (edge a c)
+      → FitsLine s (progress_from_latest s lines) (edge a c)
   edge_fits a c e x y left at_a at_c is_e same along against above last = (
     not_ended,
     (
@@ -166,7 +167,7 @@ module _ (s : SolidData) (lines : List OpenLine) (b : ℕ) (es vs fs bs : List �
   -- a line for an edge with one row
   pub lone_fits : (a e : ℕ) (x : Row) → length es < length (shell_of s).edges → row_named (shell_of s) a ≡ Some x → x.edge.0 ≡ e → IsAbove (first_of es) e
       → (length (shell_of s).edges ≡ suc (length es) → 2 * length ms + length ls + 1 ≡ length (shell_of s).rows)
-      → FitsLine s (stand_from_latest s lines) (lone a)
+      → FitsLine s (progress_from_latest s lines) (lone a)
   lone_fits a e x left at_a is_e above last = (
     not_ended,
     (
@@ -198,7 +199,7 @@ module _ (s : SolidData) (lines : List OpenLine) (b : ℕ) (es vs fs bs : List �
   pub cycle_fits : (v r : ℕ) (rs : List ℕ) → length (shell_of s).edges ≤ length es → length vs < length (shell_of s).vertices
       → row_start (row_named (shell_of s) r) ≡ Some v → AllZip (TurnsTo (shell_of s) ms) (r ∷ rs) (next_of_each (r ∷ rs)) → AllByRecursion (λ x. r < x) rs
       → length (r ∷ rs) ≡ start_count (shell_of s) v → point_count (shell_of s) v ≡ 0 → IsAbove (first_of vs) v
-      → FitsLine s (stand_from_latest s lines) (cycle (r ∷ rs))
+      → FitsLine s (progress_from_latest s lines) (cycle (r ∷ rs))
   cycle_fits v r rs edges_done left starts turns least whole no_point above = (
     not_ended,
     (
@@ -218,7 +219,7 @@ module _ (s : SolidData) (lines : List OpenLine) (b : ℕ) (es vs fs bs : List �
   pub path_fits : (v r : ℕ) (rs : List ℕ) → length (shell_of s).edges ≤ length es → length vs < length (shell_of s).vertices
       → row_start (row_named (shell_of s) r) ≡ Some v → IsChain (TurnsTo (shell_of s) ms) r rs → Contains ls (last_of r rs)
       → length (r ∷ rs) ≡ start_count (shell_of s) v → point_count (shell_of s) v ≡ 0 → IsAbove (first_of vs) v
-      → FitsLine s (stand_from_latest s lines) (path (r ∷ rs))
+      → FitsLine s (progress_from_latest s lines) (path (r ∷ rs))
   path_fits v r rs edges_done left starts turns ends whole no_point above = (
     not_ended,
     (
@@ -240,7 +241,7 @@ module _ (s : SolidData) (lines : List OpenLine) (b : ℕ) (es vs fs bs : List �
   pub point_fits : (v face l : ℕ) → length (shell_of s).edges ≤ length es → length vs < length (shell_of s).vertices
       → option_map (λ (p : LoopAt × ℕ). p.1) (point_named (shell_of s) face l) ≡ Some v → start_count (shell_of s) v ≡ 0 → point_count (shell_of s) v ≡ 1
       → IsAbove (first_of vs) v
-      → FitsLine s (stand_from_latest s lines) (point face l)
+      → FitsLine s (progress_from_latest s lines) (point face l)
   point_fits v face l edges_done left lies no_row one above = (
     not_ended,
     (
@@ -286,7 +287,7 @@ module _ (s : SolidData) (lines : List OpenLine) (b : ℕ) (es vs fs bs : List �
   -- a line for a face
   pub reach_fits : (r m f g : ℕ) → length (shell_of s).edges ≤ length es → length (shell_of s).vertices ≤ length vs → length fs < (shell_of s).face_count - 1
       → IsMate ms r m → row_face (row_named (shell_of s) r) ≡ Some f → row_face (row_named (shell_of s) m) ≡ Some g → (Has (0 ∷ fs) f → ⊥) → Has (0 ∷ fs) g
-      → FitsLine s (stand_from_latest s lines) (reach r)
+      → FitsLine s (progress_from_latest s lines) (reach r)
   reach_fits r m f g edges_done corners_done left mate on_f on_g new old = (
     not_ended,
     (
@@ -326,7 +327,7 @@ module _ (s : SolidData) (lines : List OpenLine) (b : ℕ) (es vs fs bs : List �
   pub border_fits : (r : ℕ) (rs : List ℕ) → length (shell_of s).edges ≤ length es → length (shell_of s).vertices ≤ length vs
       → (shell_of s).face_count - 1 ≤ length fs → length bs < b → AllByRecursion (Contains ls) (r ∷ rs)
       → AllZip (GoesOnTo (shell_of s)) (r ∷ rs) (next_of_each (r ∷ rs))
-      → AllByRecursion (λ x. r < x) rs → IsAbove (first_of bs) r → FitsLine s (stand_from_latest s lines) (border (r ∷ rs))
+      → AllByRecursion (λ x. r < x) rs → IsAbove (first_of bs) r → FitsLine s (progress_from_latest s lines) (border (r ∷ rs))
   border_fits r rs edges_done corners_done reach_done left listed goes least above = (
     not_ended,
     (
@@ -368,7 +369,7 @@ module _ (s : SolidData) (lines : List OpenLine) (b : ℕ) (es vs fs bs : List �
   -- the last line
   pub end_fits : length (shell_of s).edges ≤ length es → length (shell_of s).vertices ≤ length vs → (shell_of s).face_count - 1 ≤ length fs → b ≤ length bs
       → length rows ≡ length ls → Follow s lines (end ∷ [])
-  unfolding stand_from_latest
+  unfolding progress_from_latest
   end_fits edges_done corners_done reach_done borders_done whole = (
     (tt, tt),
     (
@@ -407,7 +408,7 @@ shell_stage s b = record {
 }
 
 pub shell_fits : (s : SolidData) (b : ℕ)
-    → FitsLine s (stand_from_latest s [])
+    → FitsLine s (progress_from_latest s [])
     (shell s.entity.0 (length (shell_of s).rows) (length (shell_of s).edges) (length (shell_of s).vertices) (shell_of s).face_count b)
-unfolding stand_from_latest
+unfolding progress_from_latest
 shell_fits s b = (refl, (refl, record { names = refl; rows_counted = refl; edges_counted = refl; corners_counted = refl; faces_counted = refl }))

@@ -17,12 +17,12 @@ use Rattle.edge_uses.specs.Mates.{RunsOn}
 use Rattle.edge_uses.proofs.Counting.{uses_of_edge, counts_of_edge, one_place}
 use Rattle.edge_uses.proofs.Turn.{edge_id}
 use Rattle.cert_text.specs.Text.{IsShort}
-use Rattle.cert_state.specs.Stand.{IsAbove, first_of, row_named, row_start, row_face, point_named, start_count, IsMate, TurnsTo}
+use Rattle.cert_state.specs.Progress.{IsAbove, first_of, row_named, row_start, row_face, point_named, start_count, IsMate, TurnsTo}
 use Rattle.cert_state.proofs.Segment.{AreGoodRows, row_has}
 use Rattle.topo_certificate.proofs.Build.{MatedAt, PointsDiffer, zip_suc, map-suc-append, above_suc, find_some, none_start}
 use Rattle.open_certificate.specs.Sound.{row_total, IsBorder, IsOnce, GoesOn, IsBorderCycle, IsBorderCycleOf}
 use Rattle.open_certificate.specs.Line.{OpenLine, edge, lone, cycle, path, point, reach, border}
-use Rattle.open_certificate.specs.Stand.{shell_of, IsChain, last_of, GoesOnTo}
+use Rattle.open_certificate.specs.Progress.{shell_of, IsChain, last_of, GoesOnTo}
 use Rattle.open_certificate.specs.Written.{edge_line, corner_line, reach_line, border_line}
 use Rattle.open_shells.specs.Mating.{AreRowsOf, AreOnce}
 use Rattle.open_shells.specs.FanParts.{LiesAt, IsCycle, IsPath}

@@ -9,9 +9,9 @@ use Rattle.edge_uses.specs.Ranges.{IsWithin, IsSpanOf}
 use Rattle.edge_uses.specs.ShellRows.{ShellRows}
 use Rattle.edge_uses.specs.RowRelations.{StartsAt, Turns, point_count}
 use Rattle.edge_uses.specs.Around.{IsPoint}
-use Rattle.cert_state.specs.Stand.{start_count}
+use Rattle.cert_state.specs.Progress.{start_count}
 use Rattle.open_certificate.specs.Sound.{IsBorder, IsFanned}
-use Rattle.open_certificate.specs.Stand.{IsChain, last_of}
+use Rattle.open_certificate.specs.Progress.{IsChain, last_of}
 use Rattle.shell_flood.specs.Reaching.{row_numbers}
 use Rattle.open_certificate.specs.declared.parts.OpenCorner.{OpenCorner}
 use Rattle.open_certificate.specs.declared.parts.OpenCorner.TheVariants.{Cycle, Path, Point}

@@ -8,7 +8,7 @@ ghost use Rattle.open_shells.specs.Certified.{IsOpenCertificate, IsOpenFault, Is
 ghost use Rattle.open_shells.specs.Listed.{AreListedParts};
 ghost use Rattle.open_shells.specs.Mating.{AreOnce};
 ghost use Rattle.open_certificate.specs.Obligations.{AllHold, FirstFalse, open_shell_obligations, open_obligations};
-ghost use Rattle.open_certificate.specs.Stand.{shell_of};
+ghost use Rattle.open_certificate.specs.Progress.{shell_of};
 ghost use Rattle.open_certificate.specs.Written.{open_lines, text_of};
 ghost use Rattle.open_certificate.specs.declared.verdict.OpenFailing.{OpenFailing as Named};
 

@@ -14,9 +14,9 @@ use Rattle.edge_uses.specs.Ranges.{IsWithin}
 use Rattle.edge_uses.specs.ShellRows.{ShellRows}
 use Rattle.edge_uses.proofs.Tallies.{set_same, set_other}
 use Rattle.edge_uses.proofs.Turn.{edge_id}
-use Rattle.orient_certificate.specs.declared.tally.Seen.{Seen}
+use Rattle.orient_certificate.specs.declared.rows_by_edge.Seen.{Seen}
 use Rattle.orient_certificate.specs.Partners.{HasTwoRows, AllHaveTwoRows, ArePartners}
-use Rattle.orient_certificate.specs.Tally.{places_of, last_of, summary, once_more, seen_of, IsTally}
+use Rattle.orient_certificate.specs.RowsByEdge.{places_of, last_of, summary, once_more, seen_of, AreRowsByEdge}
 
 pub length-places : (g n : ℕ) (rows : List Row) → length (places_of g n rows) ≡ total (λ (r : Row). cond (r.edge.0 == g) 1 0) rows
 length-places g n [] = refl
@@ -274,11 +274,12 @@ tally_step d i span old row was new at long low each is_was is_new g within = by
         set_other old k (g - span.least) new (summary []) apart ∙ seen_other d i g (get_or old (g - span.least) (summary [])) row at n.0 (each g within)
 
 -- the count of an edge tells whether it has two rows
-pub count_told : (d : ShellRows) (span : Span) (tally : List Seen) (g : ℕ) → IsTally d span tally → IsWithin span g → (seen_of span tally g).count ≡ 2
+pub count_told : (d : ShellRows) (span : Span) (by_edge : List Seen) (g : ℕ) → AreRowsByEdge d span by_edge → IsWithin span g
+    → (seen_of span by_edge g).count ≡ 2
     → HasTwoRows d g
-count_told d span tally g told within two =
+count_told d span by_edge g told within two =
     places_two d g (sym (count_places (places_of g 0 d.rows)) ∙ (ap (λ (s : Seen). s.count) (sym (told g within)) ∙ two))
 
-pub count_ne : (d : ShellRows) (span : Span) (tally : List Seen) (g : ℕ) → IsTally d span tally → IsWithin span g → (seen_of span tally g).count ≢ 2
+pub count_ne : (d : ShellRows) (span : Span) (by_edge : List Seen) (g : ℕ) → AreRowsByEdge d span by_edge → IsWithin span g → (seen_of span by_edge g).count ≢ 2
     → HasTwoRows d g → ⊥
-count_ne d span tally g told within ne two = ne (ap (λ (s : Seen). s.count) (told g within) ∙ (count_places (places_of g 0 d.rows) ∙ two_places d g two))
+count_ne d span by_edge g told within ne two = ne (ap (λ (s : Seen). s.count) (told g within) ∙ (count_places (places_of g 0 d.rows) ∙ two_places d g two))

@@ -9,9 +9,9 @@ use Rattle.edge_uses.specs.declared.spanning.Span.{Span}
 use Rattle.edge_uses.specs.Ranges.{IsWithin, IsSpanOf}
 use Rattle.edge_uses.specs.ShellRows.{ShellRows, AreRows}
 use Rattle.edge_uses.proofs.Mating.{rows_within}
-use Rattle.orient_certificate.specs.declared.tally.Seen.{Seen}
+use Rattle.orient_certificate.specs.declared.rows_by_edge.Seen.{Seen}
 use Rattle.orient_certificate.specs.Partners.{HasTwoRows, AllHaveTwoRows}
-use Rattle.orient_certificate.specs.Tally.{seen_of, IsTally}
+use Rattle.orient_certificate.specs.RowsByEdge.{seen_of, AreRowsByEdge}
 use Rattle.orient_certificate.specs.Crossings.{IsStep}
 use Rattle.orient_certificate.proofs.Places.{other_in, partner_made}
 
@@ -28,19 +28,19 @@ edge_two d r row whole two at =
     All-at (HasTwoRows d) d.edges two row.edge.0
     (Has-from_Contains d.edges row.edge.0 (All-at (λ (x : Row). Contains d.edges x.edge.0) d.rows whole.edges_hold row (has_get d.rows r row at)))
 
-pub partner_told : (d : ShellRows) (span : Span) (tally : List Seen) (r m : ℕ) (row : Row) → AreRows d → IsSpanOf span d.edges → IsTally d span tally
-    → AllHaveTwoRows d → slice_get d.rows r ≡ Some row → m ≡ other_in (seen_of span tally row.edge.0) r
+pub partner_told : (d : ShellRows) (span : Span) (by_edge : List Seen) (r m : ℕ) (row : Row) → AreRows d → IsSpanOf span d.edges → AreRowsByEdge d span by_edge
+    → AllHaveTwoRows d → slice_get d.rows r ≡ Some row → m ≡ other_in (seen_of span by_edge row.edge.0) r
     → (other : Row) × (slice_get d.rows m ≡ Some other) × (row.edge ≡ other.edge) × (r ≢ m)
-partner_told d span tally r m row whole is told two at e =
+partner_told d span by_edge r m row whole is told two at e =
     partner_made d r row at (edge_two d r row whole two at) m (e ∙ ap (λ s. other_in s r) (told row.edge.0 (edge_within d span r row whole is at)))
 
-pub step_made : (d : ShellRows) (span : Span) (tally : List Seen) (forwards : List Bool) (r m : ℕ) (row other : Row) (flips a b : Bool) → AreRows d
-    → IsSpanOf span d.edges → IsTally d span tally → AllHaveTwoRows d
-    → slice_get d.rows r ≡ Some row → m ≡ other_in (seen_of span tally row.edge.0) r → slice_get d.rows m ≡ Some other
+pub step_made : (d : ShellRows) (span : Span) (by_edge : List Seen) (forwards : List Bool) (r m : ℕ) (row other : Row) (flips a b : Bool) → AreRows d
+    → IsSpanOf span d.edges → AreRowsByEdge d span by_edge → AllHaveTwoRows d
+    → slice_get d.rows r ≡ Some row → m ≡ other_in (seen_of span by_edge row.edge.0) r → slice_get d.rows m ≡ Some other
     → a ≡ same_flag row.along (get_or forwards row.at.face.0 true) → b ≡ same_flag other.along (get_or forwards other.at.face.0 true) → flips ≡ same_flag a b
     → IsStep d forwards r (record { from = row.at.face.0; to = other.at.face.0; partner = m; flips = flips })
-step_made d span tally forwards r m row other flips a b whole is told two at e at_m is_a is_b is_flips =
-    let t = partner_told d span tally r m row whole is told two at e in
+step_made d span by_edge forwards r m row other flips a b whole is told two at e at_m is_a is_b is_flips =
+    let t = partner_told d span by_edge r m row whole is told two at e in
     let same : t.0 ≡ other = same_Some t.0 other (sym t.1 ∙ at_m) in
     record {
       partners = record {

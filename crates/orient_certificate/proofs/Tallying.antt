@@ -8,8 +8,8 @@ use Rattle.edge_uses.specs.Cells.{Celled, cell_of, with_cell}
 use Rattle.edge_uses.specs.Ranges.{IsWithin, IsSpanOf}
 use Rattle.edge_uses.specs.ShellRows.{ShellRows, AreRows}
 use Rattle.edge_uses.specs.declared.row.Row.{Row}
-use Rattle.orient_certificate.specs.Tally.{summary, once_more, seen_of}
-use Rattle.orient_certificate.specs.declared.tally.Seen.{Seen}
+use Rattle.orient_certificate.specs.RowsByEdge.{summary, once_more, seen_of}
+use Rattle.orient_certificate.specs.declared.rows_by_edge.Seen.{Seen}
 use Rattle.orient_certificate.proofs.Places.{IsSeen, seen_few, tally_step}
 use Rattle.orient_certificate.proofs.Stepping.{edge_within}
 

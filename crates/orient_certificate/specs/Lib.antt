@@ -3,7 +3,7 @@ pub mod Flags
 pub mod OddRing
 pub mod Outcome
 pub mod Crossings
-pub mod Tally
+pub mod RowsByEdge
 pub mod Graph
 pub mod Laws
 pub mod Checked

@@ -6,10 +6,10 @@ ghost use Rattle.solid_data.specs.declared.solid.FaceUse.{FaceUse as AnyFace};
 ghost use Rattle.edge_uses.specs.ShellRows.{AreRows};
 ghost use Rattle.edge_uses.specs.Ranges.{IsSpanOf};
 ghost use Rattle.orient_certificate.specs.Partners.{AllHaveTwoRows, ArePartners};
-ghost use Rattle.orient_certificate.specs.Tally.{IsTally};
+ghost use Rattle.orient_certificate.specs.RowsByEdge.{AreRowsByEdge};
 ghost use Rattle.orient_certificate.specs.Crossings.{IsStep, flipped};
 
-use crate::tally::Tally;
+use crate::rows_by_edge::RowsByEdge;
 use edge_uses::{Row, Rows};
 use iges_base::NoMemory;
 use solid_data::{RowId, Shell};
@@ -62,17 +62,17 @@ fn bare(row: &Row, forwards: &[bool]) -> bool
     same(row.along, forwards[row.at.face.0 as usize])
 }
 
-fn step_at(rows: &Rows, tally: &Tally<'_>, forwards: &[bool], r: u32) -> Crossing
+fn step_at(rows: &Rows, by_edge: &RowsByEdge<'_>, forwards: &[bool], r: u32) -> Crossing
     requires row { r < length rows.now.rows }
     requires faces { length forwards.now ≡ rows.now.face_count }
     requires whole { AreRows rows.now }
-    requires span { IsSpanOf tally.now.span rows.now.edges }
-    requires tally { IsTally rows.now tally.now.span tally.now.seen }
+    requires span { IsSpanOf by_edge.now.span rows.now.edges }
+    requires by_edge { AreRowsByEdge rows.now by_edge.now.span by_edge.now.seen }
     requires two { AllHaveTwoRows rows.now }
     ensures { IsStep rows.now forwards.now r result }
 {
     let row = rows.row(RowId(r)).unwrap();
-    let partner = tally.other_of(row.edge.0, r);
+    let partner = by_edge.other_of(row.edge.0, r);
     let other = rows.row(RowId(partner)).unwrap();
     Crossing {
         from: row.at.face.0,
@@ -86,13 +86,13 @@ fn step_at(rows: &Rows, tally: &Tally<'_>, forwards: &[bool], r: u32) -> Crossin
 pub(crate) fn steps_of(
     alloc: Global,
     rows: &Rows,
-    tally: &Tally<'_>,
+    by_edge: &RowsByEdge<'_>,
     forwards: &[bool],
 ) -> Result<Vec<Crossing>, NoMemory>
     requires faces { length forwards.now ≡ rows.now.face_count }
     requires whole { AreRows rows.now }
-    requires span { IsSpanOf tally.now.span rows.now.edges }
-    requires tally { IsTally rows.now tally.now.span tally.now.seen }
+    requires span { IsSpanOf by_edge.now.span rows.now.edges }
+    requires by_edge { AreRowsByEdge rows.now by_edge.now.span by_edge.now.seen }
     requires two { AllHaveTwoRows rows.now }
     ensures each { IfOk result (λ cs. length cs.items ≡ length rows.now.rows) }
     ensures steps { IfOk result (λ cs. (r : ℕ) (c : Crossing) → slice_get cs.items r ≡ Some c
@@ -100,7 +100,7 @@ pub(crate) fn steps_of(
 {
     let mut crossings = Vec::new(alloc);
     'rows: for r in 0..rows.len() {
-        crossings.push(step_at(rows, tally, forwards, r as u32))?;
+        crossings.push(step_at(rows, by_edge, forwards, r as u32))?;
     }
     Ok(crossings)
 }

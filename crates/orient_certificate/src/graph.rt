@@ -9,7 +9,7 @@ ghost use Rattle.orient_certificate.specs.Flags.{face_flags};
 use crate::crossing::{Crossing, forwards_of, steps_of};
 use crate::fault::OrientFault;
 use crate::naming::miscounted;
-use crate::tally::{first_miscounted, tally_of};
+use crate::rows_by_edge::{first_miscounted, rows_by_edge_of};
 use edge_uses::rows;
 use solid_data::{Shell, ShellAt, Solid};
 use std::alloc::Global;
@@ -42,12 +42,12 @@ pub fn graph_of(alloc: Global, solid: &Solid, at: ShellAt) -> Result<Graph, Orie
     solid.recall_numbering();
     let shell = solid.shell(at).unwrap();
     let rows = rows(alloc, solid, at)?;
-    let tally = tally_of(alloc, &rows)?;
-    if let Some(edge) = first_miscounted(&rows, &tally) {
+    let by_edge = rows_by_edge_of(alloc, &rows)?;
+    if let Some(edge) = first_miscounted(&rows, &by_edge) {
         return Err(OrientFault::Fails(miscounted(solid, edge)));
     }
     let forwards = forwards_of(alloc, shell)?;
-    let crossings = steps_of(alloc, &rows, &tally, forwards.as_slice())?;
+    let crossings = steps_of(alloc, &rows, &by_edge, forwards.as_slice())?;
     Ok(Graph {
         crossings,
         faces: rows.face_count(),

@@ -15,7 +15,7 @@ mod line;
 mod lists;
 mod naming;
 mod reading;
-mod tally;
+mod rows_by_edge;
 mod writing;
 
 pub use checker::OrientChecker;

@@ -64,14 +64,14 @@ pub record Names (text : List ℕ) (n : ℕ) (lines : List (List ℕ)) : Type 0 
   pub cut : cut_lines text ≡ head ∷ lines
   pub names : IsSpelled head (Head (record { 0 = n }))
 
-abbrev pub IsHead : OrientLine → Type 0
-IsHead line = (n : ℕ) × (line ≡ Head (record { 0 = n }))
+abbrev pub IsHeadLine : OrientLine → Type 0
+IsHeadLine line = (n : ℕ) × (line ≡ Head (record { 0 = n }))
 
 -- what is wrong with line 1: it is missing, misspelt, or another line than a head
 abbrev pub IsBadFirst : List (List ℕ) → Illegal → Type 0
 IsBadFirst [] bad = bad ≡ Missing 1
 IsBadFirst (head ∷ lines) bad = (((line : OrientLine) → ¬ IsSpelled head line) × (bad ≡ Misspelt 1))
-    ⊎ ((line : OrientLine) × IsSpelled head line × ¬ IsHead line × (bad ≡ Unfit 1))
+    ⊎ ((line : OrientLine) × IsSpelled head line × ¬ IsHeadLine line × (bad ≡ Unfit 1))
 
 abbrev pub IsBadHead : List ℕ → Illegal → Type 0
 IsBadHead text bad = IsBadFirst (cut_lines text) bad

@@ -1,9 +1,9 @@
 -- The words that are given.
 use Rattle.std.proofs.Common.{◌≡◌, ◌∙◌, ℕ, ◌<◌, ◌≤◌, List, [], ◌∷◌, length, map, Option, Some, None, refl, sym, ap, arith, get_or, String, string_bytes, Global}
 use Rattle.std.specs.Prelude.{option_map}
-use Rattle.repair_commands.specs.declared.asked.Asked.{Asked}
-use Rattle.repair_commands.specs.declared.asked.Asked.TheVariants as asked
-use Rattle.repair_commands.specs.Asked.{asked_of, command_named, numbered_asked, second}
+use Rattle.repair_commands.specs.declared.request.Request.{Request}
+use Rattle.repair_commands.specs.declared.request.Request.TheVariants as request
+use Rattle.repair_commands.specs.Request.{request_of, command_named, numbered_request, second}
 
 pub second_is : (words : List (String Global)) (x : String Global) (name : List ℕ) → 2 ≤ length words → x ≡ get_or words 1 x → name ≡ string_bytes x
     → second (map string_bytes words) ≡ Some name
@@ -11,25 +11,25 @@ second_is [] x name some at is = absurd (omega (arith, some))
 second_is (w ∷ []) x name some at is = absurd (omega (arith, some))
 second_is (w ∷ v ∷ words) x name some at is = ap (λ (t : List ℕ). Some t) (sym (is ∙ ap string_bytes at))
 
-pub few_words : (words : List (String Global)) → length words < 2 → None ≡ asked_of (map string_bytes words)
+pub few_words : (words : List (String Global)) → length words < 2 → None ≡ request_of (map string_bytes words)
 few_words [] few = refl
 few_words (w ∷ []) few = refl
 few_words (w ∷ v ∷ words) few = absurd (omega (arith, few))
 
-pub two_words : (words : List (String Global)) (x : String Global) (name : List ℕ) (r : Option Asked) → 2 ≤ length words → length words < 3
-    → x ≡ get_or words 0 x → name ≡ string_bytes x → r ≡ option_map asked.Lines (command_named name) → r ≡ asked_of (map string_bytes words)
+pub two_words : (words : List (String Global)) (x : String Global) (name : List ℕ) (r : Option Request) → 2 ≤ length words → length words < 3
+    → x ≡ get_or words 0 x → name ≡ string_bytes x → r ≡ option_map request.Lines (command_named name) → r ≡ request_of (map string_bytes words)
 two_words [] x name r some few at is given = absurd (omega (arith, some))
 two_words (w ∷ []) x name r some few at is given = absurd (omega (arith, some))
-two_words (w ∷ v ∷ []) x name r some few at is given = given ∙ ap (λ (t : List ℕ). option_map asked.Lines (command_named t)) (is ∙ ap string_bytes at)
+two_words (w ∷ v ∷ []) x name r some few at is given = given ∙ ap (λ (t : List ℕ). option_map request.Lines (command_named t)) (is ∙ ap string_bytes at)
 two_words (w ∷ v ∷ u ∷ words) x name r some few at is given = absurd (omega (arith, few))
 
-pub three_words : (words : List (String Global)) (x y : String Global) (name number : List ℕ) (r : Option Asked) → 3 ≤ length words → length words < 4
-    → x ≡ get_or words 0 x → name ≡ string_bytes x → y ≡ get_or words 2 y → number ≡ string_bytes y → r ≡ numbered_asked name number
-    → r ≡ asked_of (map string_bytes words)
+pub three_words : (words : List (String Global)) (x y : String Global) (name number : List ℕ) (r : Option Request) → 3 ≤ length words → length words < 4
+    → x ≡ get_or words 0 x → name ≡ string_bytes x → y ≡ get_or words 2 y → number ≡ string_bytes y → r ≡ numbered_request name number
+    → r ≡ request_of (map string_bytes words)
 three_words [] x y name number r some few at is there as_read given = absurd (omega (arith, some))
 three_words (w ∷ []) x y name number r some few at is there as_read given = absurd (omega (arith, some))
 three_words (w ∷ v ∷ []) x y name number r some few at is there as_read given = absurd (omega (arith, some))
 three_words (w ∷ v ∷ u ∷ []) x y name number r some few at is there as_read given =
-    given ∙ ap (λ (t : List ℕ). numbered_asked t number) (is ∙ ap string_bytes at)
-    ∙ ap (λ (t : List ℕ). numbered_asked (string_bytes w) t) (as_read ∙ ap string_bytes there)
+    given ∙ ap (λ (t : List ℕ). numbered_request t number) (is ∙ ap string_bytes at)
+    ∙ ap (λ (t : List ℕ). numbered_request (string_bytes w) t) (as_read ∙ ap string_bytes there)
 three_words (w ∷ v ∷ u ∷ t ∷ words) x y name number r some few at is there as_read given = absurd (omega (arith, few))

@@ -19,11 +19,11 @@ use Rattle.iges_write.proofs.Made.{can_be_made}
 use Rattle.orient_commands.specs.Laws.{AreSameOrRings}
 use Rattle.repair_commands.specs.SolidDue.{OfReorient}
 use Rattle.repair_commands.proofs.FlagsDecided.{reorient_one, some_reorient}
-use Rattle.repair_commands.specs.declared.asked.LineCommand.{LineCommand}
-use Rattle.repair_commands.specs.declared.asked.LineCommand.TheVariants as «line»
-use Rattle.repair_commands.specs.declared.asked.Asked.{Asked}
-use Rattle.repair_commands.specs.declared.asked.Asked.TheVariants as asked
-use Rattle.repair_commands.specs.Asked.{asked_of, usage_line}
+use Rattle.repair_commands.specs.declared.request.LineCommand.{LineCommand}
+use Rattle.repair_commands.specs.declared.request.LineCommand.TheVariants as «line»
+use Rattle.repair_commands.specs.declared.request.Request.{Request}
+use Rattle.repair_commands.specs.declared.request.Request.TheVariants as request
+use Rattle.repair_commands.specs.Request.{request_of, usage_line}
 use Rattle.repair_commands.specs.Due.{DueOf, OfLines, IsLaid, OfLayout, OfNoLayout, bad_layout, file_too_large, in_layout, not_in_layout, relayout}
 use Rattle.repair_commands.specs.Due.{text_too_large}
 use Rattle.repair_commands.specs.Laws.{AreOneText, InLayoutIsTold, OneAnswerIsOwed, SomeAnswerIsOwed}
@@ -82,17 +82,17 @@ reorient_alike n bytes a b t u (inr p) (inr q) =
     let same : p.1 ≡ q.1 = ok_is p.1 q.1 (sym (IsFile-read_file bytes p.1 p.2) ∙ IsFile-read_file bytes q.1 q.2) in
     reorient_one n q.1 a b t u (subst (λ (f : Contents). OfReorient n f a t) same p.3) q.3
 
-due_of_one : (q : Asked) (bytes : List ℕ) (a b : Answer) (t u : List ℕ) → DueOf q bytes a t → DueOf q bytes b u → (a ≡ b) × AreOneText (Some q) t u
-due_of_one (asked.Lines c) bytes a b t u p q = lines_one c bytes a b t u p q
-due_of_one (asked.Reorient n) bytes a b t u p q = reorient_alike n bytes a b t u p q
+due_of_one : (q : Request) (bytes : List ℕ) (a b : Answer) (t u : List ℕ) → DueOf q bytes a t → DueOf q bytes b u → (a ≡ b) × AreOneText (Some q) t u
+due_of_one (request.Lines c) bytes a b t u p q = lines_one c bytes a b t u p q
+due_of_one (request.Reorient n) bytes a b t u p q = reorient_alike n bytes a b t u p q
 
 pub due_one : OneAnswerIsOwed
-due_one words bytes a b t u p q = by_asked (asked_of words) p q
+due_one words bytes a b t u p q = by_request (request_of words) p q
   where
-    by_asked : (o : Option Asked) → MatchOption o (Exactly answer.Usage usage_line a t) (λ c. DueOf c bytes a t)
+    by_request : (o : Option Request) → MatchOption o (Exactly answer.Usage usage_line a t) (λ c. DueOf c bytes a t)
         → MatchOption o (Exactly answer.Usage usage_line b u) (λ c. DueOf c bytes b u) → (a ≡ b) × AreOneText o t u
-    by_asked None p q = (p.0 ∙ sym q.0, p.1 ∙ sym q.1)
-    by_asked (Some c) p q = due_of_one c bytes a b t u p q
+    by_request None p q = (p.0 ∙ sym q.0, p.1 ∙ sym q.1)
+    by_request (Some c) p q = due_of_one c bytes a b t u p q
 
 abbrev IsDue : Owed → Type 0
 IsDue owed = (a : Answer) × (t : List ℕ) × owed a t
@@ -123,16 +123,16 @@ some_of_lines q bytes = by_size (cases_lt FILE_LIMIT (length bytes))
     by_size (inl many) = (answer.TooLarge, [], inl (file_too_large many))
     by_size (inr few) = by_laid few (relaid bytes) refl
 
-some_of_bytes : (q : Asked) (bytes : List ℕ) → IsDue (DueOf q bytes)
-some_of_bytes (asked.Lines c) bytes = some_of_lines c bytes
-some_of_bytes (asked.Reorient n) bytes = file_due bytes (OfReorient n) (λ f few is. some_reorient n f (can_be_made bytes f few is).made.limits)
+some_of_bytes : (q : Request) (bytes : List ℕ) → IsDue (DueOf q bytes)
+some_of_bytes (request.Lines c) bytes = some_of_lines c bytes
+some_of_bytes (request.Reorient n) bytes = file_due bytes (OfReorient n) (λ f few is. some_reorient n f (can_be_made bytes f few is).made.limits)
 
 pub due_some : SomeAnswerIsOwed
-due_some words bytes = by_asked (asked_of words)
+due_some words bytes = by_request (request_of words)
   where
-    by_asked : (o : Option Asked) → (a : Answer) × (t : List ℕ) × MatchOption o (Exactly answer.Usage usage_line a t) (λ q. DueOf q bytes a t)
-    by_asked None = (answer.Usage, usage_line, (refl, refl))
-    by_asked (Some q) = some_of_bytes q bytes
+    by_request : (o : Option Request) → (a : Answer) × (t : List ℕ) × MatchOption o (Exactly answer.Usage usage_line a t) (λ q. DueOf q bytes a t)
+    by_request None = (answer.Usage, usage_line, (refl, refl))
+    by_request (Some q) = some_of_bytes q bytes
 
 no_layout_done : (bytes : List ℕ) (a : Answer) (t : List ℕ) → OfNoLayout bytes a t → a ≡ answer.Done → ⊥
 no_layout_done bytes a t (file_too_large p) e = cc

@@ -17,10 +17,10 @@ use Rattle.file_replies.specs.Written as writing
 use Rattle.file_replies.specs.Written.{OfWritten}
 use Rattle.repair_commands.specs.SolidDue as reorient
 use Rattle.command_replies.specs.Replies.{IsFileTold, IsReply}
-use Rattle.repair_commands.specs.declared.asked.LineCommand.{LineCommand}
-use Rattle.repair_commands.specs.declared.asked.Asked.{Asked}
-use Rattle.repair_commands.specs.declared.asked.Asked.TheVariants as asked
-use Rattle.repair_commands.specs.Asked.{asked_of, usage_line}
+use Rattle.repair_commands.specs.declared.request.LineCommand.{LineCommand}
+use Rattle.repair_commands.specs.declared.request.Request.{Request}
+use Rattle.repair_commands.specs.declared.request.Request.TheVariants as request
+use Rattle.repair_commands.specs.Request.{request_of, usage_line}
 use Rattle.repair_commands.specs.Due.{DueOf, OfLines, OfLayout, OfNoLayout, bad_layout, file_too_large, in_layout, not_in_layout, relayout, text_too_large}
 use Rattle.repair_commands.specs.Outcome.{Finishes, IsComplete, IsOwed, Outcome}
 
@@ -39,23 +39,23 @@ bytes_owed q file bytes text reply told same owed = record {
 
 -- what is owed of the file that was told
 pub file_owed : (n : ℕ) (left : Option (List ℕ)) (f : Contents) (reply : Reply) → IsFileTold left f → OfReorient n f reply.answer reply.text
-    → IsReply (DueOf (asked.Reorient n)) left reply
+    → IsReply (DueOf (request.Reorient n)) left reply
 file_owed n left f reply told owed = record { bytes = told.bytes; told = told.told; owed = inr (told.few, f, told.is, owed) }
 
-pub no_file_owed : (n : ℕ) (left : Option (List ℕ)) (reply : Reply) → IsReply OfNoFile left reply → IsReply (DueOf (asked.Reorient n)) left reply
+pub no_file_owed : (n : ℕ) (left : Option (List ℕ)) (reply : Reply) → IsReply OfNoFile left reply → IsReply (DueOf (request.Reorient n)) left reply
 no_file_owed n left reply none = record { bytes = none.bytes; told = none.told; owed = inl none.owed }
 
 -- a reply to what the words ask for
-pub asked_owed : (words : List (List ℕ)) (file : Option (List ℕ)) (reply : Reply) (q : Asked) → asked_of words ≡ Some q → IsReply (DueOf q) file reply
+pub request_owed : (words : List (List ℕ)) (file : Option (List ℕ)) (reply : Reply) (q : Request) → request_of words ≡ Some q → IsReply (DueOf q) file reply
     → IsOwed words file reply.answer reply.text
-asked_owed words file reply q is owed = record {
+request_owed words file reply q is owed = record {
   bytes = owed.bytes;
   told = owed.told;
   due = subst (λ o. MatchOption o (Exactly Usage usage_line reply.answer reply.text) (λ q. DueOf q owed.bytes reply.answer reply.text)) (sym is) owed.owed;
 }
 
 -- and the usage line, for words of no listed form
-pub usage_owed : (words : List (List ℕ)) (file : Option (List ℕ)) (reply : Reply) → asked_of words ≡ None → (reply.answer ≡ Usage) × (reply.text ≡ usage_line)
+pub usage_owed : (words : List (List ℕ)) (file : Option (List ℕ)) (reply : Reply) → request_of words ≡ None → (reply.answer ≡ Usage) × (reply.text ≡ usage_line)
     → IsOwed words file reply.answer reply.text
 usage_owed words file reply is usage =
     let bytes = some_told file in
@@ -109,24 +109,24 @@ reorient_judgement n f a t (reorient.unoriented none owed) = unoriented_judgemen
 reorient_judgement n f a t (reorient.not_reoriented x flags entity why refused) = tt
 reorient_judgement n f a t (reorient.reoriented new is owed) = written_judgement new a t owed
 
-due_judgement : (q : Asked) (bytes : List ℕ) (a : Answer) (t : List ℕ) → DueOf q bytes a t → IsJudgement a
-due_judgement (asked.Lines c) bytes a t due = lines_judgement c bytes a t due
-due_judgement (asked.Reorient n) bytes a t (inl p) = no_file_judgement bytes a t p
-due_judgement (asked.Reorient n) bytes a t (inr p) = reorient_judgement n p.1 a t p.3
+due_judgement : (q : Request) (bytes : List ℕ) (a : Answer) (t : List ℕ) → DueOf q bytes a t → IsJudgement a
+due_judgement (request.Lines c) bytes a t due = lines_judgement c bytes a t due
+due_judgement (request.Reorient n) bytes a t (inl p) = no_file_judgement bytes a t p
+due_judgement (request.Reorient n) bytes a t (inr p) = reorient_judgement n p.1 a t p.3
 
 -- the answers that words may owe
-abbrev IsJudged : Option Asked → Answer → Type 0
+abbrev IsJudged : Option Request → Answer → Type 0
 IsJudged None a = a ≡ Usage
 IsJudged (Some q) a = IsJudgement a
 
-judged : (words : List (List ℕ)) (file : Option (List ℕ)) (a : Answer) (t : List ℕ) → IsOwed words file a t → IsJudged (asked_of words) a
-judged words file a t owed = by_asked (asked_of words) owed.due
+judged : (words : List (List ℕ)) (file : Option (List ℕ)) (a : Answer) (t : List ℕ) → IsOwed words file a t → IsJudged (request_of words) a
+judged words file a t owed = by_request (request_of words) owed.due
   where
-    by_asked : (o : Option Asked) → MatchOption o (Exactly Usage usage_line a t) (λ q. DueOf q owed.bytes a t) → IsJudged o a
-    by_asked None due = due.0
-    by_asked (Some q) due = due_judgement q owed.bytes a t due
+    by_request : (o : Option Request) → MatchOption o (Exactly Usage usage_line a t) (λ q. DueOf q owed.bytes a t) → IsJudged o a
+    by_request None due = due.0
+    by_request (Some q) due = due_judgement q owed.bytes a t due
 
-no_fault : (o : Option Asked) (a : Answer) → IsJudged o a → (a ≡ ReadFault → ⊥) × (a ≡ WriteFault → ⊥) × (a ≡ NoMemory → ⊥)
+no_fault : (o : Option Request) (a : Answer) → IsJudged o a → (a ≡ ReadFault → ⊥) × (a ≡ WriteFault → ⊥) × (a ≡ NoMemory → ⊥)
 no_fault None a is = (λ e. let usage = is in cc, λ e. let usage = is in cc, λ e. let usage = is in cc)
 no_fault (Some q) a is = (λ e. subst IsJudgement e is, λ e. subst IsJudgement e is, λ e. subst IsJudgement e is)
 
@@ -149,17 +149,17 @@ module _ (words : List (List ℕ)) (file before after : Option (List ℕ)) where
     pub finished : Finishes before after faults now answer text result → Outcome words file before after result
     finished (inl h) =
         subst (Outcome words file before after) (sym h.0)
-        (whole_text answer text owed (no_fault (asked_of words) answer (judged words file answer text owed)) h.1)
+        (whole_text answer text owed (no_fault (request_of words) answer (judged words file answer text owed)) h.1)
     finished (inr h) =
         subst (Outcome words file before after) (sym h.0)
         (record { answer = answer; text = text; owed = owed; count = h.1.count; shorter = h.1.shorter; appended = h.1.appended })
 
     pub no_read_fault : Finishes before after faults now answer text result → result ≡ ReadFault → ⊥
-    no_read_fault (inl h) e = let sound = no_fault (asked_of words) answer (judged words file answer text owed) in sound.0 (sym h.0 ∙ e)
+    no_read_fault (inl h) e = let sound = no_fault (request_of words) answer (judged words file answer text owed) in sound.0 (sym h.0 ∙ e)
     no_read_fault (inr h) e = let fault = h.0 in cc
 
     pub write_fault : Finishes before after faults now answer text result → result ≡ WriteFault → Rose faults now
-    write_fault (inl h) e = let sound = no_fault (asked_of words) answer (judged words file answer text owed) in absurd (sound.1 (sym h.0 ∙ e))
+    write_fault (inl h) e = let sound = no_fault (request_of words) answer (judged words file answer text owed) in absurd (sound.1 (sym h.0 ∙ e))
     write_fault (inr h) e = h.1.rose
 
     complete_judgement : (a : Answer) → IsJudgement a → IsComplete a
@@ -173,11 +173,11 @@ module _ (words : List (List ℕ)) (file before after : Option (List ℕ)) where
     complete_judgement NoExtract is = tt
     complete_judgement TooLarge is = tt
 
-    complete_judged : (o : Option Asked) (a : Answer) → IsSome o → IsJudged o a → IsComplete a
+    complete_judged : (o : Option Request) (a : Answer) → IsSome o → IsJudged o a → IsComplete a
     complete_judged None a some is = absurd (let there = some in cc)
     complete_judged (Some q) a some is = complete_judgement a is
 
     -- the answer to words of a listed form where no write failed
-    pub complete : Finishes before after faults now answer text result → IsSome (asked_of words) → (Rose faults now → ⊥) → IsComplete result
-    complete (inl h) some no_rise = subst IsComplete (sym h.0) (complete_judged (asked_of words) answer some (judged words file answer text owed))
+    pub complete : Finishes before after faults now answer text result → IsSome (request_of words) → (Rose faults now → ⊥) → IsComplete result
+    complete (inl h) some no_rise = subst IsComplete (sym h.0) (complete_judged (request_of words) answer some (judged words file answer text owed))
     complete (inr h) some no_rise = absurd (no_rise h.1.rose)

@@ -4,7 +4,7 @@ use Rattle.std.proofs.Common.{◌≡◌, ℕ, List, Result}
 use Rattle.command_replies.specs.declared.answer.Answer.TheVariants.{Done, No}
 use Rattle.command_replies.specs.declared.reply.Reply.{Reply}
 use Rattle.command_replies.proofs.Replying.{reply_owed}
-use Rattle.repair_commands.specs.declared.asked.LineCommand.TheVariants.{Layout}
+use Rattle.repair_commands.specs.declared.request.LineCommand.TheVariants.{Layout}
 use Rattle.repair_commands.specs.Due.{OfLayout, in_layout, not_in_layout}
 use Rattle.repair_commands.specs.Texts.{changes_text, in_layout_line}
 

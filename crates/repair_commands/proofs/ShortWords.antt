@@ -8,7 +8,7 @@ use Rattle.std.proofs.lemmas.Bool.{and_parts, and_from, le-leb, leb-true}
 use Rattle.std.proofs.lemmas.Str.Parse.{IsDigitsTest, IsNumeralModel, digits_value_short, numerals_by_value, parse_gives}
 use Rattle.iges_base.specs.Word.{are_digits, is_empty}
 use Rattle.iges_base.proofs.DigitFronts.{digit_range}
-use Rattle.repair_commands.specs.Asked.{is_number}
+use Rattle.repair_commands.specs.Request.{is_number}
 
 abbrev AreAllDigits : List ℕ → Type 0
 AreAllDigits ds = list_all is_ascii_digit ds ≡ true

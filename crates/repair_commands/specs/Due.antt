@@ -7,11 +7,11 @@ use Rattle.command_replies.specs.declared.answer.Answer.{Answer}
 use Rattle.command_replies.specs.declared.answer.Answer.TheVariants as answer
 use Rattle.command_replies.specs.Due.{Owed, Exactly, OfFile}
 use Rattle.repair_commands.specs.SolidDue.{OfReorient}
-use Rattle.repair_commands.specs.declared.asked.LineCommand.{LineCommand}
-use Rattle.repair_commands.specs.declared.asked.LineCommand.TheVariants as «line»
-use Rattle.repair_commands.specs.declared.asked.Asked.{Asked}
-use Rattle.repair_commands.specs.declared.asked.Asked.TheVariants as asked
-use Rattle.repair_commands.specs.Asked.{asked_of, usage_line}
+use Rattle.repair_commands.specs.declared.request.LineCommand.{LineCommand}
+use Rattle.repair_commands.specs.declared.request.LineCommand.TheVariants as «line»
+use Rattle.repair_commands.specs.declared.request.Request.{Request}
+use Rattle.repair_commands.specs.declared.request.Request.TheVariants as request
+use Rattle.repair_commands.specs.Request.{request_of, usage_line}
 use Rattle.repair_commands.specs.Texts.{bad_layout_line, in_layout_line, changes_text}
 
 -- the file in the layout of the fixed form, where it is within the limit
@@ -43,10 +43,10 @@ abbrev pub OfLines : LineCommand → List ℕ → Owed
 OfLines c bytes a t = OfNoLayout bytes a t ⊎ ((text : List ℕ) × IsLaid bytes text × OfLayout bytes text c a t)
 
 -- what is owed of a file's bytes
-abbrev pub DueOf : Asked → List ℕ → Owed
-DueOf (asked.Lines c) bytes = OfLines c bytes
-DueOf (asked.Reorient n) bytes = OfFile bytes (OfReorient n)
+abbrev pub DueOf : Request → List ℕ → Owed
+DueOf (request.Lines c) bytes = OfLines c bytes
+DueOf (request.Reorient n) bytes = OfFile bytes (OfReorient n)
 
 -- what is owed for these words and the file's bytes
 abbrev pub Due : List (List ℕ) → List ℕ → Owed
-Due words bytes a t = MatchOption (asked_of words) (Exactly answer.Usage usage_line a t) (λ q. DueOf q bytes a t)
+Due words bytes a t = MatchOption (request_of words) (Exactly answer.Usage usage_line a t) (λ q. DueOf q bytes a t)

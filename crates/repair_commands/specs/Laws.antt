@@ -7,22 +7,22 @@ use Rattle.command_replies.specs.declared.answer.Answer.{Answer}
 use Rattle.command_replies.specs.declared.answer.Answer.TheVariants.{Done}
 use Rattle.cert_lines.specs.Line.{cut_lines}
 use Rattle.orient_commands.specs.Laws.{AreSameOrRings}
-use Rattle.repair_commands.specs.declared.asked.LineCommand.TheVariants.{Layout}
-use Rattle.repair_commands.specs.declared.asked.Asked.{Asked}
-use Rattle.repair_commands.specs.declared.asked.Asked.TheVariants as asked
-use Rattle.repair_commands.specs.Asked.{asked_of}
+use Rattle.repair_commands.specs.declared.request.LineCommand.TheVariants.{Layout}
+use Rattle.repair_commands.specs.declared.request.Request.{Request}
+use Rattle.repair_commands.specs.declared.request.Request.TheVariants as request
+use Rattle.repair_commands.specs.Request.{request_of}
 use Rattle.repair_commands.specs.Due.{Due, OfLines}
 
 -- one text, but for which rings an orientation names
-abbrev pub AreOneText : Option Asked → List ℕ → List ℕ → Type 0
+abbrev pub AreOneText : Option Request → List ℕ → List ℕ → Type 0
 AreOneText None t u = t ≡ u
-AreOneText (Some (asked.Lines c)) t u = t ≡ u
-AreOneText (Some (asked.Reorient n)) t u = (t ≡ u) ⊎ AllZip AreSameOrRings (cut_lines t) (cut_lines u)
+AreOneText (Some (request.Lines c)) t u = t ≡ u
+AreOneText (Some (request.Reorient n)) t u = (t ≡ u) ⊎ AllZip AreSameOrRings (cut_lines t) (cut_lines u)
 
 -- Two that are owed have one answer and one text.
 abbrev pub OneAnswerIsOwed : Type 0
 OneAnswerIsOwed = (words : List (List ℕ)) (bytes : List ℕ) (a b : Answer) (t u : List ℕ) → Due words bytes a t → Due words bytes b u
-    → (a ≡ b) × AreOneText (asked_of words) t u
+    → (a ≡ b) × AreOneText (request_of words) t u
 
 -- Some answer is owed, and a text.
 abbrev pub SomeAnswerIsOwed : Type 0

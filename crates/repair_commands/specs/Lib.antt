@@ -1,4 +1,4 @@
-pub mod Asked
+pub mod Request
 pub mod Texts
 pub mod SolidDue
 pub mod Due

@@ -4,13 +4,13 @@ ghost use Rattle.iges_base.specs.declared.TheConstants.{FILE_LIMIT};
 ghost use Rattle.iges_io.specs.Faults.{Rose};
 ghost use Rattle.iges_io.specs.Reading.{TakesAtMost};
 ghost use Rattle.std.specs.Prelude.{◌≡◌, ◌+◌, ◌<◌, ◌⊎◌, IfOk, IsErrOf, IsNone, IsSome};
-ghost use Rattle.repair_commands.specs.Asked.{asked_of};
+ghost use Rattle.repair_commands.specs.Request.{request_of};
 ghost use Rattle.repair_commands.specs.Due.{DueOf, OfLines};
 ghost use Rattle.repair_commands.specs.Outcome.{Finishes, IsComplete, IsOwed, Outcome};
 
-use crate::asked::{Asked, LineCommand};
 use crate::reorienting::reorient_solid;
 use crate::replies::{bytes_reply, usage_reply};
+use crate::request::{LineCommand, Request};
 use crate::words::Words;
 use command_replies::{Answer, Reply, Stop, bytes_in, file_in};
 use iges_base::FILE_LIMIT;
@@ -34,7 +34,7 @@ fn lines_reply<F: Source>(alloc: Global, command: LineCommand, file: &mut F) -> 
 // The reply where the solid of this number is to be reoriented.
 fn solid_reply<F: Source>(alloc: Global, no: u32, file: &mut F) -> Result<Reply, Stop>
     requires { F.can_read file.old }
-    ensures found { IfOk result (IsReply (DueOf (Asked.Reorient no)) (F.left file.old)) }
+    ensures found { IfOk result (IsReply (DueOf (Request.Reorient no)) (F.left file.old)) }
     ensures whole { IfOk result (λ reply. ReadsWhole (F.left file.new) reply.answer) }
     ensures count { CountAfterCall (F.faults file.old) (F.faults file.new) result }
     ensures taken { TakesWithin FILE_LIMIT (F.left file.old) (F.left file.new) result }
@@ -46,16 +46,16 @@ fn solid_reply<F: Source>(alloc: Global, no: u32, file: &mut F) -> Result<Reply,
 }
 
 // The reply to what is asked of a source.
-fn source_reply<F: Source>(alloc: Global, asked: Asked, file: &mut F) -> Result<Reply, Stop>
+fn source_reply<F: Source>(alloc: Global, request: Request, file: &mut F) -> Result<Reply, Stop>
     requires { F.can_read file.old }
-    ensures found { IfOk result (IsReply (DueOf asked) (F.left file.old)) }
+    ensures found { IfOk result (IsReply (DueOf request) (F.left file.old)) }
     ensures whole { IfOk result (λ reply. ReadsWhole (F.left file.new) reply.answer) }
     ensures count { CountAfterCall (F.faults file.old) (F.faults file.new) result }
     ensures taken { TakesWithin FILE_LIMIT (F.left file.old) (F.left file.new) result }
 {
-    match asked {
-        Asked::Lines(command) => lines_reply(alloc, command, file),
-        Asked::Reorient(no) => solid_reply(alloc, no, file),
+    match request {
+        Request::Lines(command) => lines_reply(alloc, command, file),
+        Request::Reorient(no) => solid_reply(alloc, no, file),
     }
 }
 
@@ -63,15 +63,15 @@ fn reply_to<F: Source>(alloc: Global, words: &Words, file: &mut F) -> Result<Rep
     requires { F.can_read file.old }
     ensures found { IfOk result (λ reply. IsOwed words.now
         (F.left file.old) reply.answer reply.text) }
-    ensures whole { IsSome (asked_of words.now)
+    ensures whole { IsSome (request_of words.now)
         → IfOk result (λ reply. ReadsWhole (F.left file.new) reply.answer) }
     ensures count { CountAfterCall (F.faults file.old) (F.faults file.new) result }
     ensures taken { TakesWithin FILE_LIMIT (F.left file.old) (F.left file.new) result }
-    ensures reads { IsErrOf result Stop.ReadFault → IsSome (asked_of words.now) }
-    ensures unread { IsNone (asked_of words.now) → file.new ≡ file.old }
+    ensures reads { IsErrOf result Stop.ReadFault → IsSome (request_of words.now) }
+    ensures unread { IsNone (request_of words.now) → file.new ≡ file.old }
 {
-    match words.asked() {
-        Some(asked) => source_reply(alloc, asked, file),
+    match words.request() {
+        Some(request) => source_reply(alloc, request, file),
         None => Ok(usage_reply(alloc)?),
     }
 }
@@ -107,7 +107,7 @@ pub fn run_repair<F: Source, O: Sink>(
 
     // A fault is answered only where the count of a source that the words read, or of the sink, rose.
     ensures read_fault { result ≡ Answer.ReadFault
-        → IsSome (asked_of words.now) × Rose (F.faults file.old) (F.faults file.new) }
+        → IsSome (request_of words.now) × Rose (F.faults file.old) (F.faults file.new) }
     ensures write_fault { result ≡ Answer.WriteFault → Rose (O.faults out.old) (O.faults out.new) }
 
     // Where a read failed, that or out of memory is answered, and where a write failed, that.
@@ -121,11 +121,11 @@ pub fn run_repair<F: Source, O: Sink>(
         → TakesAtMost FILE_LIMIT (F.left file.old) (F.left file.new) }
 
     // A file that is judged was read to its end. Words that ask for nothing leave it.
-    ensures whole { IsSome (asked_of words.now) → ReadsWhole (F.left file.new) result }
-    ensures unread { IsNone (asked_of words.now) → file.new ≡ file.old }
+    ensures whole { IsSome (request_of words.now) → ReadsWhole (F.left file.new) result }
+    ensures unread { IsNone (request_of words.now) → file.new ≡ file.old }
 
     // Where nothing failed, words of a listed form have their defined answer.
-    ensures complete { IsSome (asked_of words.now)
+    ensures complete { IsSome (request_of words.now)
         → (¬ Rose (F.faults file.old) (F.faults file.new))
         → (¬ Rose (O.faults out.old) (O.faults out.new)) → IsComplete result }
 {

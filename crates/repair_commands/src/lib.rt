@@ -1,15 +1,15 @@
 //! The commands of `igesolid-repair`: what they owe for the words and the bytes that they are given.
 #![tactic(auto)]
 
-mod asked;
 mod command;
 mod law;
 mod reorienting;
 mod replies;
 mod report;
+mod request;
 mod words;
 
-pub use asked::{Asked, LineCommand};
 pub use command::run_repair;
 pub use law::{in_layout_is_told, one_answer, one_reorient_answer, some_answer, unoriented_is_no};
+pub use request::{LineCommand, Request};
 pub use words::Words;

@@ -1,13 +1,13 @@
 //! The replies to what is asked of the lines of a file.
 
 ghost use Rattle.iges_base.specs.declared.TheConstants.{FILE_LIMIT};
-ghost use Rattle.repair_commands.specs.Asked.{usage_line};
+ghost use Rattle.repair_commands.specs.Request.{usage_line};
 ghost use Rattle.repair_commands.specs.Due.{OfLines, IsLaid, OfLayout, OfNoLayout};
 ghost use Rattle.repair_commands.specs.Texts.{bad_layout_line, changes_text, in_layout_line};
 ghost use Rattle.std.specs.Prelude.{◌≡◌, ◌≤◌, IfOk, MatchResult, length};
 
-use crate::asked::LineCommand;
 use crate::report::{put_bad_layout, put_changes};
+use crate::request::LineCommand;
 use command_replies::{Answer, Reply, too_large};
 use iges_base::{Bytes, FILE_LIMIT, NoMemory, Out};
 use line_layout::{LayoutFault, RelaidFault, relaid};

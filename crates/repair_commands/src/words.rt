@@ -1,8 +1,8 @@
 ghost use Rattle.std.specs.Prelude.{◌≡◌, ◌∷◌, ◌++◌, [], IfOk, None, Some, MatchOption, OnErr, OnOk, drop, map, string_bytes};
 ghost use Rattle.std.specs.Vec.Iter.{into_iter_items};
-ghost use Rattle.repair_commands.specs.Asked.{asked_of, file_named};
+ghost use Rattle.repair_commands.specs.Request.{request_of, file_named};
 
-use crate::asked::{Asked, asked_in, second_of};
+use crate::request::{Request, request_in, second_of};
 use iges_base::NoMemory;
 use std::alloc::Global;
 use std::env::Args;
@@ -54,10 +54,10 @@ impl Words {
     }
 
     /// What the words ask for; None where they have no listed form.
-    pub fn asked(&self) -> Option<Asked>
-        ensures { result ≡ asked_of self.now }
+    pub fn request(&self) -> Option<Request>
+        ensures { result ≡ request_of self.now }
     {
-        asked_in(self.words.as_slice())
+        request_in(self.words.as_slice())
     }
 
     /// The name of the file that the words name; None where they have no listed form.
@@ -65,7 +65,7 @@ impl Words {
         ensures { MatchOption result (file_named self.now ≡ None)
             (λ name. file_named self.now ≡ Some name.now) }
     {
-        match self.asked() {
+        match self.request() {
             Some(_) => second_of(self.words.as_slice()),
             None => None,
         }

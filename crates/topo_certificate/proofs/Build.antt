@@ -17,13 +17,13 @@ use Rattle.solid_data.proofs.Members.{Has, NoRepeat, no_longer, Has-from_Contain
 use Rattle.edge_uses.proofs.Counting.{found_row}
 use Rattle.cert_text.specs.Text.{IsShort}
 use Rattle.cert_lines.specs.Line.{CertLine, edge, corner, point, reach, tally}
-use Rattle.cert_lines.specs.declared.counts.Tally.{Tally}
+use Rattle.cert_lines.specs.declared.counts.TallyCounts.{TallyCounts}
 use Rattle.cert_lines.specs.declared.version.Version.{Version}
-use Rattle.cert_state.specs.Kept.{all_due}
-use Rattle.cert_state.specs.Stand.{Stand, stand_from_latest, tallies, is_tally, FitsTally, FitsEdge, FitsCorner, FitsPoint, FitsReach, FitsLine, NoneDue}
-use Rattle.cert_state.specs.Stand.{IsAbove, first_of, row_named, row_edge, row_start, row_face, point_named, mates_of, edge_of, vertex_of, face_of}
-use Rattle.cert_state.specs.Stand.{is_shell, is_edge, is_corner_or_point, is_reach, is_last, number_of, since_shell, asked, rows_of_shell, start_count}
-use Rattle.cert_state.specs.Stand.{IsMate, TurnsTo}
+use Rattle.cert_state.specs.CheckState.{all_due}
+use Rattle.cert_state.specs.Progress.{Progress, progress_from_latest, tallies, is_tally, FitsTally, FitsEdge, FitsCorner, FitsPoint, FitsReach, FitsLine, NoneDue}
+use Rattle.cert_state.specs.Progress.{IsAbove, first_of, row_named, row_edge, row_start, row_face, point_named, mates_of, edge_of, vertex_of, face_of}
+use Rattle.cert_state.specs.Progress.{is_shell, is_edge, is_corner_or_point, is_reach, is_last, number_of, since_shell, asked, rows_of_shell, start_count}
+use Rattle.cert_state.specs.Progress.{IsMate, TurnsTo}
 use Rattle.cert_state.specs.declared.due.Due.{Due}
 use Rattle.solid_data.proofs.Occurring.{numbers_rise, number_below, length-numbers}
 use Rattle.cert_state.proofs.Segment.{AreGoodRows, row_has}
@@ -54,54 +54,54 @@ pub record Stage (version : Version) (s : SolidData) (lines : List CertLine) (k 
 
 module _ (version : Version) (s : SolidData) (lines : List CertLine) (k : ℕ) (d : ShellRows) (es vs fs : List ℕ) (ms : List (ℕ × ℕ))
     (stage : Stage version s lines k d es vs fs ms) where
-  at : Stand
-  at = stand_from_latest version s lines
+  at : Progress
+  at = progress_from_latest version s lines
 
-  pub edges_left : (stand_from_latest version s lines).due.edges ≡ length d.edges - length es
-  unfolding stand_from_latest
+  pub edges_left : (progress_from_latest version s lines).due.edges ≡ length d.edges - length es
+  unfolding progress_from_latest
   edges_left = ap (λ (a : Due). a.edges - number_of is_edge (since_shell lines)) stage.asks ∙ ap (λ n. length d.edges - n) stage.edge_count
 
-  pub corners_left : (stand_from_latest version s lines).due.corners ≡ length d.vertices - length vs
-  unfolding stand_from_latest
+  pub corners_left : (progress_from_latest version s lines).due.corners ≡ length d.vertices - length vs
+  unfolding progress_from_latest
   corners_left = ap (λ (a : Due). a.corners - number_of is_corner_or_point (since_shell lines)) stage.asks ∙ ap (λ n. length d.vertices - n) stage.corner_count
 
-  pub reach_left : (stand_from_latest version s lines).due.reach ≡ d.face_count - 1 - length fs
-  unfolding stand_from_latest
+  pub reach_left : (progress_from_latest version s lines).due.reach ≡ d.face_count - 1 - length fs
+  unfolding progress_from_latest
   reach_left = ap (λ (a : Due). a.reach - number_of is_reach (since_shell lines)) stage.asks ∙ ap (λ n. d.face_count - 1 - n) stage.reach_count
 
-  pub tally_left : (stand_from_latest version s lines).due.tally ≡ tallies version
-  unfolding stand_from_latest
+  pub tally_left : (progress_from_latest version s lines).due.tally ≡ tallies version
+  unfolding progress_from_latest
   tally_left = ap (λ (a : Due). a.tally - number_of is_tally (since_shell lines)) stage.asks ∙ (ap (λ n. tallies version - n) stage.tally_count ∙ omega arith)
 
   pub here : rows_of_shell s (number_of is_shell lines) ≡ d
   here = ap (rows_of_shell s) stage.shells ∙ stage.rows
 
-  pub edge_before : (stand_from_latest version s lines).last_edge ≡ first_of es
-  unfolding stand_from_latest
+  pub edge_before : (progress_from_latest version s lines).last_edge ≡ first_of es
+  unfolding progress_from_latest
   edge_before = ap (λ c. first_of (filter_map (edge_of c) (since_shell lines))) here ∙ ap first_of stage.edges
 
-  pub vertex_before : (stand_from_latest version s lines).last_vertex ≡ first_of vs
-  unfolding stand_from_latest
+  pub vertex_before : (progress_from_latest version s lines).last_vertex ≡ first_of vs
+  unfolding progress_from_latest
   vertex_before = ap (λ c. first_of (filter_map (vertex_of c) (since_shell lines))) here ∙ ap first_of stage.vertices
 
-  pub reached_before : (stand_from_latest version s lines).reached ≡ 0 ∷ fs
-  unfolding stand_from_latest
+  pub reached_before : (progress_from_latest version s lines).reached ≡ 0 ∷ fs
+  unfolding progress_from_latest
   reached_before = ap (λ c. 0 ∷ filter_map (face_of c) (since_shell lines)) here ∙ ap (λ xs. 0 ∷ xs) stage.faces
 
-  pub mates_before : (stand_from_latest version s lines).mates ≡ ms
-  unfolding stand_from_latest
+  pub mates_before : (progress_from_latest version s lines).mates ≡ ms
+  unfolding progress_from_latest
   mates_before = stage.mates
 
-  pub not_ended : (stand_from_latest version s lines).ended ≡ false
-  unfolding stand_from_latest
+  pub not_ended : (progress_from_latest version s lines).ended ≡ false
+  unfolding progress_from_latest
   not_ended = stage.begun
 
-  pub shell_here : rows_of_shell s (stand_from_latest version s lines).shell ≡ d
-  unfolding stand_from_latest
+  pub shell_here : rows_of_shell s (progress_from_latest version s lines).shell ≡ d
+  unfolding progress_from_latest
   shell_here = here
 
   pub nothing_due : tallies version ≡ 0 → length d.edges ≤ length es → length d.vertices ≤ length vs → d.face_count - 1 ≤ length fs
-      → NoneDue (stand_from_latest version s lines).due
+      → NoneDue (progress_from_latest version s lines).due
   nothing_due none a b c =
       record {
         edges = omega (arith, a, edges_left);
@@ -111,13 +111,13 @@ module _ (version : Version) (s : SolidData) (lines : List CertLine) (k : ℕ) (
             omega (arith, none, tally_left);
       }
 
-  number_here : (stand_from_latest version s lines).shell ≡ k
-  unfolding stand_from_latest
+  number_here : (progress_from_latest version s lines).shell ≡ k
+  unfolding progress_from_latest
   number_here = stage.shells
 
   -- where one TALLY line ends a shell, and nothing else is due, that of the shell fits, and nothing is due after it
-  pub tally_fits : (t : Tally) → tallies version ≡ 1 → length d.edges ≤ length es → length d.vertices ≤ length vs → d.face_count - 1 ≤ length fs
-      → FitsTally s k t → FitsLine s (stand_from_latest version s lines) (tally t)
+  pub tally_fits : (t : TallyCounts) → tallies version ≡ 1 → length d.edges ≤ length es → length d.vertices ≤ length vs → d.face_count - 1 ≤ length fs
+      → FitsTally s k t → FitsLine s (progress_from_latest version s lines) (tally t)
   tally_fits t one a b c fits = (
     not_ended,
     (
@@ -127,9 +127,9 @@ module _ (version : Version) (s : SolidData) (lines : List CertLine) (k : ℕ) (
     ),
   )
 
-  pub none_after_tally : (t : Tally) → tallies version ≡ 1 → length d.edges ≤ length es → length d.vertices ≤ length vs → d.face_count - 1 ≤ length fs
-      → NoneDue (stand_from_latest version s (tally t ∷ lines)).due
-  unfolding stand_from_latest
+  pub none_after_tally : (t : TallyCounts) → tallies version ≡ 1 → length d.edges ≤ length es → length d.vertices ≤ length vs → d.face_count - 1 ≤ length fs
+      → NoneDue (progress_from_latest version s (tally t ∷ lines)).due
+  unfolding progress_from_latest
   none_after_tally t one a b c =
       let left : tallies version - suc (number_of is_tally (since_shell lines)) ≡ 0 = omega (arith, one) in
       record {
@@ -145,7 +145,7 @@ module _ (version : Version) (s : SolidData) (lines : List CertLine) (k : ℕ) (
       → IsReadable s (edge a b) → Stage version s (edge a b ∷ lines) k d (e ∷ es) vs fs ((a, b) ∷ ms)
   add_edge a b e x y left at_a at_b is_e one along against above ok =
       let listed : row_edge (row_named d a) ≡ Some e = ap row_edge at_a ∙ ap Some is_e in
-      let fits : FitsEdge d (stand_from_latest version s lines) a b =
+      let fits : FitsEdge d (progress_from_latest version s lines) a b =
       record {
         along_row = x;
         against_row = y;
@@ -171,7 +171,7 @@ module _ (version : Version) (s : SolidData) (lines : List CertLine) (k : ℕ) (
         reach_count = stage.reach_count;
         tally_count = stage.tally_count;
         fit = (
-          (not_ended, (omega (arith, left, edges_left), subst (λ c. FitsEdge c (stand_from_latest version s lines) a b) (sym shell_here) fits)),
+          (not_ended, (omega (arith, left, edges_left), subst (λ c. FitsEdge c (progress_from_latest version s lines) a b) (sym shell_here) fits)),
           stage.fit,
         );
         short = (ok, stage.short);
@@ -183,7 +183,7 @@ module _ (version : Version) (s : SolidData) (lines : List CertLine) (k : ℕ) (
       → length (r ∷ rs) ≡ start_count d v → point_count d v ≡ 0 → IsAbove (first_of vs) v → IsReadable s (corner (r ∷ rs))
       → Stage version s (corner (r ∷ rs) ∷ lines) k d es (v ∷ vs) fs ms
   add_corner v r rs edges_done left starts turns least whole no_point above ok =
-      let fits : FitsCorner d (stand_from_latest version s lines) r rs =
+      let fits : FitsCorner d (progress_from_latest version s lines) r rs =
       record {
         vertex = v;
         lies_at = starts;
@@ -213,7 +213,7 @@ module _ (version : Version) (s : SolidData) (lines : List CertLine) (k : ℕ) (
             (
               (omega (arith, edges_done, edges_left), omega (arith, left, corners_left)),
               subst
-                  (λ c. FitsCorner c (stand_from_latest version s lines) r rs) (sym shell_here) fits,
+                  (λ c. FitsCorner c (progress_from_latest version s lines) r rs) (sym shell_here) fits,
             ),
           ),
           stage.fit,
@@ -226,7 +226,7 @@ module _ (version : Version) (s : SolidData) (lines : List CertLine) (k : ℕ) (
       ≡ Some v → start_count d v ≡ 0 → point_count d v ≡ 1 → IsAbove (first_of vs) v
       → IsReadable s (point face l) → Stage version s (point face l ∷ lines) k d es (v ∷ vs) fs ms
   add_point v face l edges_done left lies no_row one above ok =
-      let fits : FitsPoint d (stand_from_latest version s lines) face l =
+      let fits : FitsPoint d (progress_from_latest version s lines) face l =
       record { vertex = v; lies_at = lies; no_row = no_row; one_point = one; rises = subst (λ o. IsAbove o v) (sym vertex_before) above } in
       record {
         rows = stage.rows;
@@ -247,7 +247,7 @@ module _ (version : Version) (s : SolidData) (lines : List CertLine) (k : ℕ) (
             (
               (omega (arith, edges_done, edges_left), omega (arith, left, corners_left)),
               subst
-                  (λ c. FitsPoint c (stand_from_latest version s lines) face l) (sym shell_here) fits,
+                  (λ c. FitsPoint c (progress_from_latest version s lines) face l) (sym shell_here) fits,
             ),
           ),
           stage.fit,
@@ -260,7 +260,7 @@ module _ (version : Version) (s : SolidData) (lines : List CertLine) (k : ℕ) (
       → row_face (row_named d r) ≡ Some f → row_face (row_named d m) ≡ Some g → (Has (0 ∷ fs) f → ⊥) → Has (0 ∷ fs) g
       → IsReadable s (reach r) → Stage version s (reach r ∷ lines) k d es vs (f ∷ fs) ms
   add_reach r m f g edges_done corners_done left mate on_f on_g new old ok =
-      let fits : FitsReach d (stand_from_latest version s lines) r = record {
+      let fits : FitsReach d (progress_from_latest version s lines) r = record {
         mate = m;
         face = f;
         known = g;
@@ -289,7 +289,7 @@ module _ (version : Version) (s : SolidData) (lines : List CertLine) (k : ℕ) (
             (
               (omega (arith, edges_done, edges_left), omega (arith, corners_done, corners_left), omega (arith, left, reach_left)),
               subst
-                  (λ c. FitsReach c (stand_from_latest version s lines) r) (sym shell_here) fits,
+                  (λ c. FitsReach c (progress_from_latest version s lines) r) (sym shell_here) fits,
             ),
           ),
           stage.fit,

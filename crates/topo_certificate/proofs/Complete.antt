@@ -9,13 +9,13 @@ use Rattle.edge_uses.specs.RowRelations.{AreMates}
 use Rattle.edge_uses.proofs.Counting.{two_rows_each}
 use Rattle.cert_lines.specs.Line.{CertLine, shell, tally, end, spelling, HasSpelling}
 use Rattle.cert_lines.specs.declared.counts.ShellCounts.{ShellCounts}
-use Rattle.cert_lines.specs.declared.counts.Tally.{Tally}
+use Rattle.cert_lines.specs.declared.counts.TallyCounts.{TallyCounts}
 use Rattle.topo_certificate.specs.Legal.{IsLegal}
 use Rattle.topo_certificate.specs.After.{IsLegalAfter}
 use Rattle.cert_lines.specs.declared.version.Version.{Version}
 use Rattle.cert_lines.specs.declared.version.Version.TheVariants.{One, Two, Three}
-use Rattle.cert_state.specs.Stand.{stand_from_latest, loops_of_shell, tallies, NoneDue, IsAbove, first_of, is_shell, is_last, number_of, rows_of_shell}
-use Rattle.cert_state.specs.Stand.{IsMate}
+use Rattle.cert_state.specs.Progress.{progress_from_latest, loops_of_shell, tallies, NoneDue, IsAbove, first_of, is_shell, is_last, number_of, rows_of_shell}
+use Rattle.cert_state.specs.Progress.{IsMate}
 use Rattle.solid_data.proofs.Members.{Rises, rises_none}
 use Rattle.cert_state.proofs.Segment.{AreGoodRows}
 use Rattle.topo_certificate.proofs.Forward.{legal_forward}
@@ -44,7 +44,7 @@ pub record Done (version : Version) (s : SolidData) (j : ℕ) : Type 0 where
   pub short : AllByRecursion (IsReadable s) lines
   pub begun : list_any is_last lines ≡ false
   pub shells : number_of is_shell lines ≡ j
-  pub nothing : NoneDue (stand_from_latest version s lines).due
+  pub nothing : NoneDue (progress_from_latest version s lines).due
 
 pub any_above : (xs : List ℕ) → AllByRecursion (λ z. IsAbove (first_of []) z) xs
 any_above [] = tt
@@ -53,7 +53,7 @@ any_above (x ∷ xs) = (tt, any_above xs)
 abbrev pub counts_of : ShellRows → ShellCounts
 counts_of d = record { rows = length d.rows; edges = length d.edges; corners = length d.vertices; faces = d.face_count }
 
-abbrev pub tally_of : SolidData → ℕ → Tally
+abbrev pub tally_of : SolidData → ℕ → TallyCounts
 tally_of s k = record {
   vertices = length (rows_of_shell s k).vertices;
   edges = length (rows_of_shell s k).edges;
@@ -65,7 +65,7 @@ tally_of s k = record {
 pub begin_shell : (version : Version) (s : SolidData) (j : ℕ) → j < length s.shells → AreReady s (rows_of_shell s (suc j)) (loops_of_shell s (suc j))
     → (done : Done version s j)
     → Stage version s (shell (suc j) (counts_of (rows_of_shell s (suc j))) ∷ done.lines) (suc j) (rows_of_shell s (suc j)) [] [] [] []
-unfolding stand_from_latest
+unfolding progress_from_latest
 begin_shell version s j lt ready done =
     let d : ShellRows = rows_of_shell s (suc j) in
     record {
@@ -158,7 +158,7 @@ one_more version s j lt ready done =
     closes version s (suc j) r.lines e.es c.vs r.fs e.ms r.stage edges_done corners_done r.all ready.small ready.few_loops
 
 nothing_at_first : (version : Version) (s : SolidData) → Done version s 0
-unfolding stand_from_latest
+unfolding progress_from_latest
 nothing_at_first version s =
     record { lines = []; fit = tt; short = tt; begun = refl; shells = refl; nothing = record { edges = refl; corners = refl; reach = refl; tally = refl } }
 
@@ -168,16 +168,16 @@ upto version s ready zero le = nothing_at_first version s
 upto version s ready (suc j) le = one_more version s j (omega (arith, le)) (ready j (omega (arith, le))) (upto version s ready j (omega (arith, le)))
 
 pub end_fits : (version : Version) (s : SolidData) (done : Done version s (length s.shells)) → AllFit version s (end ∷ done.lines)
-unfolding stand_from_latest
+unfolding progress_from_latest
 end_fits version s done = ((done.begun, (done.nothing, done.shells)), done.fit)
 
-pub ended : (version : Version) (s : SolidData) (lines : List CertLine) → (stand_from_latest version s (end ∷ lines)).ended ≡ true
-unfolding stand_from_latest
+pub ended : (version : Version) (s : SolidData) (lines : List CertLine) → (progress_from_latest version s (end ∷ lines)).ended ≡ true
+unfolding progress_from_latest
 ended version s lines = refl
 
 -- Where the rows of each shell are ready, lines that fit go up to END.
 pub closed_has_lines : (version : Version) (s : SolidData) → ((j : ℕ) → j < length s.shells → AreReady s (rows_of_shell s (suc j)) (loops_of_shell s (suc j)))
-    → (lines : List CertLine) × AllFit version s lines × ((stand_from_latest version s lines).ended ≡ true) × AllByRecursion (IsReadable s) lines
+    → (lines : List CertLine) × AllFit version s lines × ((progress_from_latest version s lines).ended ≡ true) × AllByRecursion (IsReadable s) lines
 closed_has_lines version s ready =
     let done = upto version s ready (length s.shells) (omega arith) in
     (end ∷ done.lines, end_fits version s done, ended version s done.lines, (readable_end s, done.short))

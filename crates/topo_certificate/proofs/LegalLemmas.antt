@@ -4,7 +4,7 @@ use Rattle.std.proofs.Common.{sym, ◌∙◌, subst, arith, inl, inr, ⊎_elim}
 use Rattle.solid_data.specs.SolidData.{SolidData}
 use Rattle.cert_lines.specs.Line.{CertLine, IsLine, IsMisspelt, line_limit}
 use Rattle.cert_lines.specs.declared.version.Version.{Version}
-use Rattle.cert_state.specs.Stand.{Stand, stand_from_latest, FitsLine}
+use Rattle.cert_state.specs.Progress.{Progress, progress_from_latest, FitsLine}
 use Rattle.topo_certificate.specs.Legal.{IsLegal, IsUnfit, IsBadLine, IsFirstBad, FitsPart, IsPartBad}
 use Rattle.topo_certificate.specs.After.{IsLegalAfter, IsFirstBadAfter}
 use Rattle.cert_text.specs.declared.fault.Illegal.{Illegal}
@@ -35,32 +35,32 @@ one_bad_line s Fits number bytes x y (inr p) (inl q) = absurd (misspelt_unfit s 
 one_bad_line s Fits number bytes x y (inr p) (inr q) = p.1 ∙ sym q.1
 
 -- all lines that fit, fit so too
-pub Covers : SolidData → (Stand → CertLine → Type 0) → Type 0
-Covers s Fits = (at : Stand) (line : CertLine) → FitsLine s at line → Fits at line
+pub Covers : SolidData → (Progress → CertLine → Type 0) → Type 0
+Covers s Fits = (at : Progress) (line : CertLine) → FitsLine s at line → Fits at line
 
 -- Legal lines have no first bad one.
-no_bad : (version : Version) (s : SolidData) (Fits : Stand → CertLine → Type 0) (first : ℕ) → Covers s Fits
+no_bad : (version : Version) (s : SolidData) (Fits : Progress → CertLine → Type 0) (first : ℕ) → Covers s Fits
     → (before : List CertLine) (lines : List (List ℕ)) (bad : Illegal) → IsLegalAfter version s before lines
     → IsFirstBadAfter version s Fits first before lines bad → ⊥
 unfolding Covers
 no_bad version s Fits first covers before [] bad legal h = true_false (sym legal ∙ h.0)
-no_bad version s Fits first covers before (bytes ∷ rest) bad (l, is_l, fits, more) (inl h) = bad_good s (Fits (stand_from_latest version s before)) _ bytes l
-    bad is_l (covers (stand_from_latest version s before) l fits) h
+no_bad version s Fits first covers before (bytes ∷ rest) bad (l, is_l, fits, more) (inl h) = bad_good s (Fits (progress_from_latest version s before)) _ bytes l
+    bad is_l (covers (progress_from_latest version s before) l fits) h
 no_bad version s Fits first covers before (bytes ∷ rest) bad (l, is_l, fits, more) (inr (m, is_m, fits_m, later)) =
     no_bad version s Fits first covers (l ∷ before) rest bad more
     (subst (λ x. IsFirstBadAfter version s Fits first (x ∷ before) rest bad) (line_one bytes m l is_m.1 is_l.1) later)
 
 -- There is one first bad one at most.
-one_bad : (version : Version) (s : SolidData) (Fits : Stand → CertLine → Type 0) (first : ℕ) → Covers s Fits
+one_bad : (version : Version) (s : SolidData) (Fits : Progress → CertLine → Type 0) (first : ℕ) → Covers s Fits
     → (before : List CertLine) (lines : List (List ℕ)) (x y : Illegal) → IsFirstBadAfter version s Fits first before lines x
     → IsFirstBadAfter version s Fits first before lines y → x ≡ y
 unfolding Covers
 one_bad version s Fits first covers before [] x y p q = p.1 ∙ sym q.1
-one_bad version s Fits first covers before (bytes ∷ rest) x y (inl p) (inl q) = one_bad_line s (Fits (stand_from_latest version s before)) _ bytes x y p q
+one_bad version s Fits first covers before (bytes ∷ rest) x y (inl p) (inl q) = one_bad_line s (Fits (progress_from_latest version s before)) _ bytes x y p q
 one_bad version s Fits first covers before (bytes ∷ rest) x y (inl p) (inr (l, is_l, fits, later)) =
-    absurd (bad_good s (Fits (stand_from_latest version s before)) _ bytes l x is_l (covers (stand_from_latest version s before) l fits) p)
+    absurd (bad_good s (Fits (progress_from_latest version s before)) _ bytes l x is_l (covers (progress_from_latest version s before) l fits) p)
 one_bad version s Fits first covers before (bytes ∷ rest) x y (inr (l, is_l, fits, later)) (inl q) =
-    absurd (bad_good s (Fits (stand_from_latest version s before)) _ bytes l y is_l (covers (stand_from_latest version s before) l fits) q)
+    absurd (bad_good s (Fits (progress_from_latest version s before)) _ bytes l y is_l (covers (progress_from_latest version s before) l fits) q)
 one_bad version s Fits first covers before (bytes ∷ rest) x y (inr (l, is_l, fits, later)) (inr (m, is_m, fits_m, later_m)) =
     one_bad version s Fits first covers (l ∷ before) rest x y later
     (subst (λ z. IsFirstBadAfter version s Fits first (z ∷ before) rest y) (line_one bytes m l is_m.1 is_l.1) later_m)

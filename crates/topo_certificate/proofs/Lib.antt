@@ -8,6 +8,7 @@ pub mod LegalLemmas
 pub mod Checking
 pub mod Upgrades
 pub mod UpgradedText
+pub mod NextLines
 pub mod FedLines
 pub mod OpeningLines
 pub mod Decided

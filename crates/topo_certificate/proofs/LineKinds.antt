@@ -5,14 +5,14 @@ use Rattle.solid_data.specs.SolidData.{SolidData}
 use Rattle.cert_lines.specs.Line.{CertLine, head, solid, shell, edge, corner, point, reach, tally, end, spelling}
 use Rattle.cert_lines.specs.declared.counts.ShellCounts.{ShellCounts}
 use Rattle.cert_lines.specs.declared.version.Version.{Version}
-use Rattle.cert_state.specs.Stand.{FitsOpen, FitsEdge, FitsCorner, FitsPoint, FitsReach, NoneDue, is_shell, number_of, asked, rows_of_shell, current_rows}
-use Rattle.cert_state.specs.Stand.{Stand, is_last, is_tally}
+use Rattle.cert_state.specs.Progress.{FitsOpen, FitsEdge, FitsCorner, FitsPoint, FitsReach, NoneDue, is_shell, number_of, asked, rows_of_shell, current_rows}
+use Rattle.cert_state.specs.Progress.{Progress, is_last, is_tally}
 use Rattle.solid_data.proofs.Decisions.{Decided, decided_same, decided_below, decided_both}
-use Rattle.cert_lines.specs.declared.counts.Tally.{Tally}
+use Rattle.cert_lines.specs.declared.counts.TallyCounts.{TallyCounts}
 use Rattle.topo_certificate.specs.Upgraded.{with_tallies}
-use Rattle.cert_lines.specs.Said.{IsRowLine}
+use Rattle.cert_lines.specs.Parsed.{IsRowLine}
 use Rattle.topo_certificate.proofs.Facts.{Good, AllFit, Facts, facts_begin, facts_edge, facts_corner, facts_point, facts_reach}
-use Rattle.cert_state.proofs.SameStand.{SameStand, fits_edge, fits_corner, fits_point, fits_reach, corner_due, reach_due}
+use Rattle.cert_state.proofs.SameProgress.{SameProgress, fits_edge, fits_corner, fits_point, fits_reach, corner_due, reach_due}
 
 -- the first of two tests holds where one does and the second doesn't
 pub first_true : (a b : Bool) → b ≡ false → (a || b) ≡ true → a ≡ true
@@ -38,7 +38,7 @@ shell_line (reach r) h = absurd cc
 shell_line (tally t) h = absurd cc
 shell_line end h = absurd cc
 
-pub tally_line : (l : CertLine) → is_tally l ≡ true → (t : Tally) × (l ≡ tally t)
+pub tally_line : (l : CertLine) → is_tally l ≡ true → (t : TallyCounts) × (l ≡ tally t)
 tally_line (head v) h = absurd cc
 tally_line (solid n) h = absurd cc
 tally_line (shell k c) h = absurd cc
@@ -73,7 +73,7 @@ row_kind (tally t) h = (refl, refl)
 row_kind end h = absurd h
 
 -- no line of rows fits where none is due
-pub no_row_line : (s : SolidData) (at : Stand) (line : CertLine) → NoneDue at.due → IsRowLine line → FitsOpen s at line → ⊥
+pub no_row_line : (s : SolidData) (at : Progress) (line : CertLine) → NoneDue at.due → IsRowLine line → FitsOpen s at line → ⊥
 no_row_line s at (head v) none kind fits = kind
 no_row_line s at (solid n) none kind fits = kind
 no_row_line s at (shell k c) none kind fits = kind
@@ -120,8 +120,8 @@ facts_of version s good (end ∷ lines) k number fit =
     let facts : Facts version s lines (current_rows s lines) = facts_of version s good lines k number fit.1 in
     record { edge_facts = facts.edge_facts; corner_facts = facts.corner_facts; reach_facts = facts.reach_facts; asks = facts.asks; twice = facts.twice }
 
--- What fits one stand fits one that differs at most in TALLY lines.
-pub fits_too : (s : SolidData) (a b : Stand) (l : CertLine) → is_shell l ≡ false → is_last l ≡ false → is_tally l ≡ false → SameStand a b → FitsOpen s a l
+-- What fits at one progress fits at one that differs at most in TALLY lines.
+pub fits_too : (s : SolidData) (a b : Progress) (l : CertLine) → is_shell l ≡ false → is_last l ≡ false → is_tally l ≡ false → SameProgress a b → FitsOpen s a l
     → FitsOpen s b l
 fits_too s a b (head v) e f g same fits = fits
 fits_too s a b (solid n) e f g same fits = fits

@@ -9,7 +9,7 @@ use Rattle.iges_base.proofs.InLines.{both_in_line}
 use Rattle.cert_lines.specs.Line.{CertLine, head, solid, cut_lines, first_limit}
 use Rattle.cert_lines.specs.Cutting.{EndsFirst}
 use Rattle.cert_lines.specs.Opening.{IsMisfit, illegal_at}
-use Rattle.cert_lines.specs.Opening.{Opens, IsHead, IsSolid, IsOther, IsWrong, IsFirstWrong, IsBadOpening}
+use Rattle.cert_lines.specs.Opening.{Opens, IsHeadLine, IsSolid, IsOther, IsWrong, IsFirstWrong, IsBadOpening}
 use Rattle.cert_lines.specs.declared.version.Version.{Version}
 use Rattle.cert_text.specs.declared.fault.Illegal.{Illegal}
 use Rattle.cert_text.specs.declared.fault.Illegal.TheVariants.{Missing, Misspelt}
@@ -37,7 +37,7 @@ kept_full old bytes now i is full =
 
 -- ---- what a line shows
 
-pub head_wrong : (line : List ℕ) (m : Misfit) → IsMisfit IsHead line m → IsWrong IsHead 1 line (illegal_at m 1)
+pub head_wrong : (line : List ℕ) (m : Misfit) → IsMisfit IsHeadLine line m → IsWrong IsHeadLine 1 line (illegal_at m 1)
 head_wrong line misfit.Misspelt h = inl (h, refl)
 head_wrong line misfit.Unfit h = inr (h, refl)
 
@@ -79,7 +79,7 @@ first_next kept text front bytes (stage.Done v n) s h same b = absurd b
 first_next kept text front bytes (stage.Failed bad) s h same b = λ more.
     let e : (text ++ ended front) ++ more ≡ ended (text ++ front) ++ more = ap (λ (x : List ℕ). x ++ more) (sym (append_assoc text front (10 ∷ []))) in
     subst (λ (ls : List (List ℕ)). IsFirstWrong ls bad) (sym (ap cut_lines e ∙ one_line (text ++ front) more (both_in_line text front s.1 h)))
-    (inl (same_wrong IsHead 1 bytes (ended (text ++ front)) bad same b))
+    (inl (same_wrong IsHeadLine 1 bytes (ended (text ++ front)) bad same b))
 
 two_whole : (v : Version) (kept text front more : List ℕ) (s : HasHead v kept text) → (text ++ ended front) ++ more ≡ ended s.first
     ++ (ended (s.rest ++ front) ++ more)

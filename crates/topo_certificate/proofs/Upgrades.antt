@@ -9,21 +9,21 @@ use Rattle.solid_data.specs.declared.solid.Shell.{Shell}
 use Rattle.edge_uses.specs.ShellRows.{ShellRows, rows_of}
 use Rattle.cert_lines.specs.Line.{CertLine, shell, reach, tally, end, spelling, IsLine, line_limit}
 use Rattle.cert_lines.specs.declared.counts.ShellCounts.{ShellCounts}
-use Rattle.cert_lines.specs.declared.counts.Tally.{Tally}
+use Rattle.cert_lines.specs.declared.counts.TallyCounts.{TallyCounts}
 use Rattle.cert_lines.specs.declared.version.Version.TheVariants.{One, Two}
-use Rattle.cert_state.specs.Stand.{Stand, first_of, edge_of, vertex_of, face_of, mates_of, stand_from_latest, is_shell, is_last, is_tally, is_edge}
-use Rattle.cert_state.specs.Stand.{is_corner_or_point, is_reach, number_of, since_shell, asked, loops_of, rows_of_shell, FitsLine, FitsTally, FitsShell}
-use Rattle.cert_state.specs.Stand.{NoneDue}
+use Rattle.cert_state.specs.Progress.{Progress, first_of, edge_of, vertex_of, face_of, mates_of, progress_from_latest, is_shell, is_last, is_tally, is_edge}
+use Rattle.cert_state.specs.Progress.{is_corner_or_point, is_reach, number_of, since_shell, asked, loops_of, rows_of_shell, FitsLine, FitsTally, FitsShell}
+use Rattle.cert_state.specs.Progress.{NoneDue}
 use Rattle.topo_certificate.specs.Legal.{IsLegal}
 use Rattle.topo_certificate.specs.After.{IsLegalAfter}
 use Rattle.topo_certificate.specs.Upgraded.{tally_of_shell, tally_lines_of, tally_before, with_tallies}
 use Rattle.topo_certificate.proofs.Forward.{legal_forward, legal_behind}
 use Rattle.cert_state.proofs.Short.{IsReadable}
 use Rattle.cert_state.specs.declared.due.Due.{Due}
-use Rattle.cert_state.proofs.SameStand.{SameStand}
+use Rattle.cert_state.proofs.SameProgress.{SameProgress}
 use Rattle.topo_certificate.proofs.LineKinds.{asked_none, end_line, fits_too, kept_there, number_more, number_same, shell_line, tally_line}
 
--- the latest first: what a stand is read off is the same, with TALLY lines of shells before the one at hand and without
+-- the latest first: what the progress is read off is the same, with TALLY lines of shells before the one at hand and without
 record Alike (before new : List CertLine) : Type 0 where
   pub ended : list_any is_last new ≡ list_any is_last before
   pub shells : number_of is_shell new ≡ number_of is_shell before
@@ -65,10 +65,10 @@ last_vertex_in d ls = first_of (filter_map (vertex_of d) ls)
 abbrev reached_in : ShellRows → List CertLine → List ℕ
 reached_in d ls = 0 ∷ filter_map (face_of d) ls
 
--- the stand of version 2, as one of version 1 would be read
-same_stand : (s : SolidData) (before new : List CertLine) → Alike before new → SameStand (stand_from_latest One s before) (stand_from_latest Two s new)
-unfolding stand_from_latest
-same_stand s before new h = record {
+-- the progress of version 2, as one of version 1 would be read
+same_progress : (s : SolidData) (before new : List CertLine) → Alike before new → SameProgress (progress_from_latest One s before) (progress_from_latest Two s new)
+unfolding progress_from_latest
+same_progress s before new h = record {
   ended = h.ended;
   shell = h.shells;
   edges = ap (λ ls. (asked Two (find is_shell new)).edges - number_of is_edge ls) h.since ∙ ap (λ n. n - number_of is_edge (since_shell before))
@@ -87,8 +87,8 @@ same_stand s before new h = record {
 }
 
 -- no TALLY line fits in version 1
-no_tally : (s : SolidData) (before : List CertLine) → (stand_from_latest One s before).due.tally ≡ 0
-unfolding stand_from_latest
+no_tally : (s : SolidData) (before : List CertLine) → (progress_from_latest One s before).due.tally ≡ 0
+unfolding progress_from_latest
 no_tally s before = let h : (asked One (find is_shell before)).tally ≡ 0 = (asked_alike (find is_shell before)).tally in omega (arith, h)
 
 -- where a shell is begun, its line is the last one found
@@ -134,8 +134,8 @@ tally_there s k h at = record {
 }
 
 -- nothing is due before the first shell
-none_at_first : (s : SolidData) (new : List CertLine) → number_of is_shell new ≡ 0 → NoneDue (stand_from_latest Two s new).due
-unfolding stand_from_latest
+none_at_first : (s : SolidData) (new : List CertLine) → number_of is_shell new ≡ 0 → NoneDue (progress_from_latest Two s new).due
+unfolding progress_from_latest
 none_at_first s new none =
     let e = no_shell_found new none in
     record {
@@ -148,11 +148,11 @@ none_at_first s new none =
 -- where nothing but a TALLY line is due of a shell, it fits, and nothing is due after it
 tally_next : (s : SolidData) (before new : List CertLine) (k : ℕ) (h : Shell) → Alike before new → number_of is_shell before ≡ suc k
     → number_of is_tally (since_shell new) ≡ 0 → slice_get s.shells k ≡ Some h
-    → (stand_from_latest One s before).ended ≡ false → NoneDue (stand_from_latest One s before).due
-    → FitsLine s (stand_from_latest Two s new) (tally (tally_of_shell s h))
-unfolding stand_from_latest
+    → (progress_from_latest One s before).ended ≡ false → NoneDue (progress_from_latest One s before).due
+    → FitsLine s (progress_from_latest Two s new) (tally (tally_of_shell s h))
+unfolding progress_from_latest
 tally_next s before new k h alike number no_tallies at going none =
-    let same = same_stand s before new alike in
+    let same = same_progress s before new alike in
     let found = found_shell new k (alike.shells ∙ number) in
     let due : (asked Two (find is_shell new)).tally - number_of is_tally (since_shell new) ≡ 1 =
     ap (λ o. (asked Two o).tally - number_of is_tally (since_shell new)) found.2 ∙ omega (arith, no_tallies) in (
@@ -164,24 +164,24 @@ tally_next s before new k h alike number no_tallies at going none =
       ),
     )
 
-none_behind_tally : (s : SolidData) (before new : List CertLine) (k : ℕ) (t : Tally) → Alike before new → number_of is_shell before ≡ suc k
-    → number_of is_tally (since_shell new) ≡ 0 → NoneDue (stand_from_latest One s before).due
-    → NoneDue (stand_from_latest Two s (tally t ∷ new)).due
-unfolding stand_from_latest
+none_behind_tally : (s : SolidData) (before new : List CertLine) (k : ℕ) (t : TallyCounts) → Alike before new → number_of is_shell before ≡ suc k
+    → number_of is_tally (since_shell new) ≡ 0 → NoneDue (progress_from_latest One s before).due
+    → NoneDue (progress_from_latest Two s (tally t ∷ new)).due
+unfolding progress_from_latest
 none_behind_tally s before new k t alike number no_tallies none =
-    let same = same_stand s before new alike in
+    let same = same_progress s before new alike in
     let found = found_shell new k (alike.shells ∙ number) in
     let left : (asked Two (find is_shell new)).tally - suc (number_of is_tally (since_shell new)) ≡ 0 =
     ap (λ o. (asked Two o).tally - suc (number_of is_tally (since_shell new))) found.2 ∙ omega arith in
     record { edges = same.edges ∙ none.edges; corners = same.corners ∙ none.corners; reach = same.reach ∙ none.reach; tally = left }
 
 -- a line that begins a shell, or ends the certificate, after what ended the shell before
-ended_kept : (s : SolidData) (t : Tally) (ls : List CertLine) → ((stand_from_latest Two s (tally t ∷ ls)).ended ≡ (stand_from_latest Two s ls).ended)
-    × ((stand_from_latest Two s (tally t ∷ ls)).shell ≡ (stand_from_latest Two s ls).shell)
-unfolding stand_from_latest
+ended_kept : (s : SolidData) (t : TallyCounts) (ls : List CertLine) → ((progress_from_latest Two s (tally t ∷ ls)).ended ≡ (progress_from_latest Two s ls).ended)
+    × ((progress_from_latest Two s (tally t ∷ ls)).shell ≡ (progress_from_latest Two s ls).shell)
+unfolding progress_from_latest
 ended_kept s t ls = (refl, refl)
 
-shell_fits : (s : SolidData) (a b : Stand) (k : ℕ) (c : ShellCounts) → b.shell ≡ a.shell → FitsShell s a k c → FitsShell s b k c
+shell_fits : (s : SolidData) (a b : Progress) (k : ℕ) (c : ShellCounts) → b.shell ≡ a.shell → FitsShell s a k c → FitsShell s b k c
 shell_fits s a b k c e f =
     record {
       next = omega (arith, f.next, e);
@@ -194,16 +194,16 @@ shell_fits s a b k c e f =
       two_rows_each = f.two_rows_each;
     }
 
-going_on : (s : SolidData) (before : List CertLine) → (stand_from_latest One s (end ∷ before)).ended ≡ false → ⊥
-unfolding stand_from_latest
+going_on : (s : SolidData) (before : List CertLine) → (progress_from_latest One s (end ∷ before)).ended ≡ false → ⊥
+unfolding progress_from_latest
 going_on s before h = cc
 
-shells_told : (s : SolidData) (ls : List CertLine) → (stand_from_latest One s ls).shell ≡ number_of is_shell ls
-unfolding stand_from_latest
+shells_told : (s : SolidData) (ls : List CertLine) → (progress_from_latest One s ls).shell ≡ number_of is_shell ls
+unfolding progress_from_latest
 shells_told s ls = refl
 
-end_there : (s : SolidData) (ls : List CertLine) → (stand_from_latest Two s (end ∷ ls)).ended ≡ true
-unfolding stand_from_latest
+end_there : (s : SolidData) (ls : List CertLine) → (progress_from_latest Two s (end ∷ ls)).ended ≡ true
+unfolding progress_from_latest
 end_there s ls = refl
 
 -- each TALLY line that is put is spelled, and not long
@@ -217,18 +217,18 @@ module _ (s : SolidData) (read : TalliesRead s) where
   -- a shell begins
   shell_step : (before new : List CertLine) (n k : ℕ) (c : ShellCounts) (lines : List (List ℕ)) → Alike before new → number_of is_shell before ≡ n
       → number_of is_tally (since_shell new) ≡ 0 → IsReadable s (shell k c)
-      → FitsLine s (stand_from_latest One s before) (shell k c)
+      → FitsLine s (progress_from_latest One s before) (shell k c)
       → ((new' : List CertLine) → Alike (shell k c ∷ before) new' → number_of is_tally (since_shell new') ≡ 0 → IsLegalAfter Two s new' lines)
       → IsLegalAfter Two s new (tally_before s n ++ spelling (shell k c) ∷ lines)
   shell_step before new zero k c lines alike number no_tallies is fits on =
-      let same = same_stand s before new alike in (
+      let same = same_progress s before new alike in (
         shell k c,
         is,
         (
           same.ended ∙ fits.0,
           (
             none_at_first s new (alike.shells ∙ number),
-            shell_fits s (stand_from_latest One s before) (stand_from_latest Two s new) k c
+            shell_fits s (progress_from_latest One s before) (progress_from_latest Two s new) k c
                 same.shell fits.1.1,
           ),
         ),
@@ -237,8 +237,8 @@ module _ (s : SolidData) (read : TalliesRead s) where
   shell_step before new (suc n) k c lines alike number no_tallies is fits on =
       let lt : n < length s.shells = omega (arith, fits.1.1.there, fits.1.1.next, number, shells_told s before) in
       let at = get_some s.shells n lt in
-      let t : Tally = tally_of_shell s at.0 in
-      let same = same_stand s before new alike in
+      let t : TallyCounts = tally_of_shell s at.0 in
+      let same = same_progress s before new alike in
       let kept = ended_kept s t new in
       subst (λ o. IsLegalAfter Two s new (tally_lines_of s o ++ spelling (shell k c) ∷ lines)) (sym at.1) (
         tally t,
@@ -251,8 +251,8 @@ module _ (s : SolidData) (read : TalliesRead s) where
             kept.0 ∙ (same.ended ∙ fits.0),
             (
               none_behind_tally s before new n t alike number no_tallies fits.1.0,
-              shell_fits s (stand_from_latest One s before)
-                  (stand_from_latest Two s (tally t ∷ new)) k c (kept.1 ∙ same.shell) fits.1.1,
+              shell_fits s (progress_from_latest One s before)
+                  (progress_from_latest Two s (tally t ∷ new)) k c (kept.1 ∙ same.shell) fits.1.1,
             ),
           ),
           on (shell k c ∷ tally t ∷ new) (record { ended = alike.ended; shells = ap suc alike.shells; asks = refl; since = refl }) refl,
@@ -261,16 +261,16 @@ module _ (s : SolidData) (read : TalliesRead s) where
 
   -- END comes
   end_step : (before new : List CertLine) (n : ℕ) → Alike before new → number_of is_shell before ≡ n → number_of is_tally (since_shell new) ≡ 0
-      → FitsLine s (stand_from_latest One s before) end
+      → FitsLine s (progress_from_latest One s before) end
       → IsReadable s end → IsLegalAfter Two s new (tally_before s n ++ spelling end ∷ [])
   end_step before new zero alike number no_tallies fits is =
-      let same = same_stand s before new alike in
+      let same = same_progress s before new alike in
       (end, is, (same.ended ∙ fits.0, (none_at_first s new (alike.shells ∙ number), same.shell ∙ fits.1.1)), end_there s new)
   end_step before new (suc n) alike number no_tallies fits is =
       let lt : n < length s.shells = omega (arith, fits.1.1, number, shells_told s before) in
       let at = get_some s.shells n lt in
-      let t : Tally = tally_of_shell s at.0 in
-      let same = same_stand s before new alike in
+      let t : TallyCounts = tally_of_shell s at.0 in
+      let same = same_progress s before new alike in
       let kept = ended_kept s t new in
       subst (λ o. IsLegalAfter Two s new (tally_lines_of s o ++ spelling end ∷ [])) (sym at.1) (
         tally t,
@@ -288,21 +288,21 @@ module _ (s : SolidData) (read : TalliesRead s) where
       → number_of is_tally (since_shell new) ≡ 0 → IsLegalAfter One s before lines → IsLegalAfter Two s new (with_tallies s n lines)
   upgrade_behind before new n [] alike number no_tallies legal = ended_too alike legal
     where
-      ended_too : Alike before new → (stand_from_latest One s before).ended ≡ true → (stand_from_latest Two s new).ended ≡ true
-      ended_too a h = (same_stand s before new a).ended ∙ h
+      ended_too : Alike before new → (progress_from_latest One s before).ended ≡ true → (progress_from_latest Two s new).ended ≡ true
+      ended_too a h = (same_progress s before new a).ended ∙ h
   upgrade_behind before new n (bytes ∷ lines) alike number no_tallies (l, is_l, fits, more) =
       subst (λ b. IsLegalAfter Two s new (with_tallies s n (b ∷ lines))) (sym is_l.1.1)
       (by_line l (subst (λ b. IsLine (line_limit s) b l) is_l.1.1 is_l) fits more (λ new' m a b c d. upgrade_behind (l ∷ before) new' m lines a b c d))
     where
-      same : SameStand (stand_from_latest One s before) (stand_from_latest Two s new)
-      same = same_stand s before new alike
+      same : SameProgress (progress_from_latest One s before) (progress_from_latest Two s new)
+      same = same_progress s before new alike
 
       Later : CertLine → Type 0
       Later l = (new' : List CertLine) (m : ℕ) → Alike (l ∷ before) new' → number_of is_shell (l ∷ before) ≡ m → number_of is_tally (since_shell new') ≡ 0
           → IsLegalAfter One s (l ∷ before) lines → IsLegalAfter Two s new' (with_tallies s m lines)
 
       Follows : CertLine → Type 0
-      Follows l = IsReadable s l → FitsLine s (stand_from_latest One s before) l → IsLegalAfter One s (l ∷ before) lines → Later l
+      Follows l = IsReadable s l → FitsLine s (progress_from_latest One s before) l → IsLegalAfter One s (l ∷ before) lines → Later l
           → IsLegalAfter Two s new (with_tallies s n (spelling l ∷ lines))
 
       at_shell : (k : ℕ) (c : ShellCounts) → Follows (shell k c)
@@ -310,7 +310,7 @@ module _ (s : SolidData) (read : TalliesRead s) where
           shell_step before new n k c (with_tallies s (n + 1) lines) alike number no_tallies is fits
           (λ new' a t. let m : number_of is_shell (shell k c ∷ before) ≡ n + 1 = omega (arith, number) in later new' (n + 1) a m t more)
 
-      at_tally : (t : Tally) → Follows (tally t)
+      at_tally : (t : TallyCounts) → Follows (tally t)
       at_tally t is fits more later = absurd (omega (arith, fits.1.0.3, no_tally s before))
 
       at_end : Follows end
@@ -335,7 +335,7 @@ module _ (s : SolidData) (read : TalliesRead s) where
           subst (IsLegalAfter Two s new) (sym (kept_there s n l lines e f)) (
             l,
             is,
-            (same.ended ∙ fits.0, fits_too s (stand_from_latest One s before) (stand_from_latest Two s new) l e f g same fits.1),
+            (same.ended ∙ fits.0, fits_too s (progress_from_latest One s before) (progress_from_latest Two s new) l e f g same fits.1),
             later (l ∷ new) n next
                 counted untold more,
           )

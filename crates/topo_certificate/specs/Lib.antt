@@ -8,7 +8,7 @@ pub mod Room
 pub use Rattle.cert_lines.specs.Line
 pub use Rattle.cert_lines.specs.Opening
 pub use Rattle.cert_text.specs.Text
-pub use Rattle.cert_lines.specs.Said
+pub use Rattle.cert_lines.specs.Parsed
 pub use Rattle.cert_lines.specs.Written
 pub mod Feeding
 pub mod PartEnds

@@ -5,7 +5,7 @@ use Rattle.iges_base.specs.InLine.{is_in_line}
 use Rattle.cert_lines.specs.declared.version.Version.{Version}
 use Rattle.cert_text.specs.declared.fault.Illegal.{Illegal}
 use Rattle.cert_lines.specs.Line.{head, solid, cut_lines, IsLine, first_limit}
-use Rattle.cert_lines.specs.Opening.{Opens, IsBadOpening, IsHead, IsSolid, IsWrong}
+use Rattle.cert_lines.specs.Opening.{Opens, IsBadOpening, IsHeadLine, IsSolid, IsWrong}
 use Rattle.topo_certificate.specs.declared.opening.Stage.{Stage}
 use Rattle.topo_certificate.specs.declared.opening.Stage.TheVariants as stage
 use Rattle.topo_certificate.specs.declared.opening.OpeningStep.{OpeningStep}
@@ -54,7 +54,7 @@ IsStep new text piece (step.Solid v number used) = (new.stage ≡ stage.Done v n
 -- how far it has come after a line
 abbrev pub StageAfter : Stage → List ℕ → Stage → Type 0
 StageAfter stage.First line (stage.Second v) = IsLine first_limit line (head v)
-StageAfter stage.First line (stage.Failed bad) = IsWrong IsHead 1 line bad
+StageAfter stage.First line (stage.Failed bad) = IsWrong IsHeadLine 1 line bad
 StageAfter (stage.Second v) line (stage.Done w number) = (w ≡ v) × IsLine first_limit line (solid number.0)
 StageAfter (stage.Second v) line (stage.Failed bad) = IsWrong IsSolid 2 line bad
 StageAfter _ line new = ⊥

@@ -5,9 +5,9 @@ use Rattle.solid_data.specs.SolidData.{SolidData}
 use Rattle.solid_data.specs.declared.solid.Shell.{Shell}
 use Rattle.edge_uses.specs.ShellRows.{shell_rows}
 use Rattle.cert_lines.specs.Line.{head, tally, words, spelling, cut_lines}
-use Rattle.cert_lines.specs.declared.counts.Tally.{Tally}
+use Rattle.cert_lines.specs.declared.counts.TallyCounts.{TallyCounts}
 use Rattle.cert_lines.specs.declared.version.Version.TheVariants.{One, Two}
-use Rattle.cert_state.specs.Stand.{loops_of}
+use Rattle.cert_state.specs.Progress.{loops_of}
 
 -- the bytes begin with the word
 abbrev pub starts_with : List ℕ → List ℕ → Bool
@@ -16,7 +16,7 @@ starts_with (w ∷ word) [] = false
 starts_with (w ∷ word) (b ∷ bytes) = (w == b) && starts_with word bytes
 
 -- the counts in the TALLY line of a shell
-abbrev pub tally_of_shell : SolidData → Shell → Tally
+abbrev pub tally_of_shell : SolidData → Shell → TallyCounts
 tally_of_shell s h = record {
   vertices = length (shell_rows s h).vertices;
   edges = length (shell_rows s h).edges;

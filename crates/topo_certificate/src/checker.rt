@@ -1,18 +1,19 @@
 //! The checker of a certificate's lines, which are given whole or in pieces.
 
-ghost use Rattle.std.specs.Prelude.{◌≡◌, ◌+◌, ◌≤◌, ◌<◌, ◌^◌, [], ◌∷◌, ◌++◌, List, ℕ, None, Some, Err, true, false, take, length, IfOk, IfSome, IsTrue, MatchResult, vec_len};
+ghost use Rattle.std.specs.Prelude.{◌≡◌, ◌+◌, ◌≤◌, ◌<◌, ◌^◌, [], ◌∷◌, ◌++◌, List, ℕ, None, Some, Err, true, false, take, length, IfNone, IfOk, IfSome, IsTrue, MatchResult, vec_len};
 ghost use Rattle.cert_lines.specs.Line.{CertLine, IsLine, cut_lines, line_limit};
 ghost use Rattle.iges_base.specs.Ended.{ended};
 ghost use Rattle.iges_base.specs.InLine.{is_in_line};
 ghost use Rattle.solid_data.specs.SolidData.{SolidData};
-ghost use Rattle.topo_certificate.specs.Feeding.{StandsAfter, IsFed, IsFedPart};
+ghost use Rattle.topo_certificate.specs.Feeding.{StandsAfter, IsFed, IsFedPart, IsFedUpTo};
 ghost use Rattle.topo_certificate.specs.PartEnds.{IsEndedBy, IsPartStep};
 ghost use Rattle.cert_lines.specs.declared.version.Version.{Version};
 ghost use Rattle.cert_lines.specs.declared.version.Version.TheVariants.{Two};
 ghost use Rattle.cert_text.specs.declared.fault.Illegal.TheVariants.{Missing};
-ghost use Rattle.cert_state.specs.Stand.{stand_after, FitsLine};
+ghost use Rattle.cert_state.specs.Progress.{progress_after, FitsLine};
 ghost use Rattle.topo_certificate.specs.Legal.{IsLegal, IsFirstBad, IsPartBad, IsBadLine};
 ghost use Rattle.topo_certificate.specs.Matching.{IsOfSame};
+ghost use Rattle.topo_certificate.specs.Part.{TakesNextLine};
 
 use crate::line_checker::{LineChecker, PartLine};
 use cert_lines::{Illegal, Version, first_ended};
@@ -48,9 +49,9 @@ pub struct Checker<'a> {
 impl<'a> Model for Checker<'a> {
     ghost use Rattle.cert_lines.specs.Line.{line_limit};
     ghost use Rattle.std.specs.Prelude.{◌≡◌, ◌+◌, ◌≤◌, vec_len, vec_capacity};
-    ghost use Rattle.topo_certificate.specs.Feeding.{FedKept};
+    ghost use Rattle.topo_certificate.specs.Feeding.{FedState};
 
-    ghost Value = { FedKept };
+    ghost Value = { FedState };
 
     ghost view = { λ c. record { checker = c.checker; kept = c.kept.items; failed = c.failed } };
 
@@ -131,8 +132,8 @@ impl<'a> Checker<'a> {
     /// first that is misspelt or unfit. It is for lines that begin where `feed` has left none unfinished.
     pub fn line(&mut self, line: &[u8]) -> Result<(), Illegal>
         ensures line { (v : Version) (s : SolidData) (first : ℕ) (read : List CertLine) → StandsAfter v s first read [] self.old → MatchResult result
-            (λ _. (l : CertLine) × IsLine (line_limit s) line.now l × FitsLine s (stand_after v s read) l × StandsAfter v s first (read ++ l ∷ []) [] self.new)
-            (λ bad. IsBadLine s (FitsLine s (stand_after v s read)) (first + length read) line.now bad × (self.new.failed ≡ Some bad)) }
+            (λ _. (l : CertLine) × IsLine (line_limit s) line.now l × FitsLine s (progress_after v s read) l × StandsAfter v s first (read ++ l ∷ []) [] self.new)
+            (λ bad. IsBadLine s (FitsLine s (progress_after v s read)) (first + length read) line.now bad × (self.new.failed ≡ Some bad)) }
         ensures answer { MatchResult result (λ _. self.new.failed ≡ None)
             (λ bad. self.new.failed ≡ Some bad) }
         ensures stays { IfSome self.old.failed (λ bad. (result ≡ Err bad) × (self.new ≡ self.old)) }
@@ -174,6 +175,37 @@ impl<'a> Checker<'a> {
         }
     }
 
+    // Takes the edge, corner or reach line at the start of a text where it fits and no unfinished line came before it,
+    // and gives what follows it. Else nothing changes.
+    fn take_line<'t>(&mut self, text: &'t [u8]) -> Option<&'t [u8]>
+        ensures line { IfSome result (λ after. TakesNextLine self.old.checker self.new.checker text.now after.now) }
+        ensures kept { IfSome result (λ _. (self.old.kept ≡ []) × (self.new.kept ≡ [])) }
+        ensures failed { self.new.failed ≡ self.old.failed }
+        ensures refused { IfNone result (self.new ≡ self.old) }
+        ensures same { IsOfSame self.old.checker self.new.checker }
+    {
+        if !self.kept.is_empty() {
+            return None;
+        }
+        self.checker.take_next(text)
+    }
+
+    // Takes the lines at the start of a text one after the other as long as `take_line` does, and gives what is left.
+    fn take_lines<'t>(&mut self, text: &'t [u8]) -> &'t [u8]
+        requires { self.old.failed ≡ None }
+        ensures fed { IsFedUpTo IsFed self.old text.now self.new result.now }
+        ensures fed_part { IsFedUpTo IsFedPart self.old text.now self.new result.now }
+        ensures within { length result.now ≤ length text.now }
+        ensures still { self.new.failed ≡ None }
+        ensures same { IsOfSame self.old.checker self.new.checker }
+    {
+        let mut rest = text;
+        'taken: while let Some(after) = self.take_line(rest) {
+            rest = after;
+        }
+        rest
+    }
+
     /// Takes the next bytes, and judges each line at its LF. A fault is that of the first line that is misspelt or
     /// unfit.
     pub fn feed(&mut self, piece: &[u8]) -> Result<(), Illegal>
@@ -187,10 +219,10 @@ impl<'a> Checker<'a> {
         if let Some(bad) = self.failed {
             return Err(bad);
         }
-        let mut rest = piece;
+        let mut rest = self.take_lines(piece);
         'lines: while let Some((line, after)) = first_ended(rest) {
             self.end_line(line)?;
-            rest = after;
+            rest = self.take_lines(after);
         }
         self.keep(rest);
         Ok(())
@@ -244,11 +276,11 @@ impl<'a> Checker<'a> {
         if let Some(bad) = self.failed {
             return Err(bad);
         }
-        let mut left = piece;
+        let mut left = self.take_lines(piece);
         'lines: while let Some((line, after)) = first_ended(left) {
             let told = self.end_part_line(line)?;
             match told {
-                PartLine::More => left = after,
+                PartLine::More => left = self.take_lines(after),
                 PartLine::Next { no, line } => {
                     let used = piece.len() - after.len();
                     return Ok(PartStep::Next { no, line, used });
@@ -269,8 +301,8 @@ impl<'a> Checker<'a> {
             → IsFedPart v s first text self.old → MatchResult result
             (λ _. IsLegal v s (cut_lines text)) (λ bad. IsPartBad v s first (cut_lines text) bad) }
         ensures ended { (v : Version) (s : SolidData) (first : ℕ) (read : List CertLine) → StandsAfter v s first read [] self.old → MatchResult result
-            (λ _. (stand_after v s read).ended ≡ true)
-            (λ bad. ((stand_after v s read).ended ≡ false) × (bad ≡ Missing (first + length read))) }
+            (λ _. (progress_after v s read).ended ≡ true)
+            (λ bad. ((progress_after v s read).ended ≡ false) × (bad ≡ Missing (first + length read))) }
         ensures stays_ok { MatchResult result (λ _. self.new ≡ self.old)
             (λ bad. self.new.failed ≡ Some bad) }
         ensures stays { IfSome self.old.failed (λ bad. (result ≡ Err bad) × (self.new ≡ self.old)) }

@@ -1,6 +1,6 @@
 //! A checker of lines that are given whole.
 
-use cert_lines::{Illegal, Judged, ShellCounts, Version, Words, judge};
+use cert_lines::{Illegal, Judged, ParsedLine, ShellCounts, Version, judge};
 use cert_state::{ShellState, limit_of, loop_count};
 use edge_uses::rows;
 use iges_base::{EntryNo, NoMemory};
@@ -33,9 +33,9 @@ pub(crate) struct LineChecker<'a> {
 }
 
 impl<'a> Model for LineChecker<'a> {
-    ghost use Rattle.topo_certificate.specs.Matching.{Kept};
+    ghost use Rattle.topo_certificate.specs.Matching.{CheckerState};
 
-    ghost Value = { Kept };
+    ghost Value = { CheckerState };
 
     ghost view = { λ c. record { version = c.version; solid = c.solid.now; failed = c.failed; number = c.number; ended = c.ended; shell = c.shell; current = c.current; waiting = c.waiting.items } };
 
@@ -45,29 +45,29 @@ impl<'a> Model for LineChecker<'a> {
 }
 
 ghost use Rattle.std.specs.Prelude.{◌≡◌, ℕ, ◌+◌, ◌<◌, ◌^◌, ◌-◌, length, IfOk, MatchOption};
-ghost use Rattle.std.specs.Prelude.{◌≢◌, List, [], ◌∷◌, ◌++◌};
+ghost use Rattle.std.specs.Prelude.{◌≢◌};
 ghost use Rattle.cert_lines.specs.Line.{CertLine, IsLine, solid as solid_named};
-ghost use Rattle.cert_lines.specs.Said.{Means};
-ghost use Rattle.cert_state.specs.Stand.{rows_of_shell, loops_of_shell};
-ghost use Rattle.cert_state.specs.Kept.{IsFresh};
+ghost use Rattle.cert_lines.specs.Parsed.{Means};
+ghost use Rattle.cert_state.specs.Progress.{rows_of_shell, loops_of_shell};
+ghost use Rattle.cert_state.specs.CheckState.{IsFresh};
 ghost use Rattle.topo_certificate.specs.Matching.{AreWaiting};
 
 // The directory number on a SOLID line; None for any other line.
-fn solid_in(words: Words<'_>) -> Option<u32>
+fn solid_in(words: ParsedLine<'_>) -> Option<u32>
     ensures { MatchOption result ((line : CertLine) (n : ℕ) → Means words.entry line
         → line ≢ solid_named n) (λ n. (line : CertLine) → Means words.entry line
         → line ≡ solid_named n) }
 {
     match words {
-        Words::Solid(number) => Some(number),
-        Words::Head(_)
-        | Words::Shell(..)
-        | Words::Edge(..)
-        | Words::Corner(_)
-        | Words::Point(..)
-        | Words::Reach(_)
-        | Words::Tally(_)
-        | Words::End => None,
+        ParsedLine::Solid(number) => Some(number),
+        ParsedLine::Head(_)
+        | ParsedLine::Shell(..)
+        | ParsedLine::Edge(..)
+        | ParsedLine::Corner(_)
+        | ParsedLine::Point(..)
+        | ParsedLine::Reach(_)
+        | ParsedLine::Tally(_)
+        | ParsedLine::End => None,
     }
 }
 
@@ -79,23 +79,6 @@ fn named_solid(line: &[u8], limit: usize) -> Option<u32>
     match judge(line, limit) {
         Judged::Spelled(words) => solid_in(words),
         Judged::Misspelt | Judged::Long => None,
-    }
-}
-
-/// What a corner line has between its letter and its LF.
-fn corner_text(line: &[u8]) -> Option<&[u8]>
-    ensures { MatchOption result ((text : List ℕ) → line.now ≢ 67 ∷ text ++ 10 ∷ [])
-        (λ text. line.now ≡ 67 ∷ text.now ++ 10 ∷ []) }
-{
-    let Some((letter, rest)) = line.split_first() else {
-        return None;
-    };
-    if *letter != b'C' {
-        return None;
-    }
-    match rest.split_last() {
-        Some((last, text)) if *last == b'\n' => Some(text),
-        _ => None,
     }
 }
 
@@ -138,13 +121,13 @@ fn states_of(alloc: Global, version: Version, solid: &Solid) -> Result<Vec<Shell
 }
 
 impl<'a> LineChecker<'a> {
-    ghost use Rattle.std.specs.Prelude.{◌≡◌, ◌↔◌, ◌+◌, ℕ, ◌<◌, ◌≤◌, ◌^◌, List, [], ◌∷◌, length, IsTrue, IfOk, IfSome, MatchOption, MatchResult, Err, Some, true, false};
+    ghost use Rattle.std.specs.Prelude.{◌≡◌, ◌↔◌, ◌+◌, ℕ, ◌<◌, ◌≤◌, ◌^◌, List, [], ◌∷◌, length, IsTrue, IfOk, IfNone, IfSome, MatchOption, MatchResult, Err, Some, true, false};
     ghost use Rattle.std.specs.Bool.{MatchBool};
     ghost use Rattle.cert_lines.specs.Line.{CertLine, HasSpelling, IsLine, line_limit, solid, shell, end};
-    ghost use Rattle.cert_lines.specs.Said.{Means, IsRowLine};
-    ghost use Rattle.cert_state.specs.Stand.{stand_from_latest, FitsLine};
+    ghost use Rattle.cert_lines.specs.Parsed.{Means, IsRowLine};
+    ghost use Rattle.cert_state.specs.Progress.{progress_from_latest, FitsLine};
     ghost use Rattle.topo_certificate.specs.Legal.{IsBadLine, BeginsNext, FitsPart};
-    ghost use Rattle.topo_certificate.specs.Part.{IsPartLine};
+    ghost use Rattle.topo_certificate.specs.Part.{IsPartLine, TakesNextLine};
     ghost use Rattle.topo_certificate.specs.Matching.{IsAt, IsOfSame};
     ghost use Rattle.topo_certificate.specs.Room.{dues_of, TakesLine};
     ghost use Rattle.cert_text.specs.declared.fault.Illegal.TheVariants.{Missing as IsMissing};
@@ -234,7 +217,7 @@ impl<'a> LineChecker<'a> {
     }
 
     /// Takes an edge, corner, point, reach or TALLY line, exactly where it fits.
-    fn take_row_line(&mut self, words: Words<'_>) -> bool
+    fn take_row_line(&mut self, words: ParsedLine<'_>) -> bool
         requires { self.old.ended ≡ false }
         ensures line { (line : CertLine) → Means words.entry line → HasSpelling line
             → IsRowLine line → TakesLine self.old self.new line result }
@@ -252,7 +235,7 @@ impl<'a> LineChecker<'a> {
     }
 
     /// Takes a line, exactly where it fits.
-    fn take(&mut self, words: Words<'_>) -> bool
+    fn take(&mut self, words: ParsedLine<'_>) -> bool
         ensures line { (line : CertLine) → Means words.entry line → HasSpelling line
             → TakesLine self.old self.new line result }
         ensures same { IsOfSame self.old self.new }
@@ -262,14 +245,14 @@ impl<'a> LineChecker<'a> {
             return false;
         }
         match words {
-            Words::Head(_) | Words::Solid(_) => false,
-            Words::Shell(number, counts) => self.take_shell(number, &counts),
-            Words::End => self.take_end(),
-            Words::Edge(..)
-            | Words::Corner(_)
-            | Words::Point(..)
-            | Words::Reach(_)
-            | Words::Tally(_) => self.take_row_line(words),
+            ParsedLine::Head(_) | ParsedLine::Solid(_) => false,
+            ParsedLine::Shell(number, counts) => self.take_shell(number, &counts),
+            ParsedLine::End => self.take_end(),
+            ParsedLine::Edge(..)
+            | ParsedLine::Corner(_)
+            | ParsedLine::Point(..)
+            | ParsedLine::Reach(_)
+            | ParsedLine::Tally(_) => self.take_row_line(words),
         }
     }
 
@@ -280,34 +263,32 @@ impl<'a> LineChecker<'a> {
         self.number
     }
 
-    /// Takes a corner line where one fits, in one pass over its bytes; any other line is left.
-    fn take_corner_line(&mut self, line: &[u8]) -> bool
-        ensures line { (first : ℕ) (lines : List CertLine) → IsAt first self.old lines → IsTrue result →
-            (l : CertLine) × IsLine (line_limit self.old.solid) line.now l × FitsLine self.old.solid (stand_from_latest self.old.version self.old.solid lines) l × IsAt first self.new (l ∷ lines) }
+    /// Takes the edge, corner or reach line at the start of a text where it fits, in one pass over its bytes, and gives
+    /// what follows it. Else nothing changes, though a line may fit.
+    pub(crate) fn take_next<'t>(&mut self, text: &'t [u8]) -> Option<&'t [u8]>
+        ensures line { IfSome result (λ after. TakesNextLine self.old self.new text.now after.now) }
         ensures same { IsOfSame self.old self.new }
-        ensures refused { result ≡ false → self.new ≡ self.old }
+        ensures refused { IfNone result (self.new ≡ self.old) }
     {
-        if self.ended || line.len() > self.limit {
-            return false;
+        if self.ended {
+            return None;
         }
-        let Some(text) = corner_text(line) else {
-            return false;
-        };
+        let limit = self.limit;
         let Some(current) = &mut self.current else {
-            return false;
+            return None;
         };
-        if !current.take_corner(text) {
-            return false;
-        }
+        let Some(after) = current.take_next(text, limit) else {
+            return None;
+        };
         self.number += 1;
-        true
+        Some(after)
     }
 
     /// Judges a line as `line` does, where no fault was found.
     fn judge_line(&mut self, line: &[u8]) -> Result<(), Illegal>
         ensures line { (first : ℕ) (lines : List CertLine) → IsAt first self.old lines → MatchResult result
-            (λ _. (l : CertLine) × IsLine (line_limit self.old.solid) line.now l × FitsLine self.old.solid (stand_from_latest self.old.version self.old.solid lines) l × IsAt first self.new (l ∷ lines))
-            (λ bad. IsBadLine self.old.solid (FitsLine self.old.solid (stand_from_latest self.old.version self.old.solid lines)) (first + length lines) line.now bad × (self.new.failed ≡ Some bad)) }
+            (λ _. (l : CertLine) × IsLine (line_limit self.old.solid) line.now l × FitsLine self.old.solid (progress_from_latest self.old.version self.old.solid lines) l × IsAt first self.new (l ∷ lines))
+            (λ bad. IsBadLine self.old.solid (FitsLine self.old.solid (progress_from_latest self.old.version self.old.solid lines)) (first + length lines) line.now bad × (self.new.failed ≡ Some bad)) }
         ensures same { IsOfSame self.old self.new }
     {
         match judge(line, self.limit) {
@@ -327,17 +308,13 @@ impl<'a> LineChecker<'a> {
     /// that is misspelt or unfit.
     pub(crate) fn line(&mut self, line: &[u8]) -> Result<(), Illegal>
         ensures line { (first : ℕ) (lines : List CertLine) → IsAt first self.old lines → MatchResult result
-            (λ _. (l : CertLine) × IsLine (line_limit self.old.solid) line.now l × FitsLine self.old.solid (stand_from_latest self.old.version self.old.solid lines) l × IsAt first self.new (l ∷ lines))
-            (λ bad. IsBadLine self.old.solid (FitsLine self.old.solid (stand_from_latest self.old.version self.old.solid lines)) (first + length lines) line.now bad × (self.new.failed ≡ Some bad)) }
+            (λ _. (l : CertLine) × IsLine (line_limit self.old.solid) line.now l × FitsLine self.old.solid (progress_from_latest self.old.version self.old.solid lines) l × IsAt first self.new (l ∷ lines))
+            (λ bad. IsBadLine self.old.solid (FitsLine self.old.solid (progress_from_latest self.old.version self.old.solid lines)) (first + length lines) line.now bad × (self.new.failed ≡ Some bad)) }
         ensures stays { IfSome self.old.failed (λ bad. (result ≡ Err bad) × (self.new ≡ self.old)) }
         ensures same { IsOfSame self.old self.new }
     {
         if let Some(illegal) = self.failed {
             return Err(illegal);
-        }
-        // The numbers of a corner line are read once where it fits.
-        if self.take_corner_line(line) {
-            return Ok(());
         }
         self.judge_line(line)
     }
@@ -345,7 +322,7 @@ impl<'a> LineChecker<'a> {
     /// Whether END may come now.
     fn may_end(&self) -> bool
         ensures { (first : ℕ) (lines : List CertLine) → IsAt first self.now lines → IsTrue result
-            ↔ FitsLine self.now.solid (stand_from_latest self.now.version self.now.solid lines) end }
+            ↔ FitsLine self.now.solid (progress_from_latest self.now.version self.now.solid lines) end }
     {
         !self.ended && self.is_done() && self.waiting.is_empty()
     }
@@ -353,8 +330,8 @@ impl<'a> LineChecker<'a> {
     /// The solid that a line names which begins the next part of a book.
     fn next_part(&self, line: &[u8]) -> Option<EntryNo>
         ensures { (first : ℕ) (lines : List CertLine) → IsAt first self.now lines → MatchOption result
-            ((n : ℕ) → IsLine (line_limit self.now.solid) line.now (solid n) → ¬ BeginsNext self.now.solid (stand_from_latest self.now.version self.now.solid lines) n)
-            (λ no. IsLine (line_limit self.now.solid) line.now (solid no.0) × BeginsNext self.now.solid (stand_from_latest self.now.version self.now.solid lines) no.0) }
+            ((n : ℕ) → IsLine (line_limit self.now.solid) line.now (solid n) → ¬ BeginsNext self.now.solid (progress_from_latest self.now.version self.now.solid lines) n)
+            (λ no. IsLine (line_limit self.now.solid) line.now (solid no.0) × BeginsNext self.now.solid (progress_from_latest self.now.version self.now.solid lines) no.0) }
     {
         // Nearly every line stops here, and so is judged once.
         if !self.may_end() {
@@ -375,7 +352,7 @@ impl<'a> LineChecker<'a> {
     pub(crate) fn line_of_part(&mut self, line: &[u8]) -> Result<PartLine, Illegal>
         ensures line { (first : ℕ) (lines : List CertLine) → IsAt first self.old lines → MatchResult result
             (IsPartLine self.old self.new first lines line.now)
-            (λ bad. IsBadLine self.old.solid (FitsPart self.old.solid (stand_from_latest self.old.version self.old.solid lines)) (first + length lines) line.now bad × (self.new.failed ≡ Some bad)) }
+            (λ bad. IsBadLine self.old.solid (FitsPart self.old.solid (progress_from_latest self.old.version self.old.solid lines)) (first + length lines) line.now bad × (self.new.failed ≡ Some bad)) }
         ensures stays { IfSome self.old.failed (λ bad. (result ≡ Err bad) × (self.new ≡ self.old)) }
         ensures same { IsOfSame self.old self.new }
     {
@@ -395,8 +372,8 @@ impl<'a> LineChecker<'a> {
     /// Whether END was the last line. Where it wasn't, the line after the last one is missing.
     pub(crate) fn finish(&mut self) -> Result<(), Illegal>
         ensures ended { (first : ℕ) (lines : List CertLine) → IsAt first self.old lines → MatchResult result
-            (λ _. (stand_from_latest self.old.version self.old.solid lines).ended ≡ true)
-            (λ bad. ((stand_from_latest self.old.version self.old.solid lines).ended ≡ false) × (bad ≡ IsMissing (first + length lines))) }
+            (λ _. (progress_from_latest self.old.version self.old.solid lines).ended ≡ true)
+            (λ bad. ((progress_from_latest self.old.version self.old.solid lines).ended ≡ false) × (bad ≡ IsMissing (first + length lines))) }
         ensures stays_ok { IfOk result (λ _. self.new ≡ self.old) }
         ensures stays { IfSome self.old.failed (λ bad. (result ≡ Err bad) × (self.new ≡ self.old)) }
         ensures same { IsOfSame self.old self.new }

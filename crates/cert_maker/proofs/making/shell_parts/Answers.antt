@@ -1,5 +1,5 @@
 use Rattle.std.proofs.Common.{◌<◌, arith, length, Some}
-use Rattle.cert_state.specs.Stand.{loops_of}
+use Rattle.cert_state.specs.Progress.{loops_of}
 use Rattle.std.proofs.lemmas.Result.{err_from_is_err_and}
 use Rattle.solid_data.specs.declared.solid.Shell.{Shell}
 use Rattle.edge_uses.specs.ShellRows.{shell_rows}

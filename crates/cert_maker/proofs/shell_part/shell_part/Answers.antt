@@ -7,7 +7,7 @@ use Rattle.edge_uses.specs.ShellRows.{ShellRows, shell_rows}
 use Rattle.shell_rules.specs.ShellObligations.{pair_obligations, apart_obligations}
 use Rattle.shell_rules.specs.Faults.{IsCheckFault}
 use Rattle.std.specs.Prelude.{Some}
-use Rattle.cert_state.specs.Stand.{loops_of}
+use Rattle.cert_state.specs.Progress.{loops_of}
 use Rattle.cert_maker.specs.Certified.{IsPart}
 use Rattle.shell_rules.specs.declared.fault.CheckFault.TheVariants.{Fails}
 use Rattle.shell_rules.proofs.OneShell.{joined_not, paired_not, reached_not, linked_not, apart_not, all_hold, same_rows}

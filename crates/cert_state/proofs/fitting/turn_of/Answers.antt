@@ -1,5 +1,5 @@
 use Rattle.std.proofs.Common.{rules, ◌≡◌, subst, sym}
-use Rattle.cert_state.specs.Stand.{TurnsTo}
+use Rattle.cert_state.specs.Progress.{TurnsTo}
 use Rattle.std.specs.Prelude.{◌↔◌, Some}
 use Rattle.cert_state.proofs.Holding.{turn_none, turn_end, turn_iff}
 use Rattle.cert_state.proofs.fitting.turn_of.Goals as goal

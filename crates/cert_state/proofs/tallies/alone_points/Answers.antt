@@ -1,6 +1,6 @@
 use Rattle.std.proofs.Common.{ap, ◌∙◌, ◌++◌, ◌∷◌, [], ℕ}
 use Rattle.solid_data.specs.declared.solid.LoopAt.{LoopAt}
-use Rattle.cert_state.specs.Kept.{is_alone}
+use Rattle.cert_state.specs.CheckState.{is_alone}
 use Rattle.cert_state.proofs.VertexTallies.{point_within, mapped_more}
 use Rattle.cert_state.proofs.tallies.alone_points.Goals as goal
 

@@ -1,6 +1,6 @@
 use Rattle.std.proofs.Common.{ℕ, ◌≡◌, ◌++◌, map, drop}
 use Rattle.solid_data.specs.declared.solid.LoopAt.{LoopAt}
-use Rattle.cert_state.specs.Kept.{is_alone}
+use Rattle.cert_state.specs.CheckState.{is_alone}
 use Rattle.cert_state.proofs.tallies.alone_points.Given as goal
 
 abbrev pub invariant-points : goal.invariant-points

@@ -1,6 +1,6 @@
 use Rattle.std.proofs.Common.{ap, ◌∙◌, ◌++◌, ◌∷◌, []}
 use Rattle.edge_uses.specs.declared.row.Row.{Row}
-use Rattle.cert_state.specs.Kept.{corner_size}
+use Rattle.cert_state.specs.CheckState.{corner_size}
 use Rattle.cert_state.proofs.VertexTallies.{row_within, mapped_more}
 use Rattle.cert_state.proofs.tallies.corner_sizes.Goals as goal
 

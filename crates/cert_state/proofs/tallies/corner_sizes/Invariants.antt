@@ -1,6 +1,6 @@
 use Rattle.std.proofs.Common.{◌≡◌, ◌++◌, map, drop}
 use Rattle.edge_uses.specs.declared.row.Row.{Row}
-use Rattle.cert_state.specs.Kept.{corner_size}
+use Rattle.cert_state.specs.CheckState.{corner_size}
 use Rattle.cert_state.proofs.tallies.corner_sizes.Given as goal
 
 abbrev pub invariant-rows : goal.invariant-rows

@@ -1,6 +1,6 @@
 use Rattle.std.proofs.Common.{ℕ, ◌+◌, ◌≤◌, List, length}
 use Rattle.cert_text.specs.Text.{AreNumbers}
-use Rattle.open_certificate.specs.Kept.{HoldsRows}
+use Rattle.open_certificate.specs.CheckState.{HoldsRows}
 use Rattle.open_certificate.proofs.BorderWalks.{Walked}
 use Rattle.open_certificate.proofs.fitting.border_len.Given as goal
 

@@ -1,7 +1,7 @@
 use Rattle.std.proofs.Common.{sym, ap, subst, ◌∙◌, ◌≡◌, true, false, length}
-use Rattle.cert_state.specs.Stand.{IsAbove}
+use Rattle.cert_state.specs.Progress.{IsAbove}
 use Rattle.open_certificate.specs.Line.{border}
-use Rattle.open_certificate.specs.Stand.{border_in}
+use Rattle.open_certificate.specs.Progress.{border_in}
 use Rattle.open_certificate.specs.Walks.{FitsBorderLine}
 use Rattle.open_certificate.proofs.BorderWalks.{border_of, border_ring, border_fits}
 use Rattle.cert_state.proofs.Rings.{none_left}

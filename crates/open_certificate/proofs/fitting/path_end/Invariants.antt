@@ -1,6 +1,6 @@
 use Rattle.std.proofs.Common.{ℕ, ◌+◌, ◌≤◌, List, length}
 use Rattle.cert_text.specs.Text.{AreNumbers}
-use Rattle.cert_state.specs.Kept.{HoldsMates}
+use Rattle.cert_state.specs.CheckState.{HoldsMates}
 use Rattle.open_certificate.proofs.PathWalks.{Walked}
 use Rattle.open_certificate.proofs.fitting.path_end.Given as goal
 

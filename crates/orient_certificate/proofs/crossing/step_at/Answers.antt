@@ -6,8 +6,8 @@ use Rattle.orient_certificate.proofs.crossing.step_at.Goals as goal
 pub unwrap-other-requires : goal.unwrap-other-requires
 unwrap-other-requires c =
     let at : slice_get c.args.rows.now.rows c.args.r ≡ Some c.unwrap-row.result = search rules in
-    let t = partner_told c.args.rows.now c.args.tally.now.span c.args.tally.now.seen c.args.r c.other_of-partner.result c.unwrap-row.result c.requires.whole
-    c.requires.span c.requires.tally c.requires.two at c.other_of-partner.ensures in
+    let t = partner_told c.args.rows.now c.args.by_edge.now.span c.args.by_edge.now.seen c.args.r c.other_of-partner.result c.unwrap-row.result c.requires.whole
+    c.requires.span c.requires.by_edge c.requires.two at c.other_of-partner.ensures in
     let there : c.row-2.result ≡ Some t.0 = c.row-2.ensures ∙ t.1 in
     subst (λ o. IsSome o) (sym there) refl
 
@@ -25,6 +25,6 @@ pub returns : goal.returns
 returns c =
     let at : slice_get c.args.rows.now.rows c.args.r ≡ Some c.unwrap-row.result = search rules in
     let at_m : slice_get c.args.rows.now.rows c.other_of-partner.result ≡ Some c.unwrap-other.result = search rules in
-    step_made c.args.rows.now c.args.tally.now.span c.args.tally.now.seen c.args.forwards.now c.args.r c.other_of-partner.result c.unwrap-row.result
+    step_made c.args.rows.now c.args.by_edge.now.span c.args.by_edge.now.seen c.args.forwards.now c.args.r c.other_of-partner.result c.unwrap-row.result
     c.unwrap-other.result c.same.result c.bare.result c.bare-2.result
-    c.requires.whole c.requires.span c.requires.tally c.requires.two at c.other_of-partner.ensures at_m c.bare.ensures c.bare-2.ensures c.same.ensures
+    c.requires.whole c.requires.span c.requires.by_edge c.requires.two at c.other_of-partner.ensures at_m c.bare.ensures c.bare-2.ensures c.same.ensures

@@ -23,5 +23,5 @@ returns-clause-graph c =
     let two : AllHaveTwoRows c.in_ok-rows.rows = none_of c.first_miscounted.result _ _ c.in_default.not-Some c.first_miscounted.ensures in
     graph_is c.args.solid.now c.args.at.0 c.unwrap-shell.result.now c.in_ok-rows.rows c.in_ok-crossings.crossings.items c.in_ok-forwards.forwards.items
     c.as_slice.result.now c.face_count.result c.first_flag.result c.recall_numbering.ensures.numbered at
-    c.in_ok-rows.ensures c.in_ok-tally.ensures.kept two c.as_slice.ensures.value c.in_ok-forwards.ensures c.in_ok-crossings.ensures.each
+    c.in_ok-rows.ensures c.in_ok-by_edge.ensures.kept two c.as_slice.ensures.value c.in_ok-forwards.ensures c.in_ok-crossings.ensures.each
     c.in_ok-crossings.ensures.steps c.face_count.ensures c.first_flag.ensures

@@ -1,6 +1,6 @@
 use Rattle.std.proofs.Common.{[], ◌++◌}
 use Rattle.std.proofs.lemmas.Result.{err_from_is_err_and}
-use Rattle.cert_state.specs.Stand.{FitsLine}
+use Rattle.cert_state.specs.Progress.{FitsLine}
 use Rattle.topo_certificate.proofs.FedLines.{end_failed}
 use Rattle.topo_certificate.proofs.text.check.Goals as goal
 

@@ -1,6 +1,6 @@
 use Rattle.std.proofs.Common.{◌≡◌, ◌∙◌, arith, subst, sym, true, false}
 use Rattle.cert_lines.specs.Line.{reach}
-use Rattle.cert_state.specs.Kept.{HoldsMates, HoldsFaces}
+use Rattle.cert_state.specs.CheckState.{HoldsMates, HoldsFaces}
 use Rattle.cert_state.specs.Matching.{Takes}
 use Rattle.cert_state.specs.contracts.shell_state.ShellState.{the_view}
 use Rattle.cert_state.proofs.Telling.{with_face, reach_not_due, reach_takes, reach_unfit}

@@ -1,7 +1,7 @@
 use Rattle.std.proofs.Common.{◌∙◌, None, Some, ap, map, string_bytes, sym}
 use Rattle.std.specs.Option.{option_map}
 use Rattle.std.specs.Str.Parse.{digits_value}
-use Rattle.iges_solid_cmd.specs.declared.slot.Operand.TheVariants.{Number}
+use Rattle.iges_solid_cmd.specs.declared.form_slot.Operand.TheVariants.{Number}
 use Rattle.iges_solid_cmd.proofs.FormWords.{fit_at, slot_holds, word_meant}
 use Rattle.iges_solid_cmd.proofs.form.Form.number.Goals as goal
 

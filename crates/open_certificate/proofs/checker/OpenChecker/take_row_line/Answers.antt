@@ -1,11 +1,11 @@
 use Rattle.std.proofs.Common.{arith, refl, sym, ap, ◌∙◌, subst, ◌≡◌, ◌+◌, true, false}
-use Rattle.open_certificate.specs.Kept.{KeptChecker, TakesLine}
+use Rattle.open_certificate.specs.CheckState.{OpenCheckerState, TakesLine}
 use Rattle.open_certificate.proofs.Checking.{with_line, line_taken, line_refused, row_goes_on}
 use Rattle.open_certificate.proofs.checker.OpenChecker.take_row_line.Goals as goal
 
 pub returns-clause-line : goal.returns-clause-line
 returns-clause-line c = λ line means spelled kind.
-    let old : KeptChecker =
+    let old : OpenCheckerState =
     record {
       solid = c.self.inside.solid.now;
       failed = c.self.inside.failed;
@@ -14,13 +14,13 @@ returns-clause-line c = λ line means spelled kind.
       shell =
           c.self.inside.shell;
     } in
-    let going : c.self.inside.ended ≡ false = ap (λ (k : KeptChecker). k.ended) c.self.view_is ∙ c.requires in
+    let going : c.self.inside.ended ≡ false = ap (λ (k : OpenCheckerState). k.ended) c.self.view_is ∙ c.requires in
     subst (λ k. TakesLine k (with_line old c.take.new.self (c.self.inside.number + 1)) line true) c.self.view_is
     (line_taken old c.take.new.self line (c.self.inside.number + 1) going (row_goes_on line kind) (c.if-not-take.ensures.line line means spelled kind) refl)
 
 pub returns-then-not-take-clause-line : goal.returns-then-not-take-clause-line
 returns-then-not-take-clause-line c = λ line means spelled kind.
-    let old : KeptChecker =
+    let old : OpenCheckerState =
     record {
       solid = c.self.inside.solid.now;
       failed = c.self.inside.failed;

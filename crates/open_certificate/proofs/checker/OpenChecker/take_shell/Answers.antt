@@ -1,12 +1,12 @@
 use Rattle.std.proofs.Common.{refl, ap, ◌∙◌, subst, ◌≡◌, ◌+◌, true, false}
 use Rattle.open_certificate.specs.Line.{shell}
-use Rattle.open_certificate.specs.Kept.{KeptChecker, TakesLine}
+use Rattle.open_certificate.specs.CheckState.{OpenCheckerState, TakesLine}
 use Rattle.open_certificate.proofs.Checking.{with_line, line_taken, line_refused}
 use Rattle.open_certificate.proofs.checker.OpenChecker.take_shell.Goals as goal
 
 pub returns-clause-line : goal.returns-clause-line
 returns-clause-line c =
-    let old : KeptChecker =
+    let old : OpenCheckerState =
     record {
       solid = c.self.inside.solid.now;
       failed = c.self.inside.failed;
@@ -15,7 +15,7 @@ returns-clause-line c =
       shell =
           c.self.inside.shell;
     } in
-    let going : c.self.inside.ended ≡ false = ap (λ (k : KeptChecker). k.ended) c.self.view_is ∙ c.requires in
+    let going : c.self.inside.ended ≡ false = ap (λ (k : OpenCheckerState). k.ended) c.self.view_is ∙ c.requires in
     let w = c.args.words.now in
     subst (λ k. TakesLine k (with_line old c.take_shell.new.self (c.self.inside.number + 1)) (shell w.shell w.rows w.edges w.corners w.faces w.borders) true)
     c.self.view_is
@@ -24,7 +24,7 @@ returns-clause-line c =
 
 pub returns-then-not-take_shell-clause-line : goal.returns-then-not-take_shell-clause-line
 returns-then-not-take_shell-clause-line c =
-    let old : KeptChecker =
+    let old : OpenCheckerState =
     record {
       solid = c.self.inside.solid.now;
       failed = c.self.inside.failed;

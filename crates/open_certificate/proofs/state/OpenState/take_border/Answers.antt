@@ -1,6 +1,6 @@
 use Rattle.std.proofs.Common.{arith, subst, refl, sym, ◌-◌, true, false}
 use Rattle.open_certificate.specs.Line.{border}
-use Rattle.open_certificate.specs.Kept.{Takes, HoldsRows}
+use Rattle.open_certificate.specs.CheckState.{Takes, HoldsRows}
 use Rattle.open_certificate.specs.contracts.state.OpenState.{the_view}
 use Rattle.open_certificate.proofs.Telling.{with_border, border_kept, border_takes, border_unfit}
 use Rattle.open_certificate.proofs.state.OpenState.take_border.Goals as goal

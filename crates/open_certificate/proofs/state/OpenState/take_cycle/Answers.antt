@@ -1,7 +1,7 @@
 use Rattle.std.proofs.Common.{arith, subst, refl, sym, ◌-◌, true, false}
 use Rattle.open_certificate.specs.Line.{cycle}
-use Rattle.cert_state.specs.Kept.{HoldsMates}
-use Rattle.open_certificate.specs.Kept.{Takes}
+use Rattle.cert_state.specs.CheckState.{HoldsMates}
+use Rattle.open_certificate.specs.CheckState.{Takes}
 use Rattle.open_certificate.specs.contracts.state.OpenState.{the_view}
 use Rattle.open_certificate.proofs.Telling.{with_vertex, vertex_kept, cycle_takes, cycle_unfit}
 use Rattle.open_certificate.proofs.state.OpenState.take_cycle.Goals as goal

@@ -1,6 +1,6 @@
 use Rattle.std.proofs.Common.{arith, subst, refl, sym, ◌∙◌, ◌≡◌, ◌-◌, ◌+◌, true, false}
 use Rattle.open_certificate.specs.Line.{edge}
-use Rattle.open_certificate.specs.Kept.{Takes}
+use Rattle.open_certificate.specs.CheckState.{Takes}
 use Rattle.open_certificate.specs.contracts.state.OpenState.{the_view}
 use Rattle.open_certificate.proofs.Telling.{with_edge, can_mate, edge_kept, edge_takes, edge_unfit, edge_short}
 use Rattle.open_certificate.proofs.state.OpenState.take_edge.Goals as goal

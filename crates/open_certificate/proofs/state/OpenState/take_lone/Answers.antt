@@ -1,6 +1,6 @@
 use Rattle.std.proofs.Common.{arith, subst, refl, sym, ◌∙◌, ◌≡◌, ◌-◌, ◌+◌, true, false}
 use Rattle.open_certificate.specs.Line.{lone}
-use Rattle.open_certificate.specs.Kept.{Takes}
+use Rattle.open_certificate.specs.CheckState.{Takes}
 use Rattle.open_certificate.specs.contracts.state.OpenState.{the_view}
 use Rattle.open_certificate.proofs.Telling.{with_lone, lone_within, lone_kept, lone_takes, lone_unfit, lone_short}
 use Rattle.open_certificate.proofs.state.OpenState.take_lone.Goals as goal

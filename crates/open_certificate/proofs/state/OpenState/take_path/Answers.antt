@@ -1,7 +1,7 @@
 use Rattle.std.proofs.Common.{arith, subst, refl, sym, ◌-◌, true, false}
 use Rattle.open_certificate.specs.Line.{path}
-use Rattle.cert_state.specs.Kept.{HoldsMates}
-use Rattle.open_certificate.specs.Kept.{Takes, HoldsRows}
+use Rattle.cert_state.specs.CheckState.{HoldsMates}
+use Rattle.open_certificate.specs.CheckState.{Takes, HoldsRows}
 use Rattle.open_certificate.specs.contracts.state.OpenState.{the_view}
 use Rattle.open_certificate.proofs.Telling.{with_vertex, vertex_kept, path_takes, path_unfit}
 use Rattle.open_certificate.proofs.state.OpenState.take_path.Goals as goal

@@ -1,6 +1,6 @@
 use Rattle.std.proofs.Common.{arith, subst, refl, ◌-◌, true, false}
 use Rattle.open_certificate.specs.Line.{point}
-use Rattle.open_certificate.specs.Kept.{Takes}
+use Rattle.open_certificate.specs.CheckState.{Takes}
 use Rattle.open_certificate.specs.contracts.state.OpenState.{the_view}
 use Rattle.open_certificate.proofs.Telling.{with_vertex, vertex_kept, point_takes, point_unfit}
 use Rattle.open_certificate.proofs.state.OpenState.take_point.Goals as goal

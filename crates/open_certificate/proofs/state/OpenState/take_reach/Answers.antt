@@ -1,7 +1,7 @@
 use Rattle.std.proofs.Common.{arith, subst, refl, sym, ◌-◌, true, false}
 use Rattle.open_certificate.specs.Line.{reach}
-use Rattle.cert_state.specs.Kept.{HoldsMates, HoldsFaces}
-use Rattle.open_certificate.specs.Kept.{Takes}
+use Rattle.cert_state.specs.CheckState.{HoldsMates, HoldsFaces}
+use Rattle.open_certificate.specs.CheckState.{Takes}
 use Rattle.open_certificate.specs.contracts.state.OpenState.{the_view}
 use Rattle.open_certificate.proofs.Telling.{with_face, face_kept, reach_takes, reach_unfit}
 use Rattle.open_certificate.proofs.state.OpenState.take_reach.Goals as goal

@@ -1,6 +1,6 @@
 use Rattle.std.proofs.Common.{subst, ◌-◌, true}
 use Rattle.open_certificate.specs.Line.{shell}
-use Rattle.open_certificate.specs.Kept.{Takes}
+use Rattle.open_certificate.specs.CheckState.{Takes}
 use Rattle.open_certificate.specs.contracts.state.OpenState.{the_view}
 use Rattle.open_certificate.proofs.Telling.{with_shell, shell_takes}
 use Rattle.open_certificate.proofs.state.OpenState.take_shell.Goals as goal

@@ -1,12 +1,12 @@
 use Rattle.std.proofs.Common.{refl, sym, ap, ◌∙◌, arith, Ok, Err, length, ◌≤◌, ◌≡◌, ◌++◌, ◌∷◌, []}
 use Rattle.std.proofs.lemmas.Bool.{eqb-true}
-use Rattle.topo_certificate.specs.Feeding.{FedKept}
+use Rattle.topo_certificate.specs.Feeding.{FedState}
 use Rattle.topo_certificate.proofs.FedLines.{whole_part_line, part_line, nil}
 use Rattle.topo_certificate.proofs.checker.Checker.end_part_line.Goals as goal
 
 pub returns-in-Ok-clause-fed : goal.returns-in-Ok-clause-fed
 returns-in-Ok-clause-fed c =
-    let none = ap (λ (k : FedKept). k.failed) c.self.view_is ∙ c.requires.open in
+    let none = ap (λ (k : FedState). k.failed) c.self.view_is ∙ c.requires.open in
     let empty : length c.self.inside.kept.items ≤ 0 = omega (arith, c.self.inside.kept.ok.0, eqb-true _ 0 (sym (c.if-is_empty.ensures {u = tt}))) in
     let judged = c.in-Ok.ensures {u = tt} in
     rw (sym c.self.view_is)
@@ -15,7 +15,7 @@ returns-in-Ok-clause-fed c =
 
 pub returns-in-Err-clause-fed : goal.returns-in-Err-clause-fed
 returns-in-Err-clause-fed c =
-    let none = ap (λ (k : FedKept). k.failed) c.self.view_is ∙ c.requires.open in
+    let none = ap (λ (k : FedState). k.failed) c.self.view_is ∙ c.requires.open in
     let empty : length c.self.inside.kept.items ≤ 0 = omega (arith, c.self.inside.kept.ok.0, eqb-true _ 0 (sym (c.if-is_empty.ensures {u = tt}))) in
     let judged = c.in-Err.ensures {u = tt} in
     rw (sym c.self.view_is)
@@ -26,7 +26,7 @@ pub returns-in-Ok-judged-clause-fed : goal.returns-in-Ok-judged-clause-fed
 returns-in-Ok-judged-clause-fed c =
     let judged = c.in-Ok-judged.ensures {u = tt} in
     let k = rw (sym c.self-2.view_is) at c.keep.ensures in
-    let mid : FedKept = record { checker = c.self-2.inside.checker; kept = c.self-2.inside.kept.items; failed = c.self-2.inside.failed } in
+    let mid : FedState = record { checker = c.self-2.inside.checker; kept = c.self-2.inside.kept.items; failed = c.self-2.inside.failed } in
     let grown : c.extend_from_slice.new.self.items ≡ c.self-2.inside.kept.items ++ 10 ∷ [] = (rw c.unwrap.ensures at c.extend_from_slice.ensures).items in
     λ v s first text front h is fed. part_line v s first c.args.self.now mid _ text front c.args.line.now c.as_slice.result.now (Ok c.in-Ok-judged.told)
     c.requires.open h is k.kept k.checker (c.as_slice.ensures.value ∙ grown)
@@ -36,7 +36,7 @@ pub returns-in-Err-judged-clause-fed : goal.returns-in-Err-judged-clause-fed
 returns-in-Err-judged-clause-fed c =
     let judged = c.in-Err-judged.ensures {u = tt} in
     let k = rw (sym c.self-2.view_is) at c.keep.ensures in
-    let mid : FedKept = record { checker = c.self-2.inside.checker; kept = c.self-2.inside.kept.items; failed = c.self-2.inside.failed } in
+    let mid : FedState = record { checker = c.self-2.inside.checker; kept = c.self-2.inside.kept.items; failed = c.self-2.inside.failed } in
     let grown : c.extend_from_slice.new.self.items ≡ c.self-2.inside.kept.items ++ 10 ∷ [] = (rw c.unwrap.ensures at c.extend_from_slice.ensures).items in
     λ v s first text front h is fed. part_line v s first c.args.self.now mid _ text front c.args.line.now c.as_slice.result.now (Err c.in-Err-judged.bad)
     c.requires.open h is k.kept k.checker (c.as_slice.ensures.value ∙ grown)

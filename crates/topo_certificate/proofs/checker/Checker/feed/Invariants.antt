@@ -1,6 +1,6 @@
 use Rattle.std.proofs.Common.{◌≡◌, length, None}
 use Rattle.topo_certificate.specs.Matching.{IsOfSame}
-use Rattle.cert_state.specs.Stand.{FitsLine}
+use Rattle.cert_state.specs.Progress.{FitsLine}
 use Rattle.topo_certificate.proofs.FedLines.{IsLeft}
 use Rattle.topo_certificate.proofs.checker.Checker.feed.Given as goal
 

@@ -1,7 +1,7 @@
 use Rattle.std.proofs.Common.{arith, ◌∙◌, subst, ◌≡◌, ◌+◌, ◌-◌, ◌≤◌, length}
 use Rattle.std.proofs.lemmas.Result.{err_from_is_err_and}
 use Rattle.topo_certificate.specs.Legal.{FitsPart}
-use Rattle.topo_certificate.proofs.FedLines.{left_next, left_bad, left_next_part, after_shorter, EndsPartLine}
+use Rattle.topo_certificate.proofs.FedLines.{left_next, left_bad, left_next_part, left_on, after_shorter, EndsPartLine}
 use Rattle.topo_certificate.proofs.checker.Checker.feed_part.Goals as goal
 
 pub returns-in_err-told-clause-step : goal.returns-in_err-told-clause-step
@@ -36,10 +36,15 @@ lines-preserved c =
     let done = c.in_ok-told.ensures in
     let more = subst (EndsPartLine c.lines.self c.in-Some-first_ended.line.now c.end_part_line.new.self) c.in-More.is done.fed in
     record {
-      left = left_next FitsPart c.args.self.now c.args.piece.now c.lines.self c.end_part_line.new.self c.lines.left.now c.in-Some-first_ended.line.now
-          c.in-Some-first_ended.after.now ends.front ends.in_line ends.line_is ends.whole more
-          c.lines.invariant.left;
-      within = omega (arith, after_shorter c.lines.left.now ends.front c.in-Some-first_ended.after.now ends.whole, c.lines.invariant.within);
-      still = done.kept.0;
-      same = (done.same.0 ∙ c.lines.invariant.same.0, done.same.1 ∙ c.lines.invariant.same.1);
+      left = left_on FitsPart c.args.self.now c.end_part_line.new.self c.take_lines-left-in-More.new.self c.args.piece.now c.in-Some-first_ended.after.now
+          c.take_lines-left-in-More.result.now
+          (left_next FitsPart c.args.self.now c.args.piece.now c.lines.self c.end_part_line.new.self c.lines.left.now c.in-Some-first_ended.line.now
+          c.in-Some-first_ended.after.now ends.front ends.in_line ends.line_is ends.whole more c.lines.invariant.left) c.take_lines-left-in-More.ensures.fed_part;
+      within = omega
+          (arith, c.take_lines-left-in-More.ensures.within, after_shorter c.lines.left.now ends.front c.in-Some-first_ended.after.now ends.whole, c.lines.invariant.within);
+      still = c.take_lines-left-in-More.ensures.still;
+      same = (
+        c.take_lines-left-in-More.ensures.same.0 ∙ (done.same.0 ∙ c.lines.invariant.same.0),
+        c.take_lines-left-in-More.ensures.same.1 ∙ (done.same.1 ∙ c.lines.invariant.same.1),
+      );
     }

@@ -1,6 +1,6 @@
 use Rattle.std.proofs.Common.{rules, sym, ap, Ok, Err, [], length, ◌≤◌, ◌<◌}
 use Rattle.cert_text.specs.declared.fault.Illegal.TheVariants.{Misspelt}
-use Rattle.cert_state.specs.Stand.{FitsLine}
+use Rattle.cert_state.specs.Progress.{FitsLine}
 use Rattle.topo_certificate.specs.Legal.{FitsPart}
 use Rattle.topo_certificate.proofs.FedLines.{end_failed, end_rest, end_stands, end_done}
 use Rattle.topo_certificate.proofs.checker.Checker.finish.Goals as goal

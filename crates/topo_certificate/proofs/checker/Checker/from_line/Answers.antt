@@ -1,5 +1,5 @@
 use Rattle.std.proofs.Common.{refl}
-use Rattle.cert_state.specs.Stand.{FitsLine}
+use Rattle.cert_state.specs.Progress.{FitsLine}
 use Rattle.topo_certificate.specs.Legal.{FitsPart}
 use Rattle.topo_certificate.proofs.FedLines.{stands_first, fed_first}
 use Rattle.topo_certificate.proofs.checker.Checker.from_line.Goals as goal

@@ -1,5 +1,5 @@
 use Rattle.std.proofs.Common.{refl, sym, Ok, []}
-use Rattle.cert_state.specs.Stand.{FitsLine}
+use Rattle.cert_state.specs.Progress.{FitsLine}
 use Rattle.topo_certificate.proofs.FedLines.{line_answer, refused}
 use Rattle.topo_certificate.proofs.checker.Checker.line.Goals as goal
 

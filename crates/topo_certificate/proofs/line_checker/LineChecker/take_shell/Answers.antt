@@ -1,13 +1,13 @@
 use Rattle.std.proofs.Common.{rules, refl, sym, ap, ◌∙◌, subst, ◌≡◌, ◌+◌, ◌++◌, ◌∷◌, [], true, false}
 use Rattle.cert_lines.specs.Line.{shell}
-use Rattle.topo_certificate.specs.Matching.{Kept}
+use Rattle.topo_certificate.specs.Matching.{CheckerState}
 use Rattle.topo_certificate.specs.Room.{dues_of, TakesLine}
 use Rattle.topo_certificate.proofs.Checking.{with_shell, shell_begins, other_counts}
 use Rattle.topo_certificate.proofs.line_checker.LineChecker.take_shell.Goals as goal
 
 pub returns-clause-line : goal.returns-clause-line
 returns-clause-line c =
-    let old : Kept =
+    let old : CheckerState =
     record {
       version = c.self.inside.version;
       solid = c.self.inside.solid.now;
@@ -18,8 +18,8 @@ returns-clause-line c =
       current = c.self.inside.current;
       waiting = c.self.inside.waiting.items;
     } in
-    let going : c.self.inside.ended ≡ false = ap (λ (k : Kept). k.ended) c.self.view_is ∙ c.requires in
-    let none : dues_of c.self.inside.current ≡ 0 = ap (λ (k : Kept). dues_of k.current) c.self.view_is ∙ c.is_done.ensures.0 c.if-not-is_done.false in
+    let going : c.self.inside.ended ≡ false = ap (λ (k : CheckerState). k.ended) c.self.view_is ∙ c.requires in
+    let none : dues_of c.self.inside.current ≡ 0 = ap (λ (k : CheckerState). dues_of k.current) c.self.view_is ∙ c.is_done.ensures.0 c.if-not-is_done.false in
     let popped : c.self.inside.waiting.items ≡ c.pop.new.self.items ++ c.in-Some.next ∷ [] = search rules in
     subst (λ k. TakesLine k (with_shell old c.pop.new.self.items c.in-Some.next c.args.number (c.self.inside.number + 1))
     (shell c.args.number c.args.counts.now) true) c.self.view_is
@@ -28,7 +28,7 @@ returns-clause-line c =
 
 pub returns-then-not-has_counts-clause-line : goal.returns-then-not-has_counts-clause-line
 returns-then-not-has_counts-clause-line c =
-    let old : Kept =
+    let old : CheckerState =
     record {
       version = c.self.inside.version;
       solid = c.self.inside.solid.now;

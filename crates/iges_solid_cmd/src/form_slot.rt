@@ -1,0 +1,123 @@
+ghost use Rattle.iges_base.specs.Word.{are_digits};
+ghost use Rattle.iges_solid_cmd.specs.Forms.{fits, holds, number};
+ghost use Rattle.iges_solid_cmd.specs.FormTable.{slot_meant};
+ghost use Rattle.std.specs.Char.{is_ascii_digit};
+ghost use Rattle.std.specs.List.{list_all};
+ghost use Rattle.std.specs.Prelude.{◌≡◌, ◌&&◌, MatchOption, Some, false, length, nat_le, true};
+ghost use Rattle.std.specs.Str.Parse.{digits_value};
+
+use iges_base::LINE_LIMIT;
+
+/// What a word of a form is.
+#[derive(Clone, Copy, Debug)]
+pub enum FormSlot {
+    /// This very word.
+    Word(&'static str),
+    /// The name of a file.
+    File,
+    /// The name of a certificate.
+    Certificate,
+    /// A number of at least one digit and at most so many, from the least to the greatest.
+    Number {
+        digits: usize,
+        least: u32,
+        greatest: u32,
+    },
+}
+
+/// What a command takes from the words.
+#[derive(Clone, Copy, Debug, PartialEq, Eq)]
+pub enum Operand {
+    File,
+    Certificate,
+    Number,
+}
+
+/// The directory number of an entry: that of the first of its two lines (IGES 5.3, 2.2.4.4).
+pub const ENTRY_NUMBER: FormSlot = FormSlot::Number {
+    digits: 7,
+    least: 1,
+    greatest: LINE_LIMIT as u32,
+};
+
+/// The size of a sample.
+pub const SAMPLE_NUMBER: FormSlot = FormSlot::Number {
+    digits: 3,
+    least: 3,
+    greatest: 200,
+};
+
+fn all_digits(word: &[u8]) -> bool
+    ensures { result ≡ list_all is_ascii_digit word.now }
+{
+    word.iter().all(|b| b.is_ascii_digit())
+}
+
+// Whether a word is at least one digit and at most so many.
+fn is_short_number(word: &[u8], digits: usize) -> bool
+    ensures { result ≡ (are_digits word.now && nat_le (length word.now) digits) }
+{
+    !word.is_empty() && all_digits(word) && word.len() <= digits
+}
+
+// The number from the least to the greatest that a word writes in at most so many digits.
+fn number_in(word: &str, digits: usize, least: u32, greatest: u32) -> Option<u32>
+    ensures { MatchOption result (fits (number digits least greatest) word.now ≡ false)
+        (λ n. (fits (number digits least greatest) word.now ≡ true)
+        × (n ≡ digits_value 10 word.now)) }
+{
+    if !is_short_number(word.as_bytes(), digits) {
+        return None;
+    }
+    let Ok(n) = word.parse::<u32>() else {
+        return None;
+    };
+    if n < least || n > greatest {
+        return None;
+    }
+    Some(n)
+}
+
+impl FormSlot {
+    /// Whether a word may be in the slot.
+    pub fn fits(self, word: &str) -> bool
+        ensures { result ≡ fits (slot_meant self) word.now }
+    {
+        match self {
+            FormSlot::Word(text) => word == text,
+            FormSlot::File | FormSlot::Certificate => true,
+            FormSlot::Number {
+                digits,
+                least,
+                greatest,
+            } => number_in(word, digits, least, greatest).is_some(),
+        }
+    }
+
+    /// Whether the slot is for such a word.
+    pub fn holds(self, what: Operand) -> bool
+        ensures { result ≡ holds what (slot_meant self) }
+    {
+        match self {
+            FormSlot::Word(_) => false,
+            FormSlot::File => what == Operand::File,
+            FormSlot::Certificate => what == Operand::Certificate,
+            FormSlot::Number { .. } => what == Operand::Number,
+        }
+    }
+
+    /// The number that a fitting word writes; None where the slot is not for numbers.
+    pub fn number(self, word: &str) -> Option<u32>
+        ensures { holds Operand.Number (slot_meant self) ≡ true
+            → fits (slot_meant self) word.now ≡ true → result ≡ Some (digits_value 10 word.now) }
+    {
+        match self {
+            FormSlot::Number {
+                digits,
+                least,
+                greatest,
+            } => number_in(word, digits, least, greatest),
+            _ => None,
+        }
+    }
+}

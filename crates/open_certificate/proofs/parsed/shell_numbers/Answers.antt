@@ -1,0 +1,35 @@
+use Rattle.std.proofs.Common.{rules, [], ◌∷◌}
+use Rattle.cert_text.proofs.Digits.{begins_tail, numbers_begin}
+use Rattle.open_certificate.proofs.parsed.shell_numbers.Goals as goal
+
+pub returns-in_default : goal.returns-in_default
+returns-in_default c = λ a b k d e f h. c.in_default.ensures a _ (numbers_begin c.args.text.now (b ∷ k ∷ d ∷ e ∷ f ∷ []) a h)
+
+pub returns-in_default-next_number : goal.returns-in_default-next_number
+returns-in_default-next_number c = λ a b k d e f h.
+    let one = (begins_tail c.args.text.now c.in-Some.rest.now (b ∷ k ∷ d ∷ e ∷ f ∷ []) c.in-Some.shell a (search rules) h).1 in
+    c.in_default-next_number.ensures b _ (numbers_begin c.in-Some.rest.now (k ∷ d ∷ e ∷ f ∷ []) b one)
+
+pub returns-in_default-next_number-2 : goal.returns-in_default-next_number-2
+returns-in_default-next_number-2 c = λ a b k d e f h.
+    let one = (begins_tail c.args.text.now c.in-Some.rest.now (b ∷ k ∷ d ∷ e ∷ f ∷ []) c.in-Some.shell a (search rules) h).1 in
+    let two = (begins_tail c.in-Some.rest.now c.in-Some-next_number.rest.now (k ∷ d ∷ e ∷ f ∷ []) c.in-Some-next_number.rows b (search rules) one).1 in
+    c.in_default-next_number-2.ensures k _ (numbers_begin c.in-Some-next_number.rest.now (d ∷ e ∷ f ∷ []) k two)
+
+pub returns-in_default-next_number-3 : goal.returns-in_default-next_number-3
+returns-in_default-next_number-3 c = λ a b k d e f h.
+    let one = (begins_tail c.args.text.now c.in-Some.rest.now (b ∷ k ∷ d ∷ e ∷ f ∷ []) c.in-Some.shell a (search rules) h).1 in
+    let two = (begins_tail c.in-Some.rest.now c.in-Some-next_number.rest.now (k ∷ d ∷ e ∷ f ∷ []) c.in-Some-next_number.rows b (search rules) one).1 in
+    let three = (begins_tail c.in-Some-next_number.rest.now c.in-Some-next_number-2.rest.now (d ∷ e ∷ f ∷ []) c.in-Some-next_number-2.edges k (search rules)
+    two).1 in
+    c.in_default-next_number-3.ensures d _ (numbers_begin c.in-Some-next_number-2.rest.now (e ∷ f ∷ []) d three)
+
+pub returns-in_default-two_numbers : goal.returns-in_default-two_numbers
+returns-in_default-two_numbers c = λ a b k d e f h.
+    let one = (begins_tail c.args.text.now c.in-Some.rest.now (b ∷ k ∷ d ∷ e ∷ f ∷ []) c.in-Some.shell a (search rules) h).1 in
+    let two = (begins_tail c.in-Some.rest.now c.in-Some-next_number.rest.now (k ∷ d ∷ e ∷ f ∷ []) c.in-Some-next_number.rows b (search rules) one).1 in
+    let three = (begins_tail c.in-Some-next_number.rest.now c.in-Some-next_number-2.rest.now (d ∷ e ∷ f ∷ []) c.in-Some-next_number-2.edges k (search rules)
+    two).1 in
+    let four = (begins_tail c.in-Some-next_number-2.rest.now c.in-Some-next_number-3.rest.now (e ∷ f ∷ []) c.in-Some-next_number-3.corners d (search rules)
+    three).1 in
+    c.in_default-two_numbers.ensures e f four

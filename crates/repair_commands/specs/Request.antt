@@ -1,0 +1,45 @@
+-- What the words of a command line ask for.
+use Rattle.std.specs.Prelude.{ℕ, Bool, ◌&&◌, nat_le, List, [], ◌∷◌, length, Option, Some, None, bytes_eq, codes, option_map, if◌then◌else◌}
+use Rattle.std.specs.Str.Parse.{digits_value}
+use Rattle.iges_base.specs.Word.{are_digits}
+use Rattle.repair_commands.specs.declared.request.LineCommand.{LineCommand}
+use Rattle.repair_commands.specs.declared.request.LineCommand.TheVariants.{Relayout, Layout}
+use Rattle.repair_commands.specs.declared.request.Request.{Request}
+use Rattle.repair_commands.specs.declared.request.Request.TheVariants as request
+
+-- one to seven digits that aren't all 0
+abbrev pub is_number : List ℕ → Bool
+is_number word = are_digits word && nat_le (length word) 7 && nat_le 1 (digits_value 10 word)
+
+abbrev pub command_named : List ℕ → Option LineCommand
+command_named word = if bytes_eq word (codes "relayout") then Some Relayout else (if bytes_eq word (codes "layout") then Some Layout else None)
+
+abbrev pub one_request : List ℕ → Option Request
+one_request number = if is_number number then Some (request.Reorient (digits_value 10 number)) else None
+
+abbrev pub numbered_request : List ℕ → List ℕ → Option Request
+numbered_request command number = if bytes_eq command (codes "reorient") then one_request number else None
+
+-- relayout FILE, layout FILE or reorient FILE N
+abbrev pub request_of : List (List ℕ) → Option Request
+request_of [] = None
+request_of (command ∷ []) = None
+request_of (command ∷ file ∷ []) = option_map request.Lines (command_named command)
+request_of (command ∷ file ∷ number ∷ []) = numbered_request command number
+request_of (command ∷ file ∷ number ∷ word ∷ words) = None
+
+abbrev pub second : List (List ℕ) → Option (List ℕ)
+second [] = None
+second (command ∷ []) = None
+second (command ∷ file ∷ words) = Some file
+
+abbrev pub where_requested : Option Request → Option (List ℕ) → Option (List ℕ)
+where_requested None file = None
+where_requested (Some q) file = file
+
+-- the file that the words name
+abbrev pub file_named : List (List ℕ) → Option (List ℕ)
+file_named words = where_requested (request_of words) (second words)
+
+abbrev pub usage_line : List ℕ
+usage_line = codes "usage: igesolid-repair relayout FILE | layout FILE | reorient FILE N\n"
