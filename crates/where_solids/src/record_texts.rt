@@ -15,6 +15,15 @@ use where_entities::put_entities;
 use where_records::put_record;
 use where_text::Listing;
 
+/// A rule on records that fails: the number that a solid was looked for at, what fails, and the path to it where the number
+/// names a solid.
+#[derive(Clone, Copy)]
+pub struct FailingRecord {
+    pub solid: EntryNo,
+    pub failing: Failing,
+    pub path: Option<Path>,
+}
+
 // The units; where no path leads to the entity, instead the hint on the file's solids.
 fn put_start(
     alloc: Global,
@@ -41,15 +50,21 @@ pub fn put_record_rest(
     alloc: Global,
     out: &mut Out,
     file: &File,
-    no: EntryNo,
-    failing: Failing,
-    path: Option<Path>,
+    fault: FailingRecord,
     listing: Listing,
 ) -> Result<(), NoMemory>
-    ensures { OnOk result (out.new ≡ out.old ++ record_rest listing file.now no failing path) }
+    ensures { OnOk result (out.new ≡ out.old
+        ++ record_rest listing file.now fault.solid fault.failing fault.path) }
 {
     let mut named = ItemList::new(alloc);
-    put_start(alloc, out, file, path, listing)?;
-    put_record(out, &mut named, file, no, failing, path)?;
+    put_start(alloc, out, file, fault.path, listing)?;
+    put_record(
+        out,
+        &mut named,
+        file,
+        fault.solid,
+        fault.failing,
+        fault.path,
+    )?;
     put_entities(alloc, out, file, &named)
 }
