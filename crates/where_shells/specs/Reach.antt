@@ -11,6 +11,7 @@ use Rattle.shell_facts.specs.PartFacts.{parts_of, part_faces, part_edges, part_v
 use Rattle.solid_faults.specs.Parts.{faces_apart}
 use Rattle.solid_faults.specs.declared.edge.Unpaired.{Unpaired}
 use Rattle.where_text.specs.declared.listing.Listing.{Listing}
+use Rattle.where_text.specs.declared.listing.Listing.TheVariants.{Few}
 use Rattle.where_text.specs.Listing.{shown, more_facts, more_items}
 use Rattle.where_text.specs.Sentences.{rule_sentence}
 use Rattle.where_shells.specs.Lines.{count_words, rule_words, vertex_line, face_line}
@@ -26,8 +27,8 @@ part_head i faces edges vertices unpaired touching =
 unfoldable pub part_lines : Listing → Contents → SolidData → ℕ → List EntryNo → ℕ → List ℕ → ℕ → List ℕ → List ℕ
 part_lines listing f s i faces edges vertices unpaired touching =
     part_head i (length faces) edges (length vertices) unpaired (length touching) ++ vertex_line (codes "  at") f s (get_or vertices 0 0)
-    ++ flat_map (vertex_line (codes "  touches") f s) (shown listing touching) ++ flat_map (face_line f) (shown listing faces)
-    ++ more_facts listing (length faces)
+    ++ flat_map (vertex_line (codes "  touches") f s) (shown Few touching) ++ more_facts Few (length touching)
+    ++ flat_map (face_line f) (shown listing faces) ++ more_facts listing (length faces)
 
 -- the faces of a part
 abbrev pub part_entities : Shell → List ℕ → ℕ → List EntryNo

@@ -17,7 +17,7 @@ use shell_facts::{Part, PartTables, part_tables, parts};
 use solid_data::{Rule, ShellAt};
 use solid_faults::{Unpaired, apart_in};
 use std::alloc::Global;
-use where_text::{put_more_facts, put_more_items, put_rule_sentence};
+use where_text::{Listing, put_more_facts, put_more_items, put_rule_sentence};
 
 #[tactic(auto, unfolding(crate::specs::Reach::part_head))]
 fn put_part_head(out: &mut Out, number: usize, part: &Part) -> Result<(), NoMemory>
@@ -80,13 +80,12 @@ fn put_part(
 {
     let faces = part.faces.as_slice();
     let touching = part.touching.as_slice();
-    let (face_count, touch_count) = (
-        view.listing.count(faces.len()),
-        view.listing.count(touching.len()),
-    );
+    let face_count = view.listing.count(faces.len());
+    let touch_count = Listing::Few.count(touching.len());
     put_part_head(&mut page.out, number, part)?;
     put_vertex_line(&mut page.out, view, "  at", least(part.vertices.as_slice()))?;
     put_touches(&mut page.out, view, &touching[..touch_count])?;
+    put_more_facts(&mut page.out, touching.len() - touch_count)?;
     put_faces(page, view.file, &faces[..face_count])?;
     put_more_facts(&mut page.out, faces.len() - face_count)
 }

@@ -52,7 +52,7 @@ fn of_records(
     let verdict = Verdict::Fails(failing);
     let mut out = Out::new(alloc);
     put_verdict(&mut out, no, verdict)?;
-    put_record_rest(alloc, &mut out, file, fault, listing)?;
+    put_record_rest(alloc, &mut out, file, fault)?;
     Ok(Told {
         verdict,
         text: out.into_bytes(),
