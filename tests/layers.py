@@ -27,9 +27,7 @@ WAYS = "A byte of a record, to `fail PAIR`", "An E line of a certificate, to `ac
 CHAIN, LINES, FUNCTIONS = 8, 1500, 100
 # The longer chains: where's text goes through record_paths and where_records, which say in which face a record fails; the laws of
 # reoriented files stand on those of extracted ones, and nothing on them. See docs/DECISIONS.md.
-LONGER = {"where_command": 9, "reorient_laws": 9}
-# Still larger than the limits, and to be parted: all faults of a shell.
-LARGER = {"solid_faults"}
+LONGER = {"where_command": 9, "where_laws": 10, "reorient_laws": 9}
 # What says yes to certificates and orientations, and what makes them or parts of them.
 CHECKS = "cert_state", "topo_certificate", "cert_accept", "open_certificate", "orient_certificate"
 MAKES = {"vertex_link", "shell_flood", "shell_reach", "cert_maker", "open_shells", "face_orient"}
@@ -105,8 +103,7 @@ def limits_checks(top, crates, tests):
         yield f"crates.txt: the chain to {name} has {length} crates; {most} at most", length <= most or is_for_c
         lines, functions = len(code.splitlines()), len(FUNCTION.findall(code))
         fits = lines <= LINES and functions <= FUNCTIONS
-        yield f"crates/{name}: {lines} lines and {functions} functions; {LINES} and {FUNCTIONS} at most", fits or name in LARGER
-        yield f"tests/layers.py: {name} is no longer larger than the limits", not (fits and name in LARGER)
+        yield f"crates/{name}: {lines} lines and {functions} functions; {LINES} and {FUNCTIONS} at most", fits
 
 
 def way_checks(crates, page):

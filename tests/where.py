@@ -33,11 +33,12 @@ RULE = (
     f"|REACH shell {N} faults {N} parts {N}|(?:LINK|APART) shell {N} faults {N})"
 )
 HEADS = {
+    "line": f"line {N} bytes {N} end (?:lf|crlf|cr|none)",
     "units": r"units \S+ .+",
     "shells": f"shells {N} failing {N}",
     "shell": f"shell {N} entity {N} flag [01] faces {N} edges {N} vertices {N} JOIN {N} PAIR {N} REACH {N} LINK (?:{N}|-) APART {N}",
     "more": f"more {N}",
-    "hint": f"hint (?:face-flags faces {N}|solids(?: {N})+|no-solid)",
+    "hint": f"hint (?:face-flags faces {N}|solids(?: {N})+(?: more {N})?|no-solid|other-form form {Z}|shell|empty-solid|looks-like [a-z0-9-]+|layout)",
     "rule": RULE,
     "item": f"item {N} {N}",
     "gap": f"gap {N} {N}",
@@ -48,10 +49,11 @@ HEADS = {
     "entity": f"entity {N} {T}(?: surface {N} {T})?",
     "solid": f"solid {N} (?:closed|fail [A-Z]+ {N} {N})",
 }
-OF_ENTITY = rf"level {Z}|colour {Z}.*|matrix {Z}|label .+|subscript {Z}|name .*"
+OF_ENTITY = rf"level {Z}|colour {Z}.*|matrix {Z}|label .+|subscript {Z}|name .*|more {N}"
 FACTS = {
     "item": f"value {N} found .*|due {T}(?: form [01](?: 1)?)?|why (?:zero|negative|even|beyond|null)|entry {N} {T} form {Z}|values {N}"
     f"|first {N} item {N}|list {N} {T} items {N}|in (?:solid {N}|(?:shell|face|loop) {N} item {N})",
+    "line": rf"hex(?: [0-9a-f]{{2}})+|column {N}|text .*|mark  *\^+",
     "gap": f"face {F}|(?:this|next) tuple {N} (?:edge {N} {N} flag [01] curve {N} {T}|vertex {N} {N})|(?:ends|starts) {V}",
     "edge": f"curve {N} {T}|(?:start|end) {V}|(?:along|against) face {F} loop {N} tuple {N} flags [01] [01] [01]|more {N}",
     "part": f"(?:at|touches) {V}|face {F}|more {N}",

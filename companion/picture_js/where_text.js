@@ -28,11 +28,12 @@ const HEADS = {
   closed: `closed (?<solid>${N})`,
   fail: `fail (?<rule>${RECORD_RULES}|${SHELL_RULES}) (?<entity>-?${N}) (?<place>${N})`,
   bad: `bad file line (?<line>${N}) (?<reason>[a-z-]+)`,
+  line: `line ${N} bytes ${N} end (?:lf|crlf|cr|none)`,
   units: `units (?<flag>${WORD}) (?<unit>.*)`,
   shells: named({ shells: N, failing: N }),
   shell: named({ shell: N, ...COUNTS }),
-  hint: `hint (?<hint>face-flags) ${named({ faces: N })}|hint (?<list>solids)(?<solids>(?: ${N})+)`
-    + "|hint (?<none>no-solid)",
+  hint: `hint (?<hint>face-flags) ${named({ faces: N })}|hint (?<list>solids)(?<solids>(?: ${N})+)(?: more ${N})?`
+    + `|hint (?<none>no-solid|shell|empty-solid|layout)|hint (?<look>looks-like) [a-z0-9-]+|hint (?<other>other-form) form -?${N}`,
   rule: `rule (?<record_rule>${RECORD_RULES}) faults 1|rule (?<rule>${SHELL_RULES}) `
     + `${named({ shell: N, faults: N })}(?: once ${N} same-way ${N} many ${N}| parts ${N})?`,
   item: `item (?<entity>-?${N}) (?<place>${N})`,
@@ -49,6 +50,7 @@ const FACTS = {
     + `|why (?:zero|negative|even|beyond|null)|entry ${N} ${T} form -?${N}|values ${N}`
     + `|first ${N} item ${N}|list ${N} ${T} items ${N}`
     + `|in (?:solid ${N}|(?:shell|face|loop) ${N} item ${N})`,
+  line: `hex(?: [0-9a-f]{2})+|column ${N}|text .*|mark  *\\^+`,
   gap: `${FACE}|(?<which>this|next) tuple (?<tuple>${N}) (?:${EDGE} flag (?<flag>[01]) ${CURVE}`
     + `|vertex ${N} ${N})|(?:ends|starts) (?<vertex>${VERTEX})`,
   edge: `${CURVE}|(?:start|end) (?<vertex>${VERTEX})`
@@ -56,7 +58,7 @@ const FACTS = {
   part: `(?:at|(?<touches>touches)) (?<vertex>${VERTEX})|${FACE}|more ${N}`,
   vertex: `fan (?<fan>${N}) ${USE} ${EDGE} to ${N} ${N} ${WORD} ${WORD} ${WORD}`
     + `|(?<point>point) ${FACE} loop ${N}|in shell (?<shell>${N}) ${FACE}|more ${N}`,
-  entity: `level -?${N}|colour -?${N}.*|matrix -?${N}|label .*|subscript -?${N}|name .*`,
+  entity: `level -?${N}|colour -?${N}.*|matrix -?${N}|label .*|subscript -?${N}|name .*|more ${N}`,
 };
 
 /** A shape of lines. A name may stand in several of its alternatives: each gets a number. */

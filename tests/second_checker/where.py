@@ -4,6 +4,7 @@ import textwrap
 from dataclasses import dataclass
 from typing import NamedTuple
 
+from .bad_lines import told
 from .certificates import certificate
 from .extraction import Layout, groups_of, topology_layout
 from .fields import Real
@@ -13,12 +14,14 @@ from .shells import Rows, check_apart, check_join, corners_of, mates_of, reach_o
 from .walking import ANY_TOPOLOGY, Fail, Walk
 
 LIMIT = 20
+FACE_LIMIT = 5
+WORD_LIMIT = 100
 DOC = {}
 
 
 def sentences(page):
     """The sentences and the words for types, as the page has them."""
-    for name, sentence in re.findall(r"(?m)^\| ([A-Z]+|[a-z-]+) \| (.*) \|$", page):
+    for name, sentence in re.findall(r"(?m)^\| ([A-Z]+|[a-z0-9-]+) \| (.*) \|$", page):
         DOC[name] = sentence
     words = page[page.index("## 7."):]
     DOC["types"] = {int(kind): word for kind, word in re.findall(r"(\d+) ([a-z-]+)", words)}
@@ -35,7 +38,15 @@ def shown_bytes(text):
 def spelled(value):
     if value is None:
         return "-"
-    return str(value) if is_integer(value) else shown_bytes(value)
+    return str(value) if is_integer(value) else shown_word(value)
+
+
+def shown_word(word):
+    """A copied word; of a long one the first bytes, up to the first of these places where no character of UTF-8 is cut in two."""
+    if len(word) <= WORD_LIMIT:
+        return shown_bytes(word)
+    places = [place for place in range(WORD_LIMIT, WORD_LIMIT - 4, -1) if not 128 <= word[place] <= 191]
+    return shown_bytes(word[: (places or [WORD_LIMIT])[0]]) + ".."
 
 
 def cut(sentence):
@@ -239,7 +250,8 @@ class View:
             before |= vertices
             shown, more = text.shown(faces)
             facts = [f"at {self.vertex(min(vertices))}"]
-            facts += [f"touches {self.vertex(vertex)}" for vertex in text.shown(touching)[0]]
+            facts += [f"touches {self.vertex(vertex)}" for vertex in touching[:LIMIT]]
+            facts += [f"more {len(touching) - LIMIT}"] if len(touching) > LIMIT else []
             facts += [f"face {self.face(face)}" for face in shown]
             head = f"part {place} faces {len(faces)} edges {len(edges)} vertices {len(vertices)}"
             items.append(Item(f"{head} unpaired {unpaired} touching {len(touching)}", facts, more))
@@ -266,7 +278,7 @@ class View:
         for vertex in self.shared:
             views = [view for view in (*self.earlier, self) if vertex in view.vertices]
             facts = [f"in shell {view.place} face {view.face(face)}" for view in views for face in view.faces_at(vertex)]
-            items.append(text.item(f"vertex {self.vertex(vertex)}", facts))
+            items.append(Item(f"vertex {self.vertex(vertex)}", facts[:FACE_LIMIT], max(0, len(facts) - FACE_LIMIT)))
         return items
 
     def put(self, text):
@@ -566,7 +578,9 @@ def entity_facts(file, number):
     facts.append((f"matrix {entry.fields[7]}", entry.fields[7]))
     label = shown_bytes(entry.label).strip(" ")
     facts += [(f"label {label}", label), (f"subscript {entry.fields[19]}", entry.fields[19])]
-    return ["  " + fact for fact, holds in facts if holds] + [f"  name {name}" for name in names(file, entry)]
+    told = names(file, entry)
+    more = [f"  more {len(told) - LIMIT}"] if len(told) > LIMIT else []
+    return ["  " + fact for fact, holds in facts if holds] + [f"  name {name}" for name in told[:LIMIT]] + more
 
 
 def put_entities(text, file, numbers):
@@ -608,16 +622,28 @@ def flagged_closed(file, number, solid):
             face.flag = flag
 
 
+def put_kind_hint(text, named):
+    """What an entity is that is no solid."""
+    if named is not None and named.kind == 186:
+        put_hint(text, "other-form", f" form {named.form}")
+    elif named is not None and named.kind == 514 and named.form in (1, 2):
+        put_hint(text, "shell")
+
+
 def of_record(text, file, number, fail, path):
     text.lines.append(fail.text().decode().strip())
     named = file.named(number)
     is_solid = not (fail.place == 0 and fail.rule in ("ENTRY", "TYPE"))
     if is_solid:
         text.lines.append(units(file))
+        if fail.rule == "ENTRY" and (fail.entity, fail.place) == (number, 1) and named.values[0] == 0:
+            put_hint(text, "empty-solid")
     else:
-        solids = file.solids()
+        put_kind_hint(text, named)
+        solids = [solid for solid in file.solids() if file.named(solid).form == 0]
         if solids:
-            put_hint(text, "solids", "".join(f" {solid}" for solid in text.shown(solids)[0]))
+            more = f" more {len(solids) - LIMIT}" if len(solids) > LIMIT else ""
+            put_hint(text, "solids", "".join(f" {solid}" for solid in solids[:LIMIT]) + more)
         else:
             put_hint(text, "no-solid")
     facts = record_facts(file, fail, number)
@@ -687,5 +713,9 @@ def answer(words, data):
         status = overview(text, file) if not words else whole(text, file, int(words[0]))
     except BadFile as bad:
         text.lines += [f"bad file line {bad.line} {bad.reason}", *cut(DOC[bad.reason])]
+        lines, hints = told(data, bad.line, bad.reason)
+        text.lines += lines
+        for hint in hints:
+            text.lines += [f"hint {hint}", *cut(DOC[hint.split(" ")[-1]])]
         status = 3
     return status, "".join(line + "\n" for line in text.lines).encode("latin-1")

@@ -9,10 +9,10 @@ use Rattle.edge_uses.specs.ShellRows.{ShellRows}
 use Rattle.edge_uses.specs.RowRelations.{Turns}
 use Rattle.edge_uses.specs.Mates.{ArePaired}
 use Rattle.edge_uses.proofs.Turns.{turns_permute}
-use Rattle.edge_components.specs.Components.{Linked, AreJoined, AreInside, AreComponents}
+use Rattle.shell_components.specs.Components.{Linked, AreJoined, AreInside, AreComponents}
 use Rattle.solid_faults.specs.Fans.{AreFans}
 use Rattle.solid_faults.specs.TurnPairs.{AreTurns}
-use Rattle.edge_components.proofs.Joined.{has_place, joined_back, least_of_joined}
+use Rattle.shell_components.proofs.Joined.{has_place, joined_back, least_of_joined}
 use Rattle.solid_faults.proofs.TurnBack.{turn_back}
 
 pair_turns : (d : ShellRows) (pairs : List (ℕ × ℕ)) (a b : ℕ) → AreTurns d pairs → Has pairs (a, b) → Turns d a b

@@ -18,7 +18,7 @@ use Rattle.edge_uses.specs.RowRelations.{point_count}
 use Rattle.solid_faults.specs.declared.fan.Unlinked.{Unlinked}
 use Rattle.solid_faults.specs.FanCells.{IsOnVertices, counted_more}
 use Rattle.solid_faults.specs.Fans.{fans_from, fan_count, added, AreFanCounts, ArePointCounts, unlinked_at, vertex_unlinked}
-use Rattle.edge_components.proofs.Joined.{has_place}
+use Rattle.shell_components.proofs.Joined.{has_place}
 
 abbrev pub vertex_of : LoopAt × ℕ → ℕ
 vertex_of p = p.1

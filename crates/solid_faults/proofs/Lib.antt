@@ -13,7 +13,3 @@ pub mod Definite
 pub mod FanSteps
 pub mod Assembled
 pub mod Flagged
-pub mod EdgeRows
-pub mod Placed
-pub mod PartSteps
-pub mod LowSteps

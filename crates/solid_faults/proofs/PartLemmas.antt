@@ -17,11 +17,11 @@ use Rattle.edge_uses.specs.ShellRows.{ShellRows}
 use Rattle.edge_uses.specs.Tally.{IsSeen, seen_of}
 use Rattle.edge_uses.proofs.Counting.{counted}
 use Rattle.edge_uses.proofs.Turn.{edge_id}
-use Rattle.edge_components.specs.Components.{Linked, AreJoined, AreInside, AreComponents}
+use Rattle.shell_components.specs.Components.{Linked, AreJoined, AreInside, AreComponents}
 use Rattle.solid_faults.specs.PartPairs.{chosen_row, face_in, chosen_face, part_pair, part_pairs}
 use Rattle.solid_faults.specs.Tallied.{AreTallied}
 use Rattle.solid_faults.specs.Parts.{ShareEdge, AreConnected, AreParts}
-use Rattle.edge_components.proofs.Joined.{has_place, least_of_joined}
+use Rattle.shell_components.proofs.Joined.{has_place, least_of_joined}
 use Rattle.solid_faults.proofs.Reached.{share_back}
 
 -- a row that has the edge

@@ -1,7 +1,3 @@
-pub use Rattle.edge_components.specs.Components
-pub use Rattle.edge_components.specs.Trees
-pub use Rattle.edge_components.specs.Groups
-pub use Rattle.edge_components.specs.FaceUses
 pub mod Failing
 pub mod Gaps
 pub mod Edges
@@ -13,8 +9,5 @@ pub mod Tallied
 pub mod TurnPairs
 pub mod Naming
 pub mod FaceFlags
-pub mod RowPlaces
 pub mod UseCounts
-pub mod PartFacts
-pub mod PartTables
 pub mod FanCells

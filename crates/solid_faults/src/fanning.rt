@@ -6,9 +6,9 @@ ghost use Rattle.edge_uses.specs.Mates.{ArePaired};
 ghost use Rattle.solid_faults.specs.Fans.{AreFans};
 ghost use Rattle.solid_faults.specs.TurnPairs.{AreTurns};
 
-use edge_components::components;
 use edge_uses::Paired;
 use iges_base::NoMemory;
+use shell_components::components;
 use solid_data::RowId;
 use std::alloc::Global;
 

@@ -5,7 +5,6 @@
 //! vertex.
 #![tactic(auto)]
 
-mod by_edge;
 mod closing;
 mod edge;
 mod failing;
@@ -15,16 +14,12 @@ mod flagging;
 mod gap;
 mod law;
 mod part;
-mod parting;
-mod placing;
 mod shared;
 mod tallying;
 mod unlinking;
 
-pub use by_edge::rows_by_edge;
 pub use closing::is_closed;
 pub use edge::{Unpaired, rows_of_edge, unpaired_edges};
-pub use edge_components::{Groups, Used, components, grouped, nothing_used, rise, used_by};
 pub use failing::{Linking, ShellFaults, apart_in, faults, faults_of};
 pub use fan::Unlinked;
 pub use fanning::fan_leasts;
@@ -32,8 +27,6 @@ pub use flagging::is_closed_flagged;
 pub use gap::{Gap, begins_at, ends_at, gaps, starts_at};
 pub use law::faults_are_definite;
 pub use part::firsts;
-pub use parting::{Part, PartTables, part_tables, parts};
-pub use placing::{RowPlace, row_places};
 pub use shared::{below_next, shared_vertices};
 pub use tallying::{UseCounts, use_counts};
 pub use unlinking::unlinked_vertices;

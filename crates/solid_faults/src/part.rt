@@ -8,9 +8,9 @@ ghost use Rattle.solid_faults.specs.Parts.{AreParts};
 ghost use Rattle.solid_faults.specs.Tallied.{AreTallied};
 ghost use Rattle.solid_data.specs.declared.TheConstants.{PART_LIMIT};
 
-use edge_components::components;
 use edge_uses::{Row, Rows, Seen, Tally, row_at, tally_of};
 use iges_base::NoMemory;
+use shell_components::components;
 use solid_data::RowId;
 use std::alloc::Global;
 

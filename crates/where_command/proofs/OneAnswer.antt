@@ -64,11 +64,11 @@ one_hint s b h k (inr p) (inl q) = absurd (p.0 q.0 q.1 q.2)
 one_hint s b h k (inr p) (inr q) = p.1 ∙ sym q.1
 
 module _ (listing : Listing) (f : Contents) (n : EntryNo) where
-  one_records : (r t : List ℕ) → IsOfRecords listing f n r → IsOfRecords listing f n t → r ≡ t
+  one_records : (r t : List ℕ) → IsOfRecords f n r → IsOfRecords f n t → r ≡ t
   one_records r t a b =
       let x : a.failing ≡ b.failing = FirstFalse-one (places f n.0) a.failing b.failing a.first b.first in
       let path : a.path ≡ b.path = one_path b.failing (sited f n.0) a.path b.path (subst (λ y. IsPathTo y (sited f n.0) a.path) x a.leads) b.leads in
-      a.rest_is ∙ (ap (λ y. record_rest listing f n y a.path) x ∙ (ap (record_rest listing f n b.failing) path ∙ sym b.rest_is))
+      a.rest_is ∙ (ap (λ y. record_rest f n y a.path) x ∙ (ap (record_rest f n b.failing) path ∙ sym b.rest_is))
 
   one_shells : (r t : List ℕ) → IsOfShells listing f n r → IsOfShells listing f n t → r ≡ t
   one_shells r t a b =
@@ -79,7 +79,7 @@ module _ (listing : Listing) (f : Contents) (n : EntryNo) where
       a.rest_is ∙ (ap (λ ys. shell_lines listing f s ys ++ a.hint ++ shell_texts listing f s ys) xs
       ∙ (ap (λ h. shell_lines listing f s b.faults ++ h ++ shell_texts listing f s b.faults) hint ∙ sym b.rest_is))
 
-  one_rest : (r t : List ℕ) → IsOfRecords listing f n r ⊎ IsOfShells listing f n r → IsOfRecords listing f n t ⊎ IsOfShells listing f n t → r ≡ t
+  one_rest : (r t : List ℕ) → IsOfRecords f n r ⊎ IsOfShells listing f n r → IsOfRecords f n t ⊎ IsOfShells listing f n t → r ≡ t
   one_rest r t (inl a) (inl b) = one_records r t a b
   one_rest r t (inl a) (inr b) = absurd (FirstFalse-not_all (places f n.0) a.failing a.first b.placed)
   one_rest r t (inr a) (inl b) = absurd (FirstFalse-not_all (places f n.0) b.failing b.first a.placed)
@@ -113,7 +113,7 @@ no_file_one bytes a b t u (file_too_large p) (file_too_large q) = (refl, refl)
 no_file_one bytes a b t u (file_too_large p) (bad_file few fault q) = absurd (omega (arith, p, few))
 no_file_one bytes a b t u (bad_file few fault p) (file_too_large q) = absurd (omega (arith, few, q))
 no_file_one bytes a b t u (bad_file few fault p) (bad_file less other q) =
-    (refl, ap bad_file_text (err_is {X = Contents} fault other (sym (Refusal-read_file bytes fault p) ∙ Refusal-read_file bytes other q)))
+    (refl, ap (bad_file_text bytes) (err_is {X = Contents} fault other (sym (Refusal-read_file bytes fault p) ∙ Refusal-read_file bytes other q)))
 
 owed_none : (bytes : List ℕ) (a : Answer) (t : List ℕ) → OfNoFile bytes a t → IsNoFile bytes
 owed_none bytes a t (file_too_large p) = inl p

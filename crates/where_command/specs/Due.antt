@@ -12,6 +12,7 @@ use Rattle.command_replies.specs.declared.answer.Answer.{Answer}
 use Rattle.command_replies.specs.declared.answer.Answer.TheVariants as answer
 use Rattle.command_replies.specs.Due.{Owed, Exactly}
 use Rattle.command_replies.specs.Texts.{bad_file_line}
+use Rattle.where_file.specs.BadFile.{bad_file_facts}
 use Rattle.where_text.specs.Sentences.{reason_sentence}
 use Rattle.where_text.specs.declared.listing.Listing.{Listing}
 use Rattle.where_solids.specs.Overview.{IsOverview, all_close}
@@ -20,16 +21,16 @@ use Rattle.where_command.specs.declared.asked.Asked.{Asked}
 use Rattle.where_command.specs.declared.asked.Asked.TheVariants as asked
 use Rattle.where_command.specs.Asked.{asked_of, usage_line}
 
--- the line of a bad file, and the sentence of the reason
-abbrev pub bad_file_text : LineFault → List ℕ
-bad_file_text fault = bad_file_line fault ++ reason_sentence fault.reason
+-- the line of a bad file, the sentence of the reason, and what is known of that line and of the file
+abbrev pub bad_file_text : List ℕ → LineFault → List ℕ
+bad_file_text bytes fault = bad_file_line fault ++ reason_sentence fault.reason ++ bad_file_facts fault bytes
 
 -- what is owed of bytes that are no file to be judged
 pub data OfNoFile (bytes : List ℕ) : Answer → List ℕ → Type 0 where
   -- there are too many
   file_too_large : FILE_LIMIT < length bytes → OfNoFile bytes answer.TooLarge []
   -- a line is bad
-  bad_file : length bytes ≤ FILE_LIMIT → (fault : LineFault) → Refusal bytes fault → OfNoFile bytes answer.BadFile (bad_file_text fault)
+  bad_file : length bytes ≤ FILE_LIMIT → (fault : LineFault) → Refusal bytes fault → OfNoFile bytes answer.BadFile (bad_file_text bytes fault)
 
 abbrev pub answer_to : Verdict → Answer
 answer_to Closed = answer.Done

@@ -15,16 +15,18 @@ use iges_io::Source;
 use iges_lines::LineFault;
 use iges_params::{File, ReadFileFault, read_file};
 use std::alloc::Global;
+use where_file::put_bad_file;
 use where_text::put_reason_sentence;
 
-fn bad_file_reply(alloc: Global, fault: LineFault) -> Result<Reply, NoMemory>
+fn bad_file_reply(alloc: Global, bytes: &[u8], fault: LineFault) -> Result<Reply, NoMemory>
     ensures { IfOk result (λ reply. (reply.answer ≡ Answer.BadFile)
-        × (reply.text ≡ bad_file_text fault)) }
+        × (reply.text ≡ bad_file_text bytes.now fault)) }
 {
     let line = bad_file(alloc, fault)?;
     let mut out = Out::new(alloc);
     out.put(line.text.as_slice())?;
     put_reason_sentence(&mut out, fault.reason)?;
+    put_bad_file(&mut out, bytes, fault)?;
     Ok(Reply {
         answer: Answer::BadFile,
         text: out.into_bytes(),
@@ -40,7 +42,7 @@ fn file_of(alloc: Global, bytes: &[u8]) -> Result<Result<File, Reply>, NoMemory>
 {
     match read_file(alloc, bytes) {
         Ok(file) => Ok(Ok(file)),
-        Err(ReadFileFault::Bad(fault)) => Ok(Err(bad_file_reply(alloc, fault)?)),
+        Err(ReadFileFault::Bad(fault)) => Ok(Err(bad_file_reply(alloc, bytes, fault)?)),
         Err(ReadFileFault::NoMemory) => Err(NoMemory),
     }
 }

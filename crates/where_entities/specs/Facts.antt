@@ -1,5 +1,5 @@
 -- The facts of an entity, each a line where it is there.
-use Rattle.std.specs.Prelude.{ℕ, Bool, ◌&&◌, ℤ, pos, int_lt, neg_ℤ, List, [], ◌++◌, Option, Some, None, is_some, flat_map, slice_get, codes, if◌then◌else◌}
+use Rattle.std.specs.Prelude.{ℕ, Bool, true, false, ◌&&◌, ℤ, pos, int_lt, neg_ℤ, List, [], ◌++◌, Option, Some, None, is_some, filter, length, flat_map, slice_get, codes, if◌then◌else◌}
 use Rattle.std.specs.Ordering.{int_eq}
 use Rattle.iges_fields.specs.declared.value.Value.{Value}
 use Rattle.iges_fields.specs.declared.value.Value.TheVariants as value
@@ -9,7 +9,9 @@ use Rattle.iges_params.specs.Contents.{Contents}
 use Rattle.iges_params.specs.Named.{named, values_of}
 use Rattle.brep_lists.specs.Record.{kind_of_type}
 use Rattle.entry_references.specs.Refs.{Record, has_layout, names_of}
-use Rattle.where_text.specs.Spelled.{masked, signed, space_word, spelled_if}
+use Rattle.where_text.specs.declared.listing.Listing.TheVariants.{Few}
+use Rattle.where_text.specs.Listing.{more_facts, shown}
+use Rattle.where_text.specs.Spelled.{masked, signed, space_word, spelled_if, text_shown}
 
 -- a number that isn't 0, after a word
 unfoldable pub number_fact : List ℕ → ℤ → List ℕ
@@ -43,7 +45,7 @@ share_word v = space_word (spelled_if v)
 
 -- a text, where the value is one
 abbrev pub text_word : Option Value → List ℕ
-text_word (Some (value.Text t)) = space_word (masked t)
+text_word (Some (value.Text t)) = space_word (text_shown t)
 text_word _ = []
 
 -- the shares of red, green and blue, and the name
@@ -66,12 +68,27 @@ label_fact label = if is_empty (trim label) then [] else codes "  label" ++ spac
 
 -- a text, where the value is one, as a name
 unfoldable pub name_line : Option Value → List ℕ
-name_line (Some (value.Text t)) = codes "  name" ++ space_word (masked t) ++ codes "\n"
+name_line (Some (value.Text t)) = codes "  name" ++ space_word (text_shown t) ++ codes "\n"
 name_line _ = []
 
 -- the text of a name, which is the second value of its record
 abbrev pub name_fact : Contents → ℤ → List ℕ
 name_fact f n = name_line (slice_get (values_of f n) 1)
+
+abbrev pub is_text : Option Value → Bool
+is_text (Some (value.Text t)) = true
+is_text _ = false
+
+-- a name is told where its value is a text
+abbrev pub has_text : Contents → ℤ → Bool
+has_text f n = is_text (slice_get (values_of f n) 1)
+
+-- the facts of names, the first 20, and how many more there are
+unfoldable pub limited_names : Contents → List ℤ → List ℕ
+limited_names f names = flat_map (name_fact f) (shown Few names) ++ more_facts Few (length names)
+
+abbrev pub name_facts : Contents → List ℤ → List ℕ
+name_facts f names = limited_names f (filter (has_text f) names)
 
 -- a type of which a solid is made
 abbrev pub is_of_solids : ℤ → Bool
@@ -92,7 +109,7 @@ unfoldable pub label_facts : Entry → List ℕ
 label_facts e = label_fact e.label ++ number_fact (codes "subscript") e.subscript
 
 unfoldable pub record_facts : Contents → Record → List ℕ
-record_facts f r = field_facts f r.0 ++ label_facts r.0 ++ flat_map (name_fact f) (entity_names f r)
+record_facts f r = field_facts f r.0 ++ label_facts r.0 ++ name_facts f (entity_names f r)
 
 abbrev pub facts_in : Contents → Option Record → List ℕ
 facts_in f None = []

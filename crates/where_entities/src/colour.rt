@@ -7,7 +7,7 @@ ghost use Rattle.where_entities.specs.Facts.{colour_fact, colour_word, colour_wo
 use iges_directory::Entry;
 use iges_fields::{NoMemory, Out, Value, Values};
 use iges_params::File;
-use where_text::{put_masked, put_signed, put_value, put_word};
+use where_text::{put_signed, put_text, put_value, put_word};
 
 // The colours that have a number of their own (IGES 5.3, 2.2.4.4.13).
 fn colour_word(n: i64) -> &'static str
@@ -56,13 +56,13 @@ fn put_share(out: &mut Out, value: Option<&Value>) -> Result<(), NoMemory>
 }
 
 // The name of a colour definition, where it has one.
-fn put_text(out: &mut Out, value: Option<&Value>) -> Result<(), NoMemory>
+fn put_text_value(out: &mut Out, value: Option<&Value>) -> Result<(), NoMemory>
     ensures { OnOk result (out.new ≡ out.old ++ text_word (option_copied value.entry)) }
 {
     match value {
         Some(Value::Text(text)) => {
             out.put(b" ")?;
-            put_masked(out, text.as_slice())
+            put_text(out, text.as_slice())
         }
         _ => Ok(()),
     }
@@ -79,7 +79,7 @@ fn put_definition(out: &mut Out, definition: Option<&Values>) -> Result<(), NoMe
     put_share(out, values.get(0))?;
     put_share(out, values.get(1))?;
     put_share(out, values.get(2))?;
-    put_text(out, values.get(3))
+    put_text_value(out, values.get(3))
 }
 
 #[tactic(auto, unfolding(crate::specs::Facts::colour_words))]

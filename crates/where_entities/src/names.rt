@@ -2,11 +2,11 @@
 
 ghost use Rattle.iges_base.specs.declared.TheConstants.{FILE_LIMIT};
 ghost use Rattle.iges_params.specs.Named.{values_of};
-ghost use Rattle.std.specs.Prelude.{◌≡◌, ◌≤◌, ◌++◌, false, IfOk, MatchOption, OnOk, flat_map, length, option_copied};
+ghost use Rattle.std.specs.Prelude.{◌≡◌, ◌≤◌, ◌++◌, ◌∷◌, [], false, IfOk, MatchOption, OnOk, filter, flat_map, length, option_copied, slice_get};
 ghost use Rattle.entry_references.specs.Refs.{Record as FullRecord, has_layout};
 ghost use Rattle.entry_references.specs.Shapes.{IsShapeFault};
 ghost use Rattle.where_entities.specs.NamesGroups.{IsNamesGroup};
-ghost use Rattle.where_entities.specs.Facts.{entity_names, is_of_solids, name_fact, name_line};
+ghost use Rattle.where_entities.specs.Facts.{entity_names, has_text, is_of_solids, is_text, limited_names, name_fact, name_facts, name_line};
 
 use brep_lists::EntityKind;
 use entry_references::{Group, RefFault, push_names, shape_of};
@@ -14,7 +14,7 @@ use iges_directory::Entry;
 use iges_fields::{ItemList, NoMemory, Out, Value, Values};
 use iges_params::File;
 use std::alloc::Global;
-use where_text::put_masked;
+use where_text::{Listing, put_more_facts, put_text, shown_members};
 
 // Whether the type is one of which a solid is made (IGES 5.3, 4.49 and 4.145 to 4.149).
 fn is_of_solids(kind: i64) -> bool
@@ -76,36 +76,77 @@ fn put_line(out: &mut Out, value: Option<&Value>) -> Result<(), NoMemory>
     match value {
         Some(Value::Text(text)) => {
             out.put(b"  name ")?;
-            put_masked(out, text.as_slice())?;
+            put_text(out, text.as_slice())?;
             out.put(b"\n")
         }
         _ => Ok(()),
     }
 }
 
+// The second value of the record that a number names.
+fn name_value(file: &File, number: i64) -> Option<&Value>
+    ensures { option_copied result ≡ slice_get (values_of file.now number) 1 }
+{
+    let no = file.entry_no_of(number)?;
+    file.values(no)?.get(1)
+}
+
 fn put_name(out: &mut Out, file: &File, number: i64) -> Result<(), NoMemory>
     ensures { OnOk result (out.new ≡ out.old ++ name_fact file.now number) }
 {
-    let Some(no) = file.entry_no_of(number) else {
-        return put_line(out, None);
-    };
-    match file.values(no) {
-        Some(values) => put_line(out, values.get(1)),
-        None => put_line(out, None),
+    put_line(out, name_value(file, number))
+}
+
+fn is_text(value: Option<&Value>) -> bool
+    ensures { result ≡ is_text (option_copied value.entry) }
+{
+    match value {
+        Some(Value::Text(_)) => true,
+        _ => false,
     }
 }
 
-fn put_each(out: &mut Out, file: &File, names: &ItemList<i64>) -> Result<(), NoMemory>
+fn push_if(names: &mut ItemList<i64>, file: &File, name: i64) -> Result<(), NoMemory>
+    ensures { OnOk result (names.new ≡ names.old ++ filter (has_text file.now) (name ∷ [])) }
+{
+    if is_text(name_value(file, name)) {
+        return names.push(name);
+    }
+    Ok(())
+}
+
+// Of these names those with a text.
+fn with_text(alloc: Global, file: &File, names: &ItemList<i64>) -> Result<ItemList<i64>, NoMemory>
+    ensures { IfOk result (λ told. told ≡ filter (has_text file.now) names.now) }
+{
+    let mut told = ItemList::new(alloc);
+    'names: for name in names.as_slice() {
+        push_if(&mut told, file, *name)?;
+    }
+    Ok(told)
+}
+
+fn put_each(out: &mut Out, file: &File, names: &[i64]) -> Result<(), NoMemory>
     ensures { OnOk result (out.new ≡ out.old ++ flat_map (name_fact file.now) names.now) }
 {
-    'names: for name in names.as_slice() {
+    'names: for name in names {
         put_name(out, file, *name)?;
     }
     Ok(())
 }
 
+#[tactic(auto, unfolding(crate::specs::Facts::limited_names))]
+fn put_limited(out: &mut Out, file: &File, names: &[i64]) -> Result<(), NoMemory>
+    ensures { OnOk result (out.new ≡ out.old ++ limited_names file.now names.now) }
+{
+    let shown = shown_members(Listing::Few, names);
+    put_each(out, file, shown)?;
+    put_more_facts(out, names.len() - shown.len())
+}
+
 /// Appends a fact for each name of an entity of which a solid is made: each property of form 15 in the second group after
-/// its own values (IGES 5.3, 2.2.4.5.2 and type 406). There are none where the record doesn't fit its type.
+/// its own values (IGES 5.3, 2.2.4.5.2 and type 406), the first 20, and how many more there are. There are none where the
+/// record doesn't fit its type.
 pub fn put_names(
     alloc: Global,
     out: &mut Out,
@@ -115,8 +156,9 @@ pub fn put_names(
 ) -> Result<(), NoMemory>
     requires { length values.now ≤ FILE_LIMIT }
     ensures { OnOk result (out.new ≡ out.old
-        ++ flat_map (name_fact file.now) (entity_names file.now (entry.now, values.now))) }
+        ++ name_facts file.now (entity_names file.now (entry.now, values.now))) }
 {
     let names = entity_names(alloc, file, entry, values)?;
-    put_each(out, file, &names)
+    let told = with_text(alloc, file, &names)?;
+    put_limited(out, file, told.as_slice())
 }

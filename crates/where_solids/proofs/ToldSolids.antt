@@ -49,12 +49,12 @@ whole start line text head rest none first last = last ∙ (ap (λ xs. xs ++ res
 
 pub told_records : (listing : Listing) (f : Contents) (n : EntryNo) (x : Failing) (path : Option Path) (start line text : List ℕ) → FirstFalse (places f n.0) x
     → IsPathTo x (sited f n.0) path
-    → start ≡ [] → line ≡ start ++ verdict_line n.0 (Fails x) → text ≡ line ++ record_rest listing f n x path → IsToldOf listing f n (Fails x) text
+    → start ≡ [] → line ≡ start ++ verdict_line n.0 (Fails x) → text ≡ line ++ record_rest f n x path → IsToldOf listing f n (Fails x) text
 told_records listing f n x path start line text first leads none head last = record {
   judged = fails_on f n.0 x first;
-  rest = record_rest listing f n x path;
+  rest = record_rest f n x path;
   told = inl (record { failing = x; first = first; path = path; leads = leads; rest_is = refl });
-  text_is = whole start line text (verdict_line n.0 (Fails x)) (record_rest listing f n x path) none head last;
+  text_is = whole start line text (verdict_line n.0 (Fails x)) (record_rest f n x path) none head last;
 }
 
 -- the hint, and what is told of the shells after it

@@ -1,5 +1,5 @@
 -- The hints, each with its sentence in lines of at most 78 columns.
-use Rattle.std.specs.Prelude.{◌≡◌, ◌⊎◌, ℕ, ◌<◌, Bool, false, not, List, [], ◌∷◌, ◌++◌, flat_map, Option, Some, None, IsTrue, count_by, slice_get, codes}
+use Rattle.std.specs.Prelude.{◌≡◌, ◌⊎◌, ℕ, ◌<◌, Bool, false, not, List, [], ◌∷◌, ◌++◌, flat_map, Option, Some, None, IsTrue, count_by, length, slice_get, codes}
 use Rattle.std.specs.Prelude.{decimal}
 use Rattle.std.specs.List.{list_any}
 use Rattle.iges_base.specs.declared.entry_no.EntryNo.{EntryNo}
@@ -9,8 +9,8 @@ use Rattle.solid_data.specs.declared.solid.FaceUse.{FaceUse}
 use Rattle.solid_data.specs.declared.solid.Shell.{Shell}
 use Rattle.solid_faults.specs.FaceFlags.{IsClosedFlagged}
 use Rattle.solid_faults.specs.Faults.{Faults}
-use Rattle.where_text.specs.declared.listing.Listing.{Listing}
-use Rattle.where_text.specs.Listing.{shown}
+use Rattle.where_text.specs.declared.listing.Listing.TheVariants.{Few}
+use Rattle.where_text.specs.Listing.{more_words, shown}
 use Rattle.where_text.specs.Spelled.{space_word}
 
 -- ---- face flags
@@ -45,10 +45,10 @@ unfoldable pub solids_sentence : List ℕ
 solids_sentence = codes "  The solids of this file are these. Take one of their numbers.\n"
 
 unfoldable pub no_solid_hint : List ℕ
-no_solid_hint = codes "hint no-solid\n  This file holds no solid (entity 186); it may hold trimmed surfaces or a\n  shell alone.\n"
+no_solid_hint = codes "hint no-solid\n  This file holds no solid (entity 186 of form 0); it may hold trimmed\n  surfaces or a shell alone.\n"
 
--- the solids of the file, or that there is none
-unfoldable pub solids_hint : Listing → List EntryNo → List ℕ
-solids_hint listing [] = no_solid_hint
-solids_hint listing (n ∷ ns) = codes "hint solids" ++ flat_map (λ (m : EntryNo). space_word (decimal m.0)) (shown listing (n ∷ ns)) ++ codes "\n"
-    ++ solids_sentence
+-- the first 20 of these solids, or that there is none
+unfoldable pub solids_hint : List EntryNo → List ℕ
+solids_hint [] = no_solid_hint
+solids_hint (n ∷ ns) = codes "hint solids" ++ flat_map (λ (m : EntryNo). space_word (decimal m.0)) (shown Few (n ∷ ns))
+    ++ more_words Few (length (n ∷ ns)) ++ codes "\n" ++ solids_sentence

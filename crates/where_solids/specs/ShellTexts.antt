@@ -7,11 +7,11 @@ use Rattle.solid_data.specs.declared.solid.Shell.{Shell}
 use Rattle.solid_faults.specs.Faults.{Faults, Linking}
 use Rattle.where_text.specs.declared.listing.Listing.{Listing}
 use Rattle.where_text.specs.Listing.{more_items, shown}
-use Rattle.where_edges.specs.Join.{join_named, join_text}
-use Rattle.where_edges.specs.Pair.{pair_named, pair_text}
-use Rattle.where_parts.specs.Apart.{apart_named, apart_text}
-use Rattle.where_parts.specs.Link.{link_named, link_text}
-use Rattle.where_parts.specs.Reach.{reach_named, reach_text}
+use Rattle.where_shells.specs.Join.{join_named, join_text}
+use Rattle.where_shells.specs.Pair.{pair_named, pair_text}
+use Rattle.where_shells.specs.Apart.{apart_named, apart_text}
+use Rattle.where_shells.specs.Link.{link_named, link_text}
+use Rattle.where_shells.specs.Reach.{reach_named, reach_text}
 use Rattle.where_entities.specs.Entities.{entities_text}
 use Rattle.where_solids.specs.AllFaults.{failing_shells}
 use Rattle.where_solids.specs.Lines.{line_at, shells_line, units_line}

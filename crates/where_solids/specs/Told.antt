@@ -1,7 +1,8 @@
 -- What is said of one solid of a file.
-use Rattle.std.specs.Prelude.{◌≡◌, ◌⊎◌, ℕ, List, [], ◌++◌, Option, Some, None}
+use Rattle.std.specs.Prelude.{◌≡◌, ◌⊎◌, ℕ, pos, List, [], ◌++◌, Option, Some, None}
 use Rattle.iges_base.specs.declared.entry_no.EntryNo.{EntryNo}
 use Rattle.iges_params.specs.Contents.{Contents}
+use Rattle.iges_params.specs.Named.{named}
 use Rattle.brep_walk.specs.Places.{places}
 use Rattle.brep_walk.specs.SolidOf.{solid_of}
 use Rattle.solid_data.specs.Obligations.{AllHold, FirstFalse}
@@ -17,26 +18,27 @@ use Rattle.where_records.specs.RecordText.{record_named, record_text}
 use Rattle.where_entities.specs.Entities.{entities_text}
 use Rattle.where_solids.specs.AllFaults.{AreAllFaults, failing_shells}
 use Rattle.where_solids.specs.Hints.{IsFlagsHint, pair_fails, solids_hint}
+use Rattle.where_solids.specs.KindHints.{hint_of, shells_hint}
 use Rattle.where_solids.specs.Lines.{units_line, verdict_line}
-use Rattle.where_solids.specs.Listed.{solids_of}
+use Rattle.where_solids.specs.Listed.{true_solids}
 use Rattle.where_solids.specs.ShellTexts.{shell_lines, shell_texts}
 
--- the units, where the number names a solid; else which do
-abbrev pub record_start : Listing → Contents → Option Path → List ℕ
-record_start listing f None = solids_hint listing (solids_of f)
-record_start listing f (Some path) = units_line f
+-- the units, where the number names a solid, and whether it has a shell; else what it names, and the solids
+abbrev pub record_start : Contents → EntryNo → Failing → Option Path → List ℕ
+record_start f n x None = hint_of (named f (pos n.0)) ++ solids_hint (true_solids f)
+record_start f n x (Some path) = units_line f ++ shells_hint f n x
 
 -- of a rule on the records that fails on this path
-unfoldable pub record_rest : Listing → Contents → EntryNo → Failing → Option Path → List ℕ
-record_rest listing f n x path = record_start listing f path ++ record_text f n x path ++ entities_text f (record_named n x path)
+unfoldable pub record_rest : Contents → EntryNo → Failing → Option Path → List ℕ
+record_rest f n x path = record_start f n x path ++ record_text f n x path ++ entities_text f (record_named n x path)
 
 -- An obligation on the records is the first that fails, and this is said of it.
-pub record IsOfRecords (listing : Listing) (f : Contents) (n : EntryNo) (rest : List ℕ) : Type 0 where
+pub record IsOfRecords (f : Contents) (n : EntryNo) (rest : List ℕ) : Type 0 where
   pub failing : Failing
   pub first : FirstFalse (places f n.0) failing
   pub path : Option Path
   pub leads : IsPathTo failing (sited f n.0) path
-  pub rest_is : rest ≡ record_rest listing f n failing path
+  pub rest_is : rest ≡ record_rest f n failing path
 
 -- All obligations on the records hold, and this is said of the shells.
 pub record IsOfShells (listing : Listing) (f : Contents) (n : EntryNo) (rest : List ℕ) : Type 0 where
@@ -51,5 +53,5 @@ pub record IsOfShells (listing : Listing) (f : Contents) (n : EntryNo) (rest : L
 pub record IsToldOf (listing : Listing) (f : Contents) (n : EntryNo) (verdict : Verdict) (text : List ℕ) : Type 0 where
   pub judged : IsVerdictOn f n.0 verdict
   pub rest : List ℕ
-  pub told : IsOfRecords listing f n rest ⊎ IsOfShells listing f n rest
+  pub told : IsOfRecords f n rest ⊎ IsOfShells listing f n rest
   pub text_is : text ≡ verdict_line n.0 verdict ++ rest

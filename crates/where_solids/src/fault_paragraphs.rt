@@ -6,19 +6,14 @@ ghost use Rattle.solid_faults.specs.Edges.{unpaired_of};
 ghost use Rattle.solid_faults.specs.Fans.{AreFans};
 ghost use Rattle.solid_faults.specs.Faults.{AreFaults};
 ghost use Rattle.std.specs.Prelude.{◌≡◌, ◌++◌, ◌<◌, [], IfOk, IfSome, IsSome, OnOk, Some, length, option_copied, slice_get};
-ghost use Rattle.vertex_facts.specs.FaceTable.{touches_of};
+ghost use Rattle.shell_facts.specs.FaceTable.{touches_of};
 ghost use Rattle.where_solids.specs.ShellTexts.{fault_faces, fault_paragraphs, linking_named, linking_text};
 
 use edge_uses::{PairFault, Paired, Rows, pair};
-use iges_fields::{NoMemory, Out};
-use iges_params::File;
-use solid_data::{ShellAt, Solid};
+use iges_fields::NoMemory;
 use solid_faults::{Linking, ShellFaults};
 use std::alloc::Global;
-use vertex_facts::VertexFaces;
-use where_edges::{put_join, put_pair};
-use where_parts::{put_apart, put_link, put_reach};
-use where_text::{EntryNumbers, Listing};
+use where_shells::{Page, ShellView, put_apart, put_join, put_link, put_pair, put_reach};
 
 // The rows with their mates, where loops join and edges are paired.
 fn paired_rows(alloc: Global, rows: &Rows) -> Result<Paired<'_>, NoMemory>
@@ -36,66 +31,51 @@ fn paired_rows(alloc: Global, rows: &Rows) -> Result<Paired<'_>, NoMemory>
 // The vertices that aren't linked, where fans are judged.
 fn put_linking(
     alloc: Global,
-    out: &mut Out,
-    named: &mut EntryNumbers,
-    file: &File,
-    solid: &Solid,
-    at: ShellAt,
-    rows: &Rows,
+    page: &mut Page,
+    view: &ShellView<'_>,
     linking: Option<&Linking>,
-    listing: Listing,
 ) -> Result<(), NoMemory>
-    requires shell { at.0 < length solid.now.shells }
-    requires rows { rows.now ≡ rows_of solid.now (slice_get solid.now.shells at.0) }
-    requires meet { IsSome linking → EndsMeet rows.now }
-    requires paired { IsSome linking → unpaired_of rows.now ≡ [] }
-    requires fans { IfSome linking (λ l. AreFans rows.now l.now.leasts) }
-    ensures text { OnOk result (out.new ≡ out.old
-        ++ linking_text listing file.now solid.now at.0 (option_copied linking.entry)) }
-    ensures named { OnOk result (named.new ≡ named.old
-        ++ linking_named listing solid.now at.0 (option_copied linking.entry)) }
+    requires shell { view.now.at.0 < length view.now.solid.now.shells }
+    requires rows { view.now.rows.now
+        ≡ rows_of view.now.solid.now (slice_get view.now.solid.now.shells view.now.at.0) }
+    requires meet { IsSome linking → EndsMeet view.now.rows.now }
+    requires paired { IsSome linking → unpaired_of view.now.rows.now ≡ [] }
+    requires fans { IfSome linking (λ l. AreFans view.now.rows.now l.now.leasts) }
+    ensures text { OnOk result (page.new.out ≡ page.old.out
+        ++ linking_text view.now.listing view.now.file.now view.now.solid.now view.now.at.0 (option_copied linking.entry)) }
+    ensures named { OnOk result (page.new.named ≡ page.old.named
+        ++ linking_named view.now.listing view.now.solid.now view.now.at.0 (option_copied linking.entry)) }
 {
     let Some(linking) = linking else {
         return Ok(());
     };
-    let paired = paired_rows(alloc, rows)?;
-    put_link(
-        alloc, out, named, file, solid, at, &paired, linking, listing,
-    )
+    let paired = paired_rows(alloc, view.rows)?;
+    put_link(alloc, page, view, &paired, linking)
 }
 
 /// The paragraphs of the rules that fail in a shell, in the order of the rules.
 #[tactic(auto, unfolding(crate::specs::ShellTexts::fault_paragraphs, crate::specs::ShellTexts::fault_faces))]
 pub fn put_faults(
     alloc: Global,
-    out: &mut Out,
-    named: &mut EntryNumbers,
-    file: &File,
-    solid: &Solid,
-    at: ShellAt,
-    rows: &Rows,
-    faces: &VertexFaces,
+    page: &mut Page,
+    view: &ShellView<'_>,
     faults: &ShellFaults,
-    listing: Listing,
 ) -> Result<(), NoMemory>
-    requires shell { at.0 < length solid.now.shells }
-    requires rows { rows.now ≡ rows_of solid.now (slice_get solid.now.shells at.0) }
-    requires faces { faces.now ≡ touches_of solid.now }
-    requires faults { (h : AnyShell) → slice_get solid.now.shells at.0 ≡ Some h
-        → AreFaults solid.now at.0 h faults.now }
-    ensures text { OnOk result (out.new ≡ out.old
-        ++ fault_paragraphs listing file.now solid.now at.0 faults.now) }
-    ensures named { OnOk result (named.new ≡ named.old
-        ++ fault_faces listing solid.now at.0 faults.now) }
+    requires shell { view.now.at.0 < length view.now.solid.now.shells }
+    requires rows { view.now.rows.now
+        ≡ rows_of view.now.solid.now (slice_get view.now.solid.now.shells view.now.at.0) }
+    requires faces { view.now.faces.now ≡ touches_of view.now.solid.now }
+    requires faults { (h : AnyShell) → slice_get view.now.solid.now.shells view.now.at.0 ≡ Some h
+        → AreFaults view.now.solid.now view.now.at.0 h faults.now }
+    ensures text { OnOk result (page.new.out ≡ page.old.out
+        ++ fault_paragraphs view.now.listing view.now.file.now view.now.solid.now view.now.at.0 faults.now) }
+    ensures named { OnOk result (page.new.named ≡ page.old.named
+        ++ fault_faces view.now.listing view.now.solid.now view.now.at.0 faults.now) }
 {
-    let (unpaired, firsts) = (faults.unpaired(), faults.firsts());
-    put_join(out, named, file, solid, at, faults.gaps(), listing)?;
-    put_pair(alloc, out, named, file, solid, at, rows, unpaired, listing)?;
-    put_reach(
-        alloc, out, named, file, solid, at, rows, firsts, unpaired, listing,
-    )?;
-    let linking = faults.linking();
-    put_linking(alloc, out, named, file, solid, at, rows, linking, listing)?;
-    let shared = faults.shared();
-    put_apart(out, named, file, solid, at, faces, shared, listing)
+    let unpaired = faults.unpaired();
+    put_join(page, view, faults.gaps())?;
+    put_pair(alloc, page, view, unpaired)?;
+    put_reach(alloc, page, view, faults.firsts(), unpaired)?;
+    put_linking(alloc, page, view, faults.linking())?;
+    put_apart(page, view, faults.shared())
 }

@@ -6,6 +6,8 @@ ghost use Rattle.solid_data.specs.declared.solid.FaceUse.{FaceUse as AnyFace};
 ghost use Rattle.solid_data.specs.declared.solid.Shell.{Shell as AnyShell};
 ghost use Rattle.std.specs.Prelude.{◌≡◌, ◌++◌, ◌<◌, ◌↔◌, IfOk, IfSome, IsTrue, List, OnOk, count_by, decimal, flat_map, length, not, option_copied, slice_get, ℕ};
 ghost use Rattle.where_solids.specs.Hints.{IsFlagsHint, flags_hint, flags_sentence, has_unpaired, no_solid_hint, pair_fails, solids_hint, solids_sentence, unset_flags};
+ghost use Rattle.where_text.specs.declared.listing.Listing.TheVariants.{Few};
+ghost use Rattle.where_text.specs.Listing.{more_words, shown};
 ghost use Rattle.where_text.specs.Spelled.{space_word};
 ghost use Rattle.solid_data.specs.declared.TheConstants.{PART_LIMIT};
 
@@ -14,7 +16,7 @@ use iges_fields::{EntryNo, NoMemory, Out};
 use solid_data::{FaceUse, Solid};
 use solid_faults::{ShellFaults, is_closed_flagged};
 use std::alloc::Global;
-use where_text::{EntryNumbers, Listing, put_number, shown_members};
+use where_text::{EntryNumbers, Listing, put_more_words, put_number, shown_members};
 
 const FLAGS: &str =
     "  With every face flag read as 1 this solid is closed: no face is missing.\n  Either its writer lets a face's flag speak of the surface alone, as\n  Parasolid's translator does, and the part is sound; or just the faces with\n  flag 0 are turned. The receiver may turn them inside out: check their\n  normals there, or send STEP.\n";
@@ -22,7 +24,7 @@ const FLAGS: &str =
 const SOLIDS: &str = "  The solids of this file are these. Take one of their numbers.\n";
 
 const NO_SOLID: &str =
-    "hint no-solid\n  This file holds no solid (entity 186); it may hold trimmed surfaces or a\n  shell alone.\n";
+    "hint no-solid\n  This file holds no solid (entity 186 of form 0); it may hold trimmed\n  surfaces or a shell alone.\n";
 
 // How many of the faces have the flag 0.
 fn unset_in(faces: &[FaceUse]) -> usize
@@ -151,20 +153,27 @@ fn put_solids_sentence(out: &mut Out) -> Result<(), NoMemory>
     out.put(SOLIDS.as_bytes())
 }
 
-/// Appends which solids there are.
+// The first of these numbers, and how many more there are.
+fn put_shown(out: &mut Out, numbers: &[EntryNo]) -> Result<(), NoMemory>
+    ensures { OnOk result (out.new ≡ out.old
+        ++ (flat_map (λ (n : AnyEntryNo). space_word (decimal n.0)) (shown Few numbers.now)
+        ++ more_words Few (length numbers.now))) }
+{
+    let shown = shown_members(Listing::Few, numbers);
+    put_numbers(out, shown)?;
+    put_more_words(out, numbers.len() - shown.len())
+}
+
+/// Appends which solids there are: the first 20, and how many more.
 #[tactic(auto, unfolding(crate::specs::Hints::solids_hint))]
-pub fn put_solids_hint(
-    out: &mut Out,
-    solids: &EntryNumbers,
-    listing: Listing,
-) -> Result<(), NoMemory>
-    ensures { OnOk result (out.new ≡ out.old ++ solids_hint listing solids.now) }
+pub fn put_solids_hint(out: &mut Out, solids: &EntryNumbers) -> Result<(), NoMemory>
+    ensures { OnOk result (out.new ≡ out.old ++ solids_hint solids.now) }
 {
     if solids.len() == 0 {
         return put_no_solid(out);
     }
     out.put(b"hint solids")?;
-    put_numbers(out, shown_members(listing, solids.as_slice()))?;
+    put_shown(out, solids.as_slice())?;
     out.put(b"\n")?;
     put_solids_sentence(out)
 }

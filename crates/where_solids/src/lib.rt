@@ -4,6 +4,7 @@
 mod all_faults;
 mod fault_paragraphs;
 mod hints;
+mod kind_hints;
 mod lines;
 mod listed;
 mod overview;

@@ -4,8 +4,9 @@ ghost use Rattle.std.specs.Prelude.{◌≡◌, ◌++◌, OnOk};
 ghost use Rattle.where_solids.specs.Told.{record_rest, record_start};
 
 use crate::hints::put_solids_hint;
+use crate::kind_hints::{put_kind_hint, put_shells_hint};
 use crate::lines::put_units;
-use crate::listed::solids;
+use crate::listed::true_solids;
 use iges_fields::{EntryNo, ItemList, NoMemory, Out};
 use iges_params::File;
 use record_paths::Path;
@@ -13,23 +14,35 @@ use solid_data::Failing;
 use std::alloc::Global;
 use where_entities::put_entities;
 use where_records::put_record;
-use where_text::Listing;
 
-// The units; where no path leads to the entity, instead the hint on the file's solids.
+/// A rule on records that fails: the number that a solid was looked for at, what fails, and the path to it where the number
+/// names a solid.
+#[derive(Clone, Copy)]
+pub struct FailingRecord {
+    pub solid: EntryNo,
+    pub failing: Failing,
+    pub path: Option<Path>,
+}
+
+// The units and whether a solid has a shell; where no path leads to the entity, instead what it is, and the file's solids.
 fn put_start(
     alloc: Global,
     out: &mut Out,
     file: &File,
-    path: Option<Path>,
-    listing: Listing,
+    fault: FailingRecord,
 ) -> Result<(), NoMemory>
-    ensures { OnOk result (out.new ≡ out.old ++ record_start listing file.now path) }
+    ensures { OnOk result (out.new ≡ out.old
+        ++ record_start file.now fault.solid fault.failing fault.path) }
 {
-    match path {
-        Some(_) => put_units(out, file),
+    match fault.path {
+        Some(_) => {
+            put_units(out, file)?;
+            put_shells_hint(out, file, fault.solid, fault.failing)
+        }
         None => {
-            let solids = solids(alloc, file)?;
-            put_solids_hint(out, &solids, listing)
+            put_kind_hint(out, file, fault.solid)?;
+            let solids = true_solids(alloc, file)?;
+            put_solids_hint(out, &solids)
         }
     }
 }
@@ -41,15 +54,20 @@ pub fn put_record_rest(
     alloc: Global,
     out: &mut Out,
     file: &File,
-    no: EntryNo,
-    failing: Failing,
-    path: Option<Path>,
-    listing: Listing,
+    fault: FailingRecord,
 ) -> Result<(), NoMemory>
-    ensures { OnOk result (out.new ≡ out.old ++ record_rest listing file.now no failing path) }
+    ensures { OnOk result (out.new ≡ out.old
+        ++ record_rest file.now fault.solid fault.failing fault.path) }
 {
     let mut named = ItemList::new(alloc);
-    put_start(alloc, out, file, path, listing)?;
-    put_record(out, &mut named, file, no, failing, path)?;
+    put_start(alloc, out, file, fault)?;
+    put_record(
+        out,
+        &mut named,
+        file,
+        fault.solid,
+        fault.failing,
+        fault.path,
+    )?;
     put_entities(alloc, out, file, &named)
 }

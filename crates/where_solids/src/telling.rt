@@ -15,7 +15,7 @@ ghost use Rattle.where_text.specs.Listing.{left_line, shown};
 use crate::all_faults::{AllFaults, all_faults, failing_shells};
 use crate::hints::{pair_fails, put_flags_hint};
 use crate::lines::{put_shells, put_units, put_verdict};
-use crate::record_texts::put_record_rest;
+use crate::record_texts::{FailingRecord, put_record_rest};
 use crate::shell_texts::{ShellTexts, shell_texts};
 use crate::verdicts::verdict;
 use brep_walk::{WalkFault, walk};
@@ -44,11 +44,15 @@ fn of_records(
     requires { FirstFalse (places file.now no.0) failing }
     ensures { IfOk result (λ told. IsToldOf listing file.now no told.verdict told.text) }
 {
-    let path = path_of(file, no, failing);
+    let fault = FailingRecord {
+        solid: no,
+        failing,
+        path: path_of(file, no, failing),
+    };
     let verdict = Verdict::Fails(failing);
     let mut out = Out::new(alloc);
     put_verdict(&mut out, no, verdict)?;
-    put_record_rest(alloc, &mut out, file, no, failing, path, listing)?;
+    put_record_rest(alloc, &mut out, file, fault)?;
     Ok(Told {
         verdict,
         text: out.into_bytes(),
@@ -77,10 +81,10 @@ fn put_lines(
 
 fn put_texts(alloc: Global, out: &mut Out, file: &File, texts: &ShellTexts) -> Result<(), NoMemory>
     ensures { OnOk result (out.new ≡ out.old
-        ++ (texts.now.paragraphs ++ entities_text file.now texts.now.named)) }
+        ++ (texts.now.page.out ++ entities_text file.now texts.now.page.named)) }
 {
-    out.put(texts.paragraphs.bytes())?;
-    put_entities(alloc, out, file, &texts.named)
+    out.put(texts.page.out.bytes())?;
+    put_entities(alloc, out, file, &texts.page.named)
 }
 
 // What follows the verdict on a solid of which all obligations on records hold.

@@ -1,7 +1,8 @@
 -- A text that is put together piece by piece.
-use Rattle.std.specs.Prelude.{◌≡◌, ◌<◌, ◌≤◌, ◌+◌, ℕ, suc, List, [], ◌∷◌, ◌++◌, length, map, flat_map, Result, Ok, Err, OnOk}
+use Rattle.std.specs.Prelude.{◌≡◌, ◌<◌, ◌≤◌, ◌+◌, ℕ, suc, List, [], ◌∷◌, ◌++◌, Bool, length, map, filter, flat_map, Result, Ok, Err, OnOk}
 use Rattle.std.proofs.Common.{refl, sym, ◌∙◌, ap, arith, get_or, drop, append_assoc}
 use Rattle.std.proofs.lemmas.List.{drop_all, append-nil, length-take}
+use Rattle.std.proofs.lemmas.List.Elements.{filter-append}
 use Rattle.std.proofs.Math.Seq.{drop-cons}
 use Rattle.where_text.specs.declared.listing.Listing.{Listing}
 use Rattle.where_text.specs.declared.listing.Listing.TheVariants.{All, Few}
@@ -38,6 +39,23 @@ pub flat_all : {A : Type 0} (f : A → List ℕ) (items xs : List A) (i : ℕ) (
 flat_all f items xs i now all same past h =
     let none : drop i xs ≡ [] = ap (drop i) (sym same) ∙ drop_all i items past in
     sym (append-nil now) ∙ (ap (λ ys. now ++ flat_map f ys) (sym none) ∙ h)
+
+-- the members that pass a test, once one more of those that are left is looked at
+pub filter_step : {A : Type 0} (p : A → Bool) (items xs : List A) (i : ℕ) (d x : A) (old new all : List A) → items ≡ xs → i < length items
+    → x ≡ get_or items i d → old ++ filter p (drop i xs) ≡ all → new ≡ old ++ filter p (x ∷ []) → new ++ filter p (drop (i + 1) xs) ≡ all
+filter_step p items xs i d x old new all same lt is h e =
+    let more : suc i ≡ i + 1 = omega arith in
+    let split : drop i items ≡ x ∷ drop (i + 1) items = drop-cons items i d lt
+    ∙ (ap (λ n. get_or items i d ∷ drop n items) more ∙ ap (λ y. y ∷ drop (i + 1) items) (sym is)) in
+    let here : drop i xs ≡ x ∷ drop (i + 1) xs = ap (drop i) (sym same) ∙ (split ∙ ap (λ ys. x ∷ drop (i + 1) ys) same) in
+    piece_more old new (filter p (x ∷ [])) (filter p (drop (i + 1) xs)) all
+    (ap (λ ys. old ++ ys) (sym (filter-append p (x ∷ []) (drop (i + 1) xs))) ∙ (ap (λ ys. old ++ filter p ys) (sym here) ∙ h)) e
+
+pub filter_end : {A : Type 0} (p : A → Bool) (items xs : List A) (i : ℕ) (now all : List A) → items ≡ xs → length items ≤ i
+    → now ++ filter p (drop i xs) ≡ all → now ≡ all
+filter_end p items xs i now all same past h =
+    let none : drop i xs ≡ [] = ap (drop i) (sym same) ∙ drop_all i items past in
+    sym (append-nil now) ∙ (ap (λ ys. now ++ filter p ys) (sym none) ∙ h)
 
 -- ---- a writer's last step
 

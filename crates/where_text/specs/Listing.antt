@@ -21,3 +21,10 @@ more_items listing n = left_line [] (n - shown_count listing n)
 
 abbrev pub more_facts : Listing → ℕ → List ℕ
 more_facts listing n = left_line (codes "  ") (n - shown_count listing n)
+
+-- the same at the end of a line of words
+unfoldable pub left_words : ℕ → List ℕ
+left_words left = if left == 0 then [] else codes " more " ++ decimal left
+
+abbrev pub more_words : Listing → ℕ → List ℕ
+more_words listing n = left_words (n - shown_count listing n)

@@ -1,7 +1,7 @@
 //! How many members of a list are written.
 
 ghost use Rattle.std.specs.Prelude.{◌≡◌, ◌≤◌, ◌++◌, [], codes, OnOk};
-ghost use Rattle.where_text.specs.Listing.{left_line, shown, shown_count};
+ghost use Rattle.where_text.specs.Listing.{left_line, left_words, shown, shown_count};
 
 use iges_fields::{EntryNo, ItemList, NoMemory, Out, write_number};
 
@@ -77,4 +77,16 @@ pub fn put_more_facts(out: &mut Out, left: usize) -> Result<(), NoMemory>
     ensures text { OnOk result (out.new ≡ out.old ++ left_line (codes "  ") left) }
 {
     put_left(out, "  ", left)
+}
+
+/// Appends to a line of words how many words of a list aren't written; nothing where all are.
+#[tactic(auto, unfolding(crate::specs::Listing::left_words))]
+pub fn put_more_words(out: &mut Out, left: usize) -> Result<(), NoMemory>
+    ensures text { OnOk result (out.new ≡ out.old ++ left_words left) }
+{
+    if left == 0 {
+        return Ok(());
+    }
+    out.put(b" more ")?;
+    write_number(out, left as u64)
 }

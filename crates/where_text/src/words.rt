@@ -3,7 +3,7 @@
 ghost use Rattle.std.specs.Prelude.{◌≡◌, ◌++◌, OnOk, option_copied};
 ghost use Rattle.where_text.specs.Spelled.{signed, space_word, spelled, spelled_if};
 
-use crate::masking::put_masked;
+use crate::cutting::{put_shortened, put_text};
 use iges_fields::{NoMemory, Out, Value};
 use itoa::Buffer;
 
@@ -30,13 +30,14 @@ fn put_spelled(out: &mut Out, value: &Value) -> Result<(), NoMemory>
     match value {
         Value::Default => out.put(b"-"),
         Value::Int(n) => out.put(Buffer::new().format(*n).as_bytes()),
-        Value::Real(word) => out.put(word.as_slice()),
-        Value::Text(text) => put_masked(out, text.as_slice()),
+        Value::Real(word) => put_shortened(out, word.as_slice()),
+        Value::Text(text) => put_text(out, text.as_slice()),
     }
 }
 
 /// Appends a space and the value as it is shown: an integer by its digits, a real by its word as it was read, a text by its
-/// bytes, each that isn't printed as `?`; `-` for none and for a value that is left out.
+/// bytes, each that isn't printed as `?`; `-` for none and for a value that is left out. A real or a text of more than 100
+/// bytes is cut, and ends in two dots.
 pub fn put_value(out: &mut Out, value: Option<&Value>) -> Result<(), NoMemory>
     ensures text { OnOk result (out.new ≡ out.old
         ++ space_word (spelled_if (option_copied value.entry))) }

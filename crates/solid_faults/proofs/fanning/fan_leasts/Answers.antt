@@ -1,6 +1,6 @@
 use Rattle.std.proofs.Common.{◌≡◌, ◌∙◌, ap, sym, subst, length}
 use Rattle.edge_uses.specs.ShellRows.{ShellRows}
-use Rattle.edge_components.specs.Components.{AreInside, AreComponents}
+use Rattle.shell_components.specs.Components.{AreInside, AreComponents}
 use Rattle.solid_faults.proofs.FanLemmas.{turns_inside, fans_of_labels}
 use Rattle.solid_faults.proofs.fanning.fan_leasts.Goals as goal
 

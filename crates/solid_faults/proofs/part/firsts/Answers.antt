@@ -1,5 +1,5 @@
 use Rattle.std.proofs.Common.{sym, ◌∙◌, subst, ◌≡◌}
-use Rattle.edge_components.specs.Components.{AreInside, AreComponents}
+use Rattle.shell_components.specs.Components.{AreInside, AreComponents}
 use Rattle.solid_faults.specs.PartPairs.{part_pairs}
 use Rattle.solid_faults.specs.Tallied.{AreTallied}
 use Rattle.solid_faults.proofs.PartLemmas.{pairs_inside, parts_of_labels}

@@ -1,7 +1,7 @@
 use Rattle.std.proofs.Common.{◌==◌, nat_lt, arith}
 use Rattle.solid_faults.specs.declared.edge.Unpaired.{Unpaired}
 use Rattle.solid_faults.specs.UseCounts.{use_count}
-use Rattle.edge_components.proofs.Counting.{counted_step, counted_few}
+use Rattle.shell_components.proofs.Counting.{counted_step, counted_few}
 use Rattle.solid_faults.proofs.tallying.use_counts.Goals as goal
 
 pub one_more-counts-requires-clause-once : goal.one_more-counts-requires-clause-once

@@ -19,7 +19,7 @@ returns c =
     ++ left_line [] (c.len.result - length c.shown_members-shells.result.now))) c.shell_count-count.ensures.count in
     IfOk-weaker c.put_texts.result _ _
     (λ u last. rest_written c.args.listing c.args.file.now c.args.solid.now c.args.all.now c.in_ok-failing.failing.items c.shown_members-shells.result.now
-    c.as_slice.result.now c.bytes.result.now texts.lines texts.paragraphs texts.named
+    c.as_slice.result.now c.bytes.result.now texts.lines texts.page.out texts.page.named
     c.len.result (length c.shown_members-shells.result.now) c.pair_fails.result c.args.out.now c.put_lines.new.out c.put_flags_hint.new.out c.put_texts.new.out
     c.in_ok-failing.ensures c.as_slice.ensures.value c.shown_members-shells.ensures c.in_ok-texts.ensures.lines c.in_ok-texts.ensures.paragraphs
     c.in_ok-texts.ensures.named c.bytes.ensures count refl

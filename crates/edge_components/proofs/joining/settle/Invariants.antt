@@ -1,8 +1,0 @@
-use Rattle.edge_components.specs.Trees.{AreRehung, AreSettled}
-use Rattle.edge_components.proofs.joining.settle.Given as goal
-
-abbrev pub invariant-nodes : goal.invariant-nodes
-invariant-nodes l = record {
-  rehung : AreRehung l.fn.labels.items l.labels.items;
-  settled : AreSettled l.labels.items l.x;
-}

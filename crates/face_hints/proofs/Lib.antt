@@ -1,0 +1,4 @@
+pub mod MateLemmas
+pub mod TornLemmas
+pub mod BodyLemmas
+pub mod ExtraLemmas

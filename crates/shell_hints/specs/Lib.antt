@@ -1,0 +1,4 @@
+pub mod Exactly
+pub mod Counted
+pub mod Tests
+pub mod Leasts

@@ -1,5 +1,0 @@
-use Rattle.solid_faults.proofs.PartSteps.{among}
-use Rattle.solid_faults.proofs.parting.is_among.Goals as goal
-
-pub returns : goal.returns
-returns c = among c.args.n c.args.numbers.now c.places.result.now c.is_empty.result c.places.ensures c.is_empty.ensures

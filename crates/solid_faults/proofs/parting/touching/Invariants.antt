@@ -1,6 +1,0 @@
-use Rattle.std.proofs.Common.{◌≡◌, ◌++◌, drop, flat_map}
-use Rattle.solid_faults.specs.PartTables.{low_vertex}
-use Rattle.solid_faults.proofs.parting.touching.Given as goal
-
-abbrev pub invariant-vertices : goal.invariant-vertices
-invariant-vertices l = l.out.items ++ flat_map (low_vertex l.lows l.first) (drop l.i l.vertices) ≡ flat_map (low_vertex l.lows l.first) l.vertices

@@ -1,0 +1,5 @@
+pub mod Patches
+pub mod Turned
+pub mod Sides
+pub mod Choosing
+pub mod Walks

@@ -1,4 +1,0 @@
-pub mod Placing
-pub mod FaceSteps
-pub mod UpTo
-pub mod TurnSteps

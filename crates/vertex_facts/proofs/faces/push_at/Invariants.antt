@@ -1,6 +1,0 @@
-use Rattle.std.proofs.Common.{◌≡◌, ◌++◌, drop, map}
-use Rattle.vertex_facts.specs.FaceTable.{at_vertex}
-use Rattle.vertex_facts.proofs.faces.push_at.Given as goal
-
-abbrev pub invariant-vertices : goal.invariant-vertices
-invariant-vertices l = l.out.items ++ map (at_vertex l.shell l.face) (drop l.i l.vertices) ≡ l.fn.out.items ++ map (at_vertex l.shell l.face) l.vertices

@@ -1,3 +1,0 @@
-pub mod FanFacts
-pub mod VertexFaces
-pub mod FaceTable

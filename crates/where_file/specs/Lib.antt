@@ -1,0 +1,4 @@
+pub mod FileLine
+pub mod LineFacts
+pub mod Looks
+pub mod BadFile

@@ -1,0 +1,31 @@
+//! What a bad file, or the line of it that fails, looks like.
+
+/// A kind of file that isn't one of IGES, or what was done to the line that fails.
+#[derive(Clone, Copy, Debug, PartialEq, Eq)]
+pub enum Look {
+    Empty,
+    Gzip,
+    Zip,
+    Pdf,
+    Utf16,
+    ByteOrderMark,
+    Certificate,
+    Brep,
+    Parasolid,
+    Dwg,
+    Stl,
+    Step,
+    Markup,
+    ControlZ,
+    Nuls,
+    SecondFile,
+    LowerCase,
+    NoLineEnds,
+    TwoCrs,
+    CrAlone,
+    Tabs,
+    Utf8,
+    NoNumbers,
+    Blank,
+    CutOff,
+}

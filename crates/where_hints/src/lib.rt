@@ -1,0 +1,12 @@
+//! The hints on a shell that isn't closed: what is found of it, and the lines that say so.
+#![tactic(auto)]
+
+mod bodies;
+mod counts;
+mod facts;
+mod sentences;
+mod writing;
+
+pub use facts::{Hints, hints_of};
+pub use sentences::Hint;
+pub use writing::put_hints;

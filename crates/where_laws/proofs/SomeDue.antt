@@ -1,0 +1,44 @@
+-- Whatever the words and the bytes are, some answer is owed.
+use Rattle.std.specs.Prelude.{◌≡◌, ◌≤◌, ℕ, List, [], length, Option, Some, None, MatchOption}
+use Rattle.std.proofs.Common.{refl, inl, inr}
+use Rattle.iges_base.specs.declared.TheConstants.{FILE_LIMIT}
+use Rattle.iges_params.specs.Contents.{Contents}
+use Rattle.iges_params.specs.IsFile.{IsFile}
+use Rattle.iges_params.specs.Refusal.{HasOneReading}
+use Rattle.iges_params.proofs.FileExact.{one_reading}
+use Rattle.iges_write.proofs.Made.{can_be_made}
+use Rattle.solid_data.proofs.Decisions.{Decided, decided_within}
+use Rattle.command_replies.specs.declared.answer.Answer.{Answer}
+use Rattle.command_replies.specs.declared.answer.Answer.TheVariants as answer
+use Rattle.command_replies.specs.Due.{Exactly}
+use Rattle.command_replies.proofs.SomeDue.{IsSome, longer}
+use Rattle.where_solids.specs.Listed.{solids_of}
+use Rattle.where_solids.specs.Overview.{all_close, overview_text}
+use Rattle.where_command.specs.declared.asked.Asked.{Asked}
+use Rattle.where_command.specs.declared.asked.Asked.TheVariants as asked
+use Rattle.where_command.specs.Asked.{asked_of, usage_line}
+use Rattle.where_command.specs.Due.{DueOf, OfContents, answer_to, answer_where, bad_file, bad_file_text, file_too_large}
+use Rattle.where_laws.specs.SomeAnswer.{SomeAnswerIsOwed}
+use Rattle.where_laws.proofs.Told.{some_told, some_verdicts}
+
+contents_due : (q : Asked) (f : Contents) (bytes : List ℕ) → length bytes ≤ FILE_LIMIT → IsFile bytes f → IsSome (OfContents q f)
+contents_due asked.Overview f bytes few is =
+    let vs = some_verdicts f (solids_of f) in
+    (answer_where (all_close vs.0), overview_text f vs.0, (vs.0, record { judged = vs.1; text_is = refl }, refl))
+contents_due (asked.Solid n listing) f bytes few is =
+    let told = some_told listing f (record { 0 = n }) (can_be_made bytes f few is).made.limits in (answer_to told.0, told.1, (told.0, told.2, refl))
+
+due_of : (q : Asked) (bytes : List ℕ) → IsSome (DueOf q bytes)
+due_of q bytes = by_limit (decided_within (length bytes) FILE_LIMIT) (one_reading bytes)
+  where
+    by_limit : Decided (length bytes ≤ FILE_LIMIT) → HasOneReading bytes → IsSome (DueOf q bytes)
+    by_limit (inr more) reading = (answer.TooLarge, [], inl (file_too_large (longer (length bytes) FILE_LIMIT more)))
+    by_limit (inl few) (inl (f, only, never)) = let due = contents_due q f bytes few only.0 in (due.0, due.1, inr (few, f, only.0, due.2))
+    by_limit (inl few) (inr (fault, only, never)) = (answer.BadFile, bad_file_text fault, inl (bad_file few fault only.0))
+
+pub some_answer : SomeAnswerIsOwed
+some_answer words bytes = by_asked (asked_of words)
+  where
+    by_asked : (o : Option Asked) → IsSome (λ a t. MatchOption o (Exactly answer.Usage usage_line a t) (λ q. DueOf q bytes a t))
+    by_asked None = (answer.Usage, usage_line, (refl, refl))
+    by_asked (Some q) = due_of q bytes

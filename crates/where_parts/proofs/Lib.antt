@@ -1,3 +1,0 @@
-pub mod ItemSteps
-pub mod ReachSteps
-pub mod SharedBelow

@@ -1,4 +1,0 @@
-pub mod Lines
-pub mod Reach
-pub mod Apart
-pub mod Link

@@ -1,0 +1,6 @@
+pub mod Lines
+pub mod Join
+pub mod Pair
+pub mod Reach
+pub mod Link
+pub mod Apart

@@ -1,0 +1,26 @@
+//! A shell that is described, and the text on it.
+
+use edge_uses::Rows;
+use iges_base::Out;
+use iges_params::File;
+use shell_facts::VertexFaces;
+use solid_data::{ShellAt, Solid};
+use where_text::{EntryNumbers, Listing};
+
+/// A shell of a solid of a file, its rows, the faces at each vertex of the solid, and how much is written of each list.
+#[derive(Drop)]
+pub struct ShellView<'a> {
+    pub file: &'a File,
+    pub solid: &'a Solid,
+    pub at: ShellAt,
+    pub rows: &'a Rows,
+    pub faces: &'a VertexFaces,
+    pub listing: Listing,
+}
+
+/// A text, and the entities that its facts name, in the order of writing, with repeats.
+#[derive(Drop)]
+pub struct Page {
+    pub out: Out,
+    pub named: EntryNumbers,
+}
