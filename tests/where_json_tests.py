@@ -69,10 +69,10 @@ def schema(where_json, lines):
     for word, shapes in lines.HEADS.items():
         more = {"facts": list_of(f"fact of {word}")} if word in lines.FACTS else {}
         if word in lines.HOLDERS:
-            more["items"] = list_of("item")
+            more["items"] = list_of("item of a rule or a hint")
         definitions[word] = {"anyOf": [of_head(lines, shape, more) for shape in shapes]}
     named = lambda words: {"anyOf": [{"$ref": f"#/$defs/{word}"} for word in words]}
-    definitions["item"] = named((*lines.ITEMS, "more"))
+    definitions["item of a rule or a hint"] = named((*lines.ITEMS, "more"))
     definitions["head line"] = named(word for word in lines.HEADS if word not in lines.ITEMS)
     whole = {"schema": {"const": where_json.SCHEMA}, "lines": list_of("head line")}
     about = {"$schema": "https://json-schema.org/draft/2020-12/schema", "title": "What igesolid where --json prints"}
@@ -102,14 +102,15 @@ def on_page():
     for _, told, *_ in rows(page, "Row"):
         hint, *items = told.split("; ")
         heads.update((it, True) for it in quoted(hint))
-        for item in items:
-            head, *own = quoted(item)
+        for head, *own in map(quoted, items):
             heads[head] = False
             facts.setdefault(head.split()[0], []).extend(own)
-    for first, own in rows(page, "Head line"):
+    for first, own, *_ in (*rows(page, "Item"), *rows(page, "Head line")):
         for head in quoted(first):
             heads[head] = own == "a sentence"
-            facts[head.split()[0]] = quoted(own)
+        facts.setdefault(head.split()[0], []).extend(quoted(own))
+    facts["item"], facts["entity"] = ([it for first, *_ in rows(page, title) for it in quoted(first)] for title in ("Fact \\| At", "Fact \\| If"))
+    facts["solid"] = facts["entity"]
     return heads, {word: own for word, own in facts.items() if own}
 
 

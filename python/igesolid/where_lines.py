@@ -114,8 +114,8 @@ entity <entity> <type> surface <surface> <surface_type>
   level <level>
   colour <colour> <red> <green> <blue> <name>
   colour <colour> <red> <green> <blue>
-  colour <colour> <word>
   colour <colour>
+  colour <colour> <word>
   matrix <matrix>
   label <label>
   subscript <subscript>
