@@ -7,6 +7,8 @@ from surfaces import LINE, PLANE, Entries
 CELLS = list(itertools.product(range(2), range(2), range(1)))
 # What faces that meet share: all that lies alike; all within a body; vertices alone; or nothing.
 SHARING = "all", "all", "all", "all", "body", "vertices", "none"
+# From this number on a face shares nothing.
+LOOSE = 1000
 
 
 def square(cell, axis, side):
@@ -64,7 +66,7 @@ class Lattice:
 
     def loosen(self):
         """A face that shares nothing."""
-        self.rng.choice(self.faces).number = 1000 + self.rng.randrange(9)
+        self.rng.choice(self.faces).number = LOOSE + self.rng.randrange(9)
 
     def read_otherwise(self):
         """A face's flag that speaks of its surface alone."""
@@ -73,8 +75,8 @@ class Lattice:
 
     def key(self, face, thing, is_vertex):
         """A vertex or an edge, by what it is shared with."""
-        owner = face.number if face.number >= 1000 else {"all": "", "body": face.body, "vertices": "" if is_vertex else face.number, "none": face.number}[self.sharing]
-        return thing, owner
+        owners = {"all": "", "body": face.body, "vertices": "" if is_vertex else face.number, "none": face.number}
+        return thing, face.number if face.number >= LOOSE else owners[self.sharing]
 
 
 def loop_of(lattice, face, vertices, edges):

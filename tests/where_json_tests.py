@@ -168,7 +168,8 @@ def round_trips(folder, program, where_json, is_valid):
 def refused(where_json, lines):
     """Texts with a line of no shape, or laid out otherwise."""
     good = (TOP / "tests" / "recorded" / "fail_pair.1.txt").read_text()
-    changed = good + "more\n", good.replace("\n\n", "\n", 1), good.replace("once\n  against", "once against"), good[:-1], good.replace("once 1", "once one")
+    changed = good + "more\n", good.replace("\n\n", "\n", 1), good.replace("once\n  against", "once against"), good[:-1]
+    changed += (good.replace("once 1", "once one"),)
     for text in changed:
         try:
             where_json.json_of(text)

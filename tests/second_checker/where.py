@@ -16,8 +16,8 @@ from .walking import ANY_TOPOLOGY, Fail, Walk
 from .where_hints import put_shell_hints, unset_faces
 
 LIMIT = 20
-# Of the faces at a vertex of APART.
-FEW = 5
+# Of faces at a vertex of APART.
+FACE_LIMIT = 5
 WORD_LIMIT = 100
 DOC = {}
 
@@ -307,7 +307,7 @@ class View:
         for vertex in self.shared:
             views = [view for view in (*self.earlier, self) if vertex in view.vertices]
             facts = [f"in shell {view.place} face {view.face(face)}" for view in views for face in view.faces_at(vertex)]
-            items.append(text.item(f"vertex {self.vertex(vertex)}", facts, FEW))
+            items.append(text.item(f"vertex {self.vertex(vertex)}", facts, FACE_LIMIT))
         return items
 
     def put(self, text):
