@@ -2,7 +2,6 @@
 use Rattle.std.specs.Prelude.{ℕ, Bool, true, false, not, ◌&&◌, ◌||◌, ◌==◌, nat_eq, nat_lt, nat_le, List, [], ◌∷◌, ◌++◌, length, drop, take, find, Option, Some, None, MatchOption}
 use Rattle.std.specs.Prelude.{codes, option_map, slice_index, slice_index_or, if◌then◌else◌, count_by}
 use Rattle.std.specs.List.{list_all, list_any, prefix_len, starts_with}
-use Rattle.iges_base.specs.Word.{is_empty}
 use Rattle.iges_lines.specs.declared.reason.Reason.{Reason}
 use Rattle.iges_lines.specs.declared.reason.Reason.TheVariants as reason
 use Rattle.where_file.specs.declared.look.Look.{Look}
