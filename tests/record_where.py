@@ -1,6 +1,7 @@
 #!/usr/bin/env python3
-"""Records anew what tests and pages quote of `where`: the texts of tests/recorded, the samples in README.md and docs/COMMANDS.md, the verdicts and
-hints in docs/GALLERY.md, and the checksum in the last row of docs/CHANGES.md. Prints the name of each file that changes.
+"""Records anew what tests and pages quote of `where`: the texts of tests/recorded, the stored run of the crate igesolid_where, the samples in README.md
+and docs/COMMANDS.md, the verdicts and hints in docs/GALLERY.md, and the checksum in the last row of docs/CHANGES.md. Prints the name of each
+file that changes.
 
   tests/record_where.py [PROGRAM]    by igesolid-where, or else by the one that tests/run takes"""
 import hashlib
@@ -24,14 +25,19 @@ def write(path, text):
         print(path.relative_to(TOP))
 
 
-def told(where, *words):
-    return subprocess.run([where, *map(str, words)], cwd=TOP, stdout=subprocess.PIPE).stdout.decode()
+def told(where, *words, folder=TOP):
+    return subprocess.run([where, *map(str, words)], cwd=folder, stdout=subprocess.PIPE).stdout.decode()
 
 
 def record_texts(where):
     for path in sorted(RECORDED.glob("*.txt")):
         name, number = path.stem.rsplit(".", 1)
         write(path, told(where, example(name), number, "all"))
+
+
+def record_run(where):
+    crate = TOP / "crates" / "igesolid_where"
+    write(crate / "stdout", told(where, *(crate / "args").read_text().splitlines(), folder=crate / "data"))
 
 
 def record_samples(where):
@@ -65,6 +71,7 @@ def record_checksum():
 def main(words):
     where = pathlib.Path(words[0]).resolve() if words else chosen().where
     record_texts(where)
+    record_run(where)
     record_samples(where)
     record_gallery(where)
     record_checksum()
