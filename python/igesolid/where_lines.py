@@ -114,8 +114,8 @@ entity <entity> <type> surface <surface> <surface_type>
   level <level>
   colour <colour> <red> <green> <blue> <name>
   colour <colour> <red> <green> <blue>
-  colour <colour>
   colour <colour> <word>
+  colour <colour>
   matrix <matrix>
   label <label>
   subscript <subscript>
