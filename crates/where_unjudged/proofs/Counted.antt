@@ -1,5 +1,6 @@
 -- How many entities of a type there are, entry by entry.
-use Rattle.std.specs.Prelude.{◌≡◌, ◌∷◌, ℕ, suc, true, false, Bool, ◌||◌, nat_lt, ◌+◌, ◌<◌, ◌≤◌, ◌^◌, ℤ, pos, List, length, count_by, Some, None, unwrap_or, option_map, slice_get, if◌then◌else◌}
+use Rattle.std.specs.Prelude.{◌≡◌, ◌∷◌, ℕ, suc, true, false, Bool, ◌||◌, nat_lt, ◌+◌, ◌<◌, ◌≤◌}
+use Rattle.std.specs.Prelude.{◌^◌, ℤ, pos, List, length, count_by, Some, None, unwrap_or, option_map, slice_get, if◌then◌else◌}
 use Rattle.std.specs.Ordering.{int_eq}
 use Rattle.std.proofs.Common.{sym, ap, ◌∙◌, arith, get_or, take, drop, inl, inr}
 use Rattle.std.proofs.Math.Seq.{drop-cons}

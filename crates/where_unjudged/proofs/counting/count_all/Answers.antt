@@ -15,5 +15,6 @@ entries-preserved c =
     record {
       len = search rules;
       counts = λ t lt. count_more c.args.file.now.entries c.entries.i t c.kind_at.result _ (get_or c.entries.counts t 0) (get_or c.count.new.counts t 0)
-          c.kind_at.ensures (c.entries.invariant.counts t lt) (to_z-of_z w64 c.kind_at.result fits) (c.count.ensures t (omega (arith, lt, c.entries.invariant.len)));
+          c.kind_at.ensures (c.entries.invariant.counts t lt)
+          (to_z-of_z w64 c.kind_at.result fits) (c.count.ensures t (omega (arith, lt, c.entries.invariant.len)));
     }
