@@ -1,0 +1,6 @@
+pub mod Named
+pub mod Loose
+pub mod Counts
+pub mod Lines
+pub mod Hints
+pub mod Unjudged
