@@ -4,15 +4,21 @@ use Rattle.std.specs.List.{AllByRecursion, enumerate_from}
 use Rattle.std.specs.Cmp.{unsigned_Decides}
 use Rattle.std.specs.Cmp.Lexicographic.{pointwise, pointwise_decides}
 use Rattle.std.proofs.Common.{refl, sym, ◌∙◌, ap, subst, arith, inl, inr, ⊎_elim}
-use Rattle.std.proofs.lemmas.Nat.{cases_lt}
+use Rattle.std.proofs.lemmas.Bool.Decides.{leb_tells, Decides-ltb}
+use Rattle.std.specs.Prelude.{IsTrue, nat_lt}
 use Rattle.std.proofs.lemmas.Option.{same_Some, slice_get_within}
 use Rattle.solid_data.proofs.Members.{Has, Rises, All-at, All-from, has_left, has_right, has_last}
 use Rattle.solid_data.specs.declared.solid.FaceUse.{FaceUse}
 use Rattle.shell_components.specs.FaceUses.{face_edges}
 use Rattle.shell_components.specs.Groups.{place_if, places_of, count_of}
 use Rattle.doubled_faces.specs.Doubles.{IsCrowded, AreSame, IsCopy, IsDouble, AreDoubles}
-use Rattle.doubled_faces.specs.Keyed.{MayBeCopy, IsKey, IsFaceKey, AreFound, AddsTo, Adds}
-use Rattle.doubled_faces.proofs.SortedLists.{mark, often, often_has, has_often, often_same, key_one, one_key}
+use Rattle.std.specs.Map.{lookup}
+use Rattle.indexmap.specs.IndexMap.{insert_entry}
+use Rattle.doubled_faces.specs.Keyed.{AreUsedThrice, MayBeCopy, IsKey, IsFaceKey, AreFound, AddsTo, Adds}
+use Rattle.doubled_faces.proofs.SortedLists.{mark, often, count_often, often_has, has_often, often_same, key_one, one_key}
+
+cases_lt : (k n : ℕ) → (k < n) ⊎ (n ≤ k)
+cases_lt k n = ⊎_elim (λ h. inr h.1) (λ h. inl h.1) (leb_tells n k)
 
 last_or : (k n : ℕ) → k < n + 1 → (k < n) ⊎ (k ≡ n)
 last_or k n lt = ⊎_elim (λ a. inl a) (λ b. inr (omega (arith, lt, b))) (cases_lt k n)
@@ -120,7 +126,12 @@ doubled faces n i f key old new x y at may is h old_key same pushed =
     let double : IsDouble faces n i = record {
       before = g.0;
       copy = record {
-        face = f; other = g.1; at_j = at; at_i = g.2; some = may.some; crowded = may.crowded;
+        face = f;
+        other = g.1;
+        at_j = at;
+        at_i = g.2;
+        some = may.some;
+        crowded = may.crowded;
         same = one_key (face_edges f) (face_edges g.1) key is g.4;
       };
       first = λ k c.
@@ -162,12 +173,14 @@ begun faces n f key old new x y at may is h old_key put kept =
   where
     decides : (ks ls : List ℕ) → (pointwise ◌==◌ ks ls ≡ true → ks ≡ ls) × (ks ≡ ls → pointwise ◌==◌ ks ls ≡ true)
     decides ks ls = pointwise_decides unsigned_Decides ks ls
+
     found_in : (q : List ℕ) (v : ℕ) (b : Bool) → pointwise ◌==◌ key q ≡ b → (if b then Some n else old q) ≡ Some v
         → (v < n + 1) × (g : FaceUse) × (slice_get faces v ≡ Some g) × MayBeCopy faces g × IsKey (face_edges g) q
     found_in q v true e its =
         let one : n ≡ v = same_Some n v its in
         (omega (arith, one), f, ap (slice_get faces) (sym one) ∙ at, may, subst (IsKey (face_edges f)) ((decides key q).0 e) is)
     found_in q v false e its = let k = h.found q v its in (omega (arith, k.0), k.1, k.2, k.3, k.4)
+
     old_in : (q : List ℕ) (v : ℕ) (b : Bool) → pointwise ◌==◌ key q ≡ b → old q ≡ Some v → (if b then Some n else old q) ≡ Some v
     old_in q v true e its = absurd (some_is_none (old key) v (ap old ((decides key q).0 e) ∙ its) old_key)
     old_in q v false e its = its
@@ -207,3 +220,58 @@ places_often n base (x ∷ xs) = by_test (x == n) (flat_map (place_if n) (enumer
     by_test : (b : Bool) (rest : List ℕ) (m : ℕ) → length rest ≡ m → length ((if b then base ∷ [] else []) ++ rest) ≡ cond b 1 0 + m
     by_test true rest m h = omega (arith, h)
     by_test false rest m h = omega (arith, h)
+
+true_false : true ≡ false → ⊥
+true_false e = cc
+
+pub crowded_tells : (e : ℕ) (uses places : List ℕ) → places ≡ places_of e uses → IsTrue (nat_lt 2 (length places)) ↔ (2 < count_of e uses)
+crowded_tells e uses places is =
+    let many : length places ≡ count_of e uses = ap length is ∙ (places_often e 0 uses ∙ sym (count_often e uses)) in
+    ((λ t. let lt = (Decides-ltb 2 (length places)).0 t in omega (arith, lt, many)), (λ lt. (Decides-ltb 2 (length places)).1 (omega (arith, lt, many))))
+
+pub no_copy : (faces : List FaceUse) (f : FaceUse) (uses edges : List ℕ) → uses ≡ flat_map face_edges faces → edges ≡ face_edges f
+    → (AreUsedThrice uses edges → IsTrue false) → MayBeCopy faces f → ⊥
+no_copy faces f uses edges is_uses is_edges off may =
+    true_false (sym (off (subst (λ us. AreUsedThrice us edges) (sym is_uses) (subst (AreUsedThrice (flat_map face_edges faces)) (sym is_edges) (may.some, may.crowded)))))
+
+pub a_copy : (faces : List FaceUse) (f : FaceUse) (uses edges key : List ℕ) → uses ≡ flat_map face_edges faces → edges ≡ face_edges f
+    → AreUsedThrice uses edges → IsKey edges key → MayBeCopy faces f × IsKey (face_edges f) key
+a_copy faces f uses edges key is_uses is_edges h is_key =
+    let k : AreUsedThrice (flat_map face_edges faces) (face_edges f) = subst (AreUsedThrice (flat_map face_edges faces)) is_edges
+    (subst (λ us. AreUsedThrice us edges) is_uses h) in
+    (record { some = k.0; crowded = k.1 }, subst (λ xs. IsKey xs key) is_edges is_key)
+
+decided : (ks ls : List ℕ) → (pointwise ◌==◌ ks ls ≡ true → ks ≡ ls) × (ks ≡ ls → pointwise ◌==◌ ks ls ≡ true)
+decided ks ls = pointwise_decides unsigned_Decides ks ls
+
+turned : (a b : List ℕ) (s t : Bool) → pointwise ◌==◌ a b ≡ s → pointwise ◌==◌ b a ≡ t → s ≡ t
+turned a b true true e g = refl
+turned a b false false e g = refl
+turned a b true false e g = absurd (true_false (sym ((decided b a).1 (sym ((decided a b).0 e))) ∙ g))
+turned a b false true e g = absurd (true_false (sym ((decided a b).1 (sym ((decided b a).0 g))) ∙ e))
+
+by_q : (key q other : List ℕ) (v old : ℕ) (r s : Option ℕ) (a : Bool) → pointwise ◌==◌ q other ≡ a → (b : Bool) → pointwise ◌==◌ key q ≡ b
+    → pointwise ◌==◌ key other ≡ false → r ≡ (if b then Some v else s)
+    → (if a then Some old else r) ≡ (if b then Some v else (if a then Some old else s))
+by_q key q other v old r s true ea true eb is g =
+    absurd (true_false (sym eb ∙ (ap (pointwise ◌==◌ key) ((decided q other).0 ea) ∙ is)))
+by_q key q other v old r s true ea false eb is g = refl
+by_q key q other v old r s false ea b eb is g = g
+
+-- what is looked up after a key was put that wasn't there
+pub put_key : {K : Type 0} (items : K → List ℕ) (es : List (K × ℕ)) (key : K) (v : ℕ) → lookup (λ k. pointwise ◌==◌ (items key) (items k)) es ≡ None
+    → (q : List ℕ) → lookup (λ k. pointwise ◌==◌ q (items k)) (insert_entry (λ a b. pointwise ◌==◌ (items a) (items b)) es key v)
+    ≡ (if pointwise ◌==◌ (items key) q then Some v else lookup (λ k. pointwise ◌==◌ q (items k)) es)
+put_key items [] key v none q = ap (λ b. if b then Some v else None) (turned q (items key) (pointwise ◌==◌ q (items key)) (pointwise ◌==◌ (items key) q) refl refl)
+put_key items (e ∷ es) key v none q = by_key (pointwise ◌==◌ (items key) (items e.0)) refl none (λ h. put_key items es key v h q)
+  where
+    by_key : (b : Bool) → pointwise ◌==◌ (items key) (items e.0) ≡ b
+        → (if b then Some e.1 else lookup (λ k. pointwise ◌==◌ (items key) (items k)) es) ≡ None
+        → (lookup (λ k. pointwise ◌==◌ (items key) (items k)) es ≡ None
+        → lookup (λ k. pointwise ◌==◌ q (items k)) (insert_entry (λ a b. pointwise ◌==◌ (items a) (items b)) es key v)
+        ≡ (if pointwise ◌==◌ (items key) q then Some v else lookup (λ k. pointwise ◌==◌ q (items k)) es))
+        → lookup (λ k. pointwise ◌==◌ q (items k)) (if b then (e.0, v) ∷ es else e ∷ insert_entry (λ a b. pointwise ◌==◌ (items a) (items b)) es key v)
+        ≡ (if pointwise ◌==◌ (items key) q then Some v else (if pointwise ◌==◌ q (items e.0) then Some e.1 else lookup (λ k. pointwise ◌==◌ q (items k)) es))
+    by_key true is h on = absurd cc
+    by_key false is h on = by_q (items key) q (items e.0) v e.1 (lookup (λ k. pointwise ◌==◌ q (items k)) (insert_entry (λ a b. pointwise ◌==◌ (items a) (items b)) es key v))
+        (lookup (λ k. pointwise ◌==◌ q (items k)) es) (pointwise ◌==◌ q (items e.0)) refl (pointwise ◌==◌ (items key) q) refl is (on h)

@@ -1,8 +1,8 @@
 -- A list that is sorted tells how often each number is in it.
 use Rattle.std.specs.Prelude.{◌≡◌, ◌<◌, ◌≤◌, ◌+◌, ◌==◌, ◌⊎◌, ℕ, zero, suc, Bool, true, false, cond, List, [], ◌∷◌, length}
-use Rattle.std.specs.Ordering.{nat_cmp}
+use Rattle.std.specs.Ordering.{nat_cmp, is_lt}
 use Rattle.std.specs.List.Sorted.{IsSorted, IsPermutation}
-use Rattle.std.proofs.Common.{refl, sym, ◌∙◌, ap, subst, arith, inl, inr, ⊎_elim}
+use Rattle.std.proofs.Common.{refl, sym, ◌∙◌, ap, subst, arith, inl, inr, ⊎_elim, get_or}
 use Rattle.std.proofs.lemmas.Bool.{eq-eqb, eqb-true}
 use Rattle.std.proofs.lemmas.Bool.Decides.{eqb_tells}
 use Rattle.std.proofs.lemmas.List.Sorted.{sum_by-IsPermutation}
@@ -44,9 +44,12 @@ Ascends (x ∷ y ∷ ys) = (x ≤ y) × Ascends (y ∷ ys)
 pub ascends : (xs : List ℕ) → IsSorted nat_cmp xs → Ascends xs
 ascends [] h = tt
 ascends (x ∷ []) h = tt
-ascends (x ∷ y ∷ ys) h =
-    (ge_from_not_lt y x (h 0 0 (omega arith) (omega arith)),
-    ascends (y ∷ ys) (λ k d low lt. h (suc k) d (omega arith) (omega (arith, lt))))
+ascends (x ∷ y ∷ ys) h = (
+  ge_from_not_lt y x (h 0 0 (omega arith) (omega arith)),
+  ascends (y ∷ ys) (λ k d low lt.
+      subst (λ n. is_lt (nat_cmp (get_or (x ∷ y ∷ ys) n d) (get_or (y ∷ ys) k d)) ≡ false) {x = suc k + 1} {y = suc (k + 1)} (omega arith)
+      (h (suc k) d (omega arith) (omega (arith, lt)))),
+)
 
 low_head : (x : ℕ) (xs : List ℕ) → Ascends (x ∷ xs) → (y : ℕ) → Has (x ∷ xs) y → x ≤ y
 low_head x [] up y h = ⊎_elim (λ e. omega (arith, e)) (λ m. absurd m) h

@@ -7,12 +7,17 @@ use Rattle.std.specs.Cmp.Lexicographic.{pointwise}
 use Rattle.solid_data.proofs.Members.{Has, Rises}
 use Rattle.solid_data.specs.declared.solid.FaceUse.{FaceUse}
 use Rattle.shell_components.specs.FaceUses.{face_edges}
+use Rattle.shell_components.specs.Groups.{count_of}
 use Rattle.doubled_faces.specs.Doubles.{IsCrowded, AreSame, IsDouble}
 
 -- the face has an edge, and only crowded ones
 pub record MayBeCopy (faces : List FaceUse) (face : FaceUse) : Type 0 where
   pub some : 0 < length (face_edges face)
   pub crowded : AllByRecursion (IsCrowded faces) (face_edges face)
+
+-- there is an edge, and each is used three times or more
+abbrev pub AreUsedThrice : List ℕ → List ℕ → Type 0
+AreUsedThrice uses edges = (0 < length edges) × AllByRecursion (λ e. 2 < count_of e uses) edges
 
 -- the numbers in order, each as often
 pub record IsKey (xs key : List ℕ) : Type 0 where

@@ -1,10 +1,10 @@
 //! The faces that have the key of an earlier one.
 
-ghost use Rattle.std.specs.Prelude.{◌≡◌, ◌==◌, ◌<◌, ◌^◌, Some, IfOk, length, option_map, slice_get};
+ghost use Rattle.std.specs.Prelude.{◌≡◌, ◌==◌, ◌<◌, ◌^◌, ℕ, List, None, Some, if◌then◌else◌, IfOk, length, option_map, slice_get};
 ghost use Rattle.std.specs.Cmp.Lexicographic.{pointwise};
 ghost use Rattle.indexmap.specs.IndexMap.{get_by};
 ghost use Rattle.doubled_faces.specs.Doubles.{AreDoubles};
-ghost use Rattle.doubled_faces.specs.Keyed.{Adds};
+ghost use Rattle.doubled_faces.specs.Keyed.{Adds, AddsTo};
 
 use crate::keys::{face_key, uses_by_edge};
 use iges_base::NoMemory;
@@ -13,8 +13,43 @@ use shell_components::nothing_used;
 use solid_data::{FaceUse, Solid};
 use std::alloc::Global;
 
+// The first face of a key.
+fn first_with(firsts: &IndexMap<Vec<u32>, u32>, key: &Vec<u32>) -> Option<u32>
+    ensures { result ≡ get_by (λ k. pointwise ◌==◌ key.now.items k.items) firsts.now }
+{
+    firsts.get(key).copied()
+}
+
+fn put(firsts: &mut IndexMap<Vec<u32>, u32>, key: Vec<u32>, face: u32) -> Result<(), NoMemory>
+    ensures { IfOk result (λ _. get_by (λ k. pointwise ◌==◌ key.items k.items) firsts.old ≡ None
+        → (q : List ℕ) → get_by (λ k. pointwise ◌==◌ q k.items) firsts.new
+        ≡ (if pointwise ◌==◌ key.items q then Some face else get_by (λ k. pointwise ◌==◌ q k.items) firsts.old)) }
+{
+    firsts.insert(key, face)?;
+    Ok(())
+}
+
 // Puts a face with its key to those before.
 fn add(
+    firsts: &mut IndexMap<Vec<u32>, u32>,
+    doubles: &mut Vec<(u32, u32)>,
+    face: u32,
+    key: Vec<u32>,
+) -> Result<(), NoMemory>
+    ensures { IfOk result (λ _. AddsTo face key.items (get_by (λ k. pointwise ◌==◌ key.items k.items) firsts.old)
+        (λ q. get_by (λ k. pointwise ◌==◌ q k.items) firsts.old) (λ q. get_by (λ k. pointwise ◌==◌ q k.items) firsts.new) doubles.old.items doubles.new.items) }
+{
+    match first_with(firsts, &key) {
+        Some(first) => {
+            doubles.push((face, first))?;
+            Ok(())
+        }
+        None => put(firsts, key, face),
+    }
+}
+
+// The same of a face that may have no key.
+fn add_face(
     firsts: &mut IndexMap<Vec<u32>, u32>,
     doubles: &mut Vec<(u32, u32)>,
     face: u32,
@@ -23,16 +58,10 @@ fn add(
     ensures { IfOk result (λ _. Adds face (option_map (λ v. v.items) key)
         (λ q. get_by (λ k. pointwise ◌==◌ q k.items) firsts.old) (λ q. get_by (λ k. pointwise ◌==◌ q k.items) firsts.new) doubles.old.items doubles.new.items) }
 {
-    let Some(key) = key else {
-        return Ok(());
-    };
-    match firsts.get(&key).copied() {
-        Some(first) => doubles.push((face, first))?,
-        None => {
-            firsts.insert(key, face)?;
-        }
+    match key {
+        None => Ok(()),
+        Some(key) => add(firsts, doubles, face, key),
     }
-    Ok(())
 }
 
 fn face_at(faces: &[FaceUse], i: usize) -> &FaceUse
@@ -58,7 +87,7 @@ pub(crate) fn doubles_among(
     'faces: for i in 0..faces.len() {
         let face = face_at(faces, i);
         let key = face_key(alloc, solid, &uses, face, &mut used)?;
-        add(&mut firsts, &mut doubles, i as u32, key)?;
+        add_face(&mut firsts, &mut doubles, i as u32, key)?;
     }
     Ok(doubles)
 }

@@ -6,7 +6,7 @@ ghost use Rattle.solid_data.specs.declared.solid.FaceUse.{FaceUse as AnyFace};
 ghost use Rattle.edge_uses.specs.Ranges.{IsWithin};
 ghost use Rattle.shell_components.specs.FaceUses.{face_edges};
 ghost use Rattle.shell_components.specs.Groups.{count_of};
-ghost use Rattle.doubled_faces.specs.Keyed.{IsKey, IsFaceKey};
+ghost use Rattle.doubled_faces.specs.Keyed.{AreUsedThrice, IsKey, IsFaceKey};
 
 use edge_uses::Span;
 use iges_base::NoMemory;
@@ -82,6 +82,12 @@ fn are_crowded(uses: &Groups, edges: &[u32]) -> bool
     true
 }
 
+fn may_be_copy(uses: &Groups, edges: &[u32]) -> bool
+    ensures { IsTrue result ↔ AreUsedThrice uses.now edges.now }
+{
+    !edges.is_empty() && are_crowded(uses, edges)
+}
+
 fn sorted_key(alloc: Global, edges: &[u32]) -> Result<Vec<u32>, NoMemory>
     ensures { IfOk result (λ key. IsKey edges.now key.items) }
 {
@@ -103,7 +109,7 @@ pub(crate) fn face_key(
 {
     used_by(solid, face, used)?;
     let edges = used.edges.as_slice();
-    if edges.is_empty() || !are_crowded(uses, edges) {
+    if !may_be_copy(uses, edges) {
         return Ok(None);
     }
     let key = sorted_key(alloc, edges)?;
