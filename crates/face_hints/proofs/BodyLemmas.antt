@@ -8,14 +8,14 @@ use Rattle.solid_data.proofs.Members.{Has, has_left, has_right, has_append}
 use Rattle.solid_data.specs.SolidData.{SolidData}
 use Rattle.solid_data.specs.declared.solid.Shell.{Shell}
 use Rattle.edge_uses.specs.ShellRows.{shell_rows}
-use Rattle.solid_faults.specs.PartFacts.{parts_of}
-use Rattle.solid_faults.proofs.PartSteps.{all_from}
-use Rattle.shell_hints.specs.Exactly.{AreThose, IsExactly}
-use Rattle.shell_hints.proofs.LeastLemmas.{leasts_one}
-use Rattle.shell_hints.proofs.Those.{those_one, those_hold, those_among, those_fewer}
+use Rattle.shell_classes.specs.Leasts.{classes_of}
+use Rattle.shell_classes.proofs.Steps.{all_from}
+use Rattle.shell_classes.specs.Exactly.{AreThose, IsExactly}
+use Rattle.shell_classes.proofs.LeastLemmas.{leasts_one}
+use Rattle.shell_classes.proofs.Those.{those_one, those_hold, those_among, those_fewer}
 use Rattle.face_hints.specs.Pieces.{ShareMates, ArePieces, piece_faces}
 use Rattle.face_hints.specs.Bodies.{AreClosed, IsTorn, Bodies, AreBodies, stray_if, strays_of}
-use Rattle.shell_hints.proofs.PlaceLemmas.{part_below, parts_fewer}
+use Rattle.shell_classes.proofs.PlaceLemmas.{part_below, parts_fewer}
 
 -- the piece that begins with p is closed by itself
 abbrev pub ClosedIn : SolidData → Shell → List ℕ → ℕ → Type 0
@@ -26,9 +26,6 @@ ClosedIn s h firsts p = AreClosed s h (piece_faces firsts p)
 -- each of some pieces is a body or marked
 abbrev pub AreTold : List ℕ → List ℕ → List Bool → Type 0
 AreTold parts bodies torn = (p : ℕ) → Has parts p → Has bodies p ⊎ (get_or torn p false ≡ true)
-
-pub taken : (parts : List ℕ) (i p : ℕ) → slice_get parts i ≡ Some p → take (i + 1) parts ≡ take i parts ++ p ∷ []
-taken parts i p at = take_more parts i p (slice_get_within parts i p at) ∙ ap (λ x. take i parts ++ x ∷ []) (get_or_from_slice_get parts i p p at)
 
 pub told_body : (parts bodies new : List ℕ) (torn : List Bool) (p : ℕ) → new ≡ bodies ++ p ∷ [] → AreTold parts bodies torn → AreTold (parts ++ p ∷ []) new torn
 told_body parts bodies new torn p e h q m =
@@ -47,10 +44,10 @@ same_firsts : (s : SolidData) (h : Shell) (firsts : List ℕ) (x : Bodies) → A
 same_firsts s h firsts x a b = leasts_one (ShareMates (shell_rows s h)) (shell_rows s h).face_count x.firsts firsts b.pieces a
 
 -- there is one piece
-pub one_piece : (s : SolidData) (h : Shell) (firsts : List ℕ) → ArePieces (shell_rows s h) firsts → length (parts_of firsts) < 2 → IsExactly (AreBodies s h) None
+pub one_piece : (s : SolidData) (h : Shell) (firsts : List ℕ) → ArePieces (shell_rows s h) firsts → length (classes_of firsts) < 2 → IsExactly (AreBodies s h) None
 one_piece s h firsts a few x = (
   (λ e. absurd cc),
-  (λ b. absurd (let many : 1 < length (parts_of firsts) = subst (λ fs. 1 < length (parts_of fs)) (same_firsts s h firsts x a b) b.many in
+  (λ b. absurd (let many : 1 < length (classes_of firsts) = subst (λ fs. 1 < length (classes_of fs)) (same_firsts s h firsts x a b) b.many in
       omega (arith, few, many))),
 )
 
@@ -61,22 +58,22 @@ not_both false e f = cc
 -- a piece is neither closed nor torn
 pub untorn : (s : SolidData) (h : Shell) (firsts : List ℕ) (torn : List Bool) (p : ℕ) → ArePieces (shell_rows s h) firsts
     → ((q : ℕ) → (get_or torn q false ≡ true) ↔ IsTorn (shell_rows s h) firsts q)
-    → Has (parts_of firsts) p → (ClosedIn s h firsts p → ⊥) → get_or torn p false ≡ false → IsExactly (AreBodies s h) None
+    → Has (classes_of firsts) p → (ClosedIn s h firsts p → ⊥) → get_or torn p false ≡ false → IsExactly (AreBodies s h) None
 untorn s h firsts torn p a marks has off unmarked x = (
   (λ e. absurd cc),
   (λ b.
       let same : x.firsts ≡ firsts = same_firsts s h firsts x a b in
       absurd
       (⊎_elim
-      (λ m. off (subst (λ fs. ClosedIn s h fs p) same (those_hold (ClosedIn s h x.firsts) (parts_of x.firsts) x.bodies b.bodies p m)))
+      (λ m. off (subst (λ fs. ClosedIn s h fs p) same (those_hold (ClosedIn s h x.firsts) (classes_of x.firsts) x.bodies b.bodies p m)))
       (λ t. not_both (get_or torn p false) ((marks p).1 (subst (λ fs. IsTorn (shell_rows s h) fs p) same t)) unmarked)
-      (b.torn p (subst (λ fs. Has (parts_of fs) p) (sym same) has)))),
+      (b.torn p (subst (λ fs. Has (classes_of fs) p) (sym same) has)))),
 )
 
-same_bodies : (s : SolidData) (h : Shell) (firsts bodies : List ℕ) (x : Bodies) → x.firsts ≡ firsts → AreThose (ClosedIn s h firsts) (parts_of firsts) bodies
+same_bodies : (s : SolidData) (h : Shell) (firsts bodies : List ℕ) (x : Bodies) → x.firsts ≡ firsts → AreThose (ClosedIn s h firsts) (classes_of firsts) bodies
     → AreBodies s h x → x.bodies ≡ bodies
 same_bodies s h firsts bodies x same those b =
-    those_one (ClosedIn s h firsts) (parts_of firsts) x.bodies bodies (subst (λ fs. AreThose (ClosedIn s h fs) (parts_of fs) x.bodies) same b.bodies) those
+    those_one (ClosedIn s h firsts) (classes_of firsts) x.bodies bodies (subst (λ fs. AreThose (ClosedIn s h fs) (classes_of fs) x.bodies) same b.bodies) those
 
 same_strays : (s : SolidData) (h : Shell) (firsts bodies : List ℕ) (x : Bodies) → x.firsts ≡ firsts → x.bodies ≡ bodies → AreBodies s h x
     → x.strays ≡ strays_of firsts bodies
@@ -84,7 +81,7 @@ same_strays s h firsts bodies x same also b = b.strays ∙ (ap (λ fs. strays_of
 
 -- as many are left over as bodies have
 pub many_strays : (s : SolidData) (h : Shell) (firsts bodies : List ℕ) → ArePieces (shell_rows s h) firsts
-    → AreThose (ClosedIn s h firsts) (parts_of firsts) bodies → (2 * length (strays_of firsts bodies) < length firsts → ⊥) → IsExactly (AreBodies s h) None
+    → AreThose (ClosedIn s h firsts) (classes_of firsts) bodies → (2 * length (strays_of firsts bodies) < length firsts → ⊥) → IsExactly (AreBodies s h) None
 many_strays s h firsts bodies a those many x = (
   (λ e. absurd cc),
   (λ b.
@@ -103,8 +100,8 @@ alike x fs bs e f g =
     ∙ (ap (λ ns. record { firsts = fs; bodies = ns; strays = x.strays }) f ∙ ap (λ ns. record { firsts = fs; bodies = bs; strays = ns }) g)
 
 pub some_bodies : (s : SolidData) (h : Shell) (firsts bodies : List ℕ) (torn : List Bool) (b : Bodies) → ArePieces (shell_rows s h) firsts
-    → 1 < length (parts_of firsts) → ((q : ℕ) → (get_or torn q false ≡ true) ↔ IsTorn (shell_rows s h) firsts q)
-    → AreThose (ClosedIn s h firsts) (parts_of firsts) bodies → AreTold (parts_of firsts) bodies torn
+    → 1 < length (classes_of firsts) → ((q : ℕ) → (get_or torn q false ≡ true) ↔ IsTorn (shell_rows s h) firsts q)
+    → AreThose (ClosedIn s h firsts) (classes_of firsts) bodies → AreTold (classes_of firsts) bodies torn
     → 2 * length (strays_of firsts bodies) < length firsts → b ≡ found_bodies firsts bodies → IsExactly (AreBodies s h) (Some b)
 some_bodies s h firsts bodies torn b a many marks those told fewer is x =
     let built : AreBodies s h (found_bodies firsts bodies) = record {
@@ -125,15 +122,15 @@ some_bodies s h firsts bodies torn b a many marks those told fewer is x =
 
 -- What the tables ask for.
 
-pub bodies_inside : (s : SolidData) (h : Shell) (firsts bodies : List ℕ) → AreThose (ClosedIn s h firsts) (parts_of firsts) bodies
+pub bodies_inside : (s : SolidData) (h : Shell) (firsts bodies : List ℕ) → AreThose (ClosedIn s h firsts) (classes_of firsts) bodies
     → All (λ p. p < length firsts) bodies
 bodies_inside s h firsts bodies those =
-    all_from (λ p. p < length firsts) bodies (λ p m. part_below p firsts (those_among (ClosedIn s h firsts) (parts_of firsts) bodies those p m))
+    all_from (λ p. p < length firsts) bodies (λ p m. part_below p firsts (those_among (ClosedIn s h firsts) (classes_of firsts) bodies those p m))
 
-pub bodies_fewer : (s : SolidData) (h : Shell) (firsts bodies : List ℕ) → AreThose (ClosedIn s h firsts) (parts_of firsts) bodies
+pub bodies_fewer : (s : SolidData) (h : Shell) (firsts bodies : List ℕ) → AreThose (ClosedIn s h firsts) (classes_of firsts) bodies
     → length bodies ≤ length firsts
 bodies_fewer s h firsts bodies those =
-    let le = those_fewer (ClosedIn s h firsts) (parts_of firsts) bodies those in
+    let le = those_fewer (ClosedIn s h firsts) (classes_of firsts) bodies those in
     let few = parts_fewer firsts in
     omega (arith, le, few)
 

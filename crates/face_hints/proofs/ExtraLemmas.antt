@@ -9,7 +9,7 @@ use Rattle.solid_data.specs.SolidData.{SolidData}
 use Rattle.solid_data.specs.declared.solid.Shell.{Shell}
 use Rattle.edge_uses.proofs.Whole.{rising}
 use Rattle.shell_components.specs.Groups.{place_if}
-use Rattle.solid_faults.proofs.PartSteps.{all_from}
+use Rattle.shell_classes.proofs.Steps.{all_from}
 use Rattle.face_hints.specs.Pieces.{piece_faces}
 use Rattle.face_hints.specs.Extra.{other_if, other_faces, IsExtra, IsBest, IsBetter}
 

@@ -18,7 +18,7 @@ use Rattle.shell_components.specs.Components.{Linked, AreJoined, AreInside, AreC
 use Rattle.shell_components.proofs.Joined.{has_place}
 use Rattle.solid_faults.specs.PartPairs.{face_in}
 use Rattle.solid_faults.specs.Tallied.{AreTallied}
-use Rattle.shell_hints.proofs.LeastLemmas.{leasts_of_components}
+use Rattle.shell_classes.proofs.LeastLemmas.{leasts_of_components}
 use Rattle.face_hints.specs.Pieces.{ShareMates, ArePieces, mates_if, mate_faces, edge_mates, mate_pairs}
 
 -- what a tally says of an edge of the shell

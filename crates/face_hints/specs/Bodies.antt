@@ -8,9 +8,9 @@ use Rattle.edge_uses.specs.declared.row.Row.{Row}
 use Rattle.edge_uses.specs.ShellRows.{ShellRows, shell_rows}
 use Rattle.edge_uses.specs.RowRelations.{IsPaired}
 use Rattle.shell_rules.specs.Closed.{IsClosedSolid}
-use Rattle.solid_faults.specs.PartFacts.{parts_of}
+use Rattle.shell_classes.specs.Leasts.{classes_of}
 use Rattle.shell_alone.specs.Alone.{by_themselves}
-use Rattle.shell_hints.specs.Exactly.{AreThose}
+use Rattle.shell_classes.specs.Exactly.{AreThose}
 use Rattle.face_hints.specs.Pieces.{ArePieces, piece_faces}
 
 -- The faces of a shell that have these numbers make a closed shell by themselves.
@@ -38,8 +38,8 @@ pub record Bodies : Type 0 where
 -- that isn't paired, and the faces of these, the strays, are fewer than those of the bodies.
 pub record AreBodies (s : SolidData) (h : Shell) (x : Bodies) : Type 0 where
   pub pieces : ArePieces (shell_rows s h) x.firsts
-  pub many : 1 < length (parts_of x.firsts)
-  pub bodies : AreThose (λ p. AreClosed s h (piece_faces x.firsts p)) (parts_of x.firsts) x.bodies
-  pub torn : (p : ℕ) → Has (parts_of x.firsts) p → Has x.bodies p ⊎ IsTorn (shell_rows s h) x.firsts p
+  pub many : 1 < length (classes_of x.firsts)
+  pub bodies : AreThose (λ p. AreClosed s h (piece_faces x.firsts p)) (classes_of x.firsts) x.bodies
+  pub torn : (p : ℕ) → Has (classes_of x.firsts) p → Has x.bodies p ⊎ IsTorn (shell_rows s h) x.firsts p
   pub strays : x.strays ≡ strays_of x.firsts x.bodies
   pub fewer : 2 * length x.strays < length x.firsts

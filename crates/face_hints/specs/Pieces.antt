@@ -7,7 +7,7 @@ use Rattle.edge_uses.specs.RowRelations.{IsPaired, AreMates}
 use Rattle.edge_uses.specs.Tally.{seen_of}
 use Rattle.shell_components.specs.Groups.{places_of}
 use Rattle.solid_faults.specs.PartPairs.{face_in}
-use Rattle.shell_hints.specs.Leasts.{AreLeasts}
+use Rattle.shell_classes.specs.Leasts.{AreLeasts}
 
 -- A paired edge has a row on face a, and its other row on face b.
 pub record ShareMates (d : ShellRows) (a b : ℕ) : Type 0 where

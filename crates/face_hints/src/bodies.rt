@@ -7,8 +7,8 @@ ghost use Rattle.shell_components.specs.Trees.{AreTrees};
 ghost use Rattle.edge_uses.specs.RowRelations.{IsPaired};
 ghost use Rattle.edge_uses.specs.ShellRows.{ShellRows, rows_of};
 ghost use Rattle.edge_uses.specs.Tally.{IsSeen};
-ghost use Rattle.solid_faults.specs.PartFacts.{parts_of};
-ghost use Rattle.shell_hints.specs.Exactly.{AreThose, IsExactly};
+ghost use Rattle.shell_classes.specs.Leasts.{classes_of};
+ghost use Rattle.shell_classes.specs.Exactly.{AreThose, IsExactly};
 ghost use Rattle.face_hints.specs.Pieces.{ArePieces, piece_faces};
 ghost use Rattle.face_hints.specs.Bodies.{AreBodies, AreClosed, IsTorn, stray_if, strays_of as all_strays};
 
@@ -17,9 +17,8 @@ use crate::themselves::are_closed;
 use shell_components::{Groups, grouped};
 use edge_uses::{Rows, Seen, Span, row_at, tally_of};
 use iges_base::NoMemory;
-use shell_hints::grouped_leasts;
+use shell_classes::{classes, grouped_leasts};
 use solid_data::{ShellAt, Solid};
-use solid_faults::parts;
 use std::alloc::Global;
 use std::marker::Model;
 
@@ -123,7 +122,7 @@ fn is_closed_piece(
     requires shell { shell.0 < length solid.now.shells }
     requires each { (h : AnyShell) → slice_get solid.now.shells shell.0 ≡ Some h
         → length groups.now ≡ length h.faces }
-    requires piece { Has (parts_of groups.now) piece }
+    requires piece { Has (classes_of groups.now) piece }
     ensures { IfOk result (λ b. (h : AnyShell) → slice_get solid.now.shells shell.0 ≡ Some h
         → IsTrue b ↔ AreClosed solid.now h (piece_faces groups.now piece)) }
 {
@@ -160,7 +159,7 @@ fn closed_pieces(
     requires shell { shell.0 < length solid.now.shells }
     requires each { (h : AnyShell) → slice_get solid.now.shells shell.0 ≡ Some h
         → length groups.now ≡ length h.faces }
-    requires parts { parts.now ≡ parts_of groups.now }
+    requires parts { parts.now ≡ classes_of groups.now }
     ensures { IfOk result (λ o. (h : AnyShell) → slice_get solid.now.shells shell.0 ≡ Some h → MatchOption o
         ((p : ℕ) × Has parts.now p × (¬ AreClosed solid.now h (piece_faces groups.now p)) × (get_or torn.now p false ≡ false))
         (λ bodies. AreThose (λ p. AreClosed solid.now h (piece_faces groups.now p)) parts.now bodies.items
@@ -263,7 +262,7 @@ pub fn bodies_of(
 {
     let _kept = rows.len();
     let firsts = pieces(alloc, rows)?;
-    let parts = parts(alloc, firsts.as_slice())?;
+    let parts = classes(alloc, firsts.as_slice())?;
     if parts.len() < 2 {
         return Ok(None);
     }

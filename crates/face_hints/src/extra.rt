@@ -13,7 +13,7 @@ use crate::themselves::are_closed;
 use shell_components::{Groups, rise};
 use edge_uses::Rows;
 use iges_base::NoMemory;
-use shell_hints::grouped_leasts;
+use shell_classes::grouped_leasts;
 use solid_data::{EdgeId, RowId, ShellAt, Solid};
 use solid_faults::rows_of_edge;
 use std::alloc::Global;

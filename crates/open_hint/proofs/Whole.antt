@@ -12,11 +12,11 @@ use Rattle.solid_data.proofs.Occurring.{numbers_rise, number_below, length-numbe
 use Rattle.edge_uses.proofs.Few.{few_shell}
 use Rattle.edge_uses.proofs.Whole.{rising}
 use Rattle.edge_uses.specs.ShellRows.{shell_rows}
-use Rattle.open_certificate.specs.Accepted.{IsOpenShell}
+use Rattle.open_certificate.specs.Legal.{IsOpenShell}
 use Rattle.open_certificate.specs.Obligations.{AllHold, open_obligations}
 use Rattle.shell_alone.specs.Alone.{faces_at, shell_of_faces, solid_of_faces, by_themselves}
 use Rattle.shell_hints.specs.Counted.{IsOpen, AreOpen}
-use Rattle.shell_hints.specs.Exactly.{HoldsOf, IsExactly}
+use Rattle.shell_classes.specs.Exactly.{HoldsOf, IsExactly}
 use Rattle.open_hint.specs.Missing.{AreMissing, all_faces}
 
 pub few_faces : (s : SolidData) (k : ℕ) (h : Shell) → IsNumberedSolid s → slice_get s.shells k ≡ Some h → length h.faces < 2 ^ 29

@@ -6,7 +6,7 @@ use Rattle.solid_data.specs.declared.solid.Shell.{Shell}
 use Rattle.edge_uses.specs.ShellRows.{shell_rows}
 use Rattle.open_certificate.specs.Obligations.{AllHold, open_obligations}
 use Rattle.shell_alone.specs.Alone.{by_themselves}
-use Rattle.shell_hints.specs.Exactly.{HoldsOf}
+use Rattle.shell_classes.specs.Exactly.{HoldsOf}
 use Rattle.shell_hints.specs.Counted.{IsOpen}
 
 -- all faces of a shell, by number

@@ -3,11 +3,11 @@
 ghost use Rattle.std.specs.Prelude.{◌≡◌, ◌↔◌, ◌<◌, ◌^◌, IsTrue, Some, IfOk, length, slice_get};
 ghost use Rattle.solid_data.specs.Ring.{numbers_from};
 ghost use Rattle.solid_data.specs.declared.solid.Shell.{Shell as AnyShell};
-ghost use Rattle.open_certificate.specs.Accepted.{IsOpenShell};
+ghost use Rattle.open_certificate.specs.Legal.{IsOpenShell};
 ghost use Rattle.open_certificate.specs.Obligations.{AllHold, open_obligations};
 ghost use Rattle.solid_faults.specs.Edges.{unpaired_of};
 ghost use Rattle.edge_uses.specs.ShellRows.{shell_rows};
-ghost use Rattle.shell_hints.specs.Exactly.{IsExactly};
+ghost use Rattle.shell_classes.specs.Exactly.{IsExactly};
 ghost use Rattle.shell_alone.specs.Alone.{by_themselves as themselves};
 ghost use Rattle.open_hint.specs.Missing.{AreMissing, all_faces};
 

@@ -7,7 +7,7 @@ use Rattle.solid_data.specs.Obligations.{Obligation}
 use Rattle.solid_data.specs.declared.verdict.Failing.{Failing}
 use Rattle.solid_data.proofs.Members.{total, count_by-total}
 use Rattle.solid_faults.specs.Failing.{AreFailing}
-use Rattle.shell_hints.specs.Exactly.{HoldsOf, IsExactly}
+use Rattle.shell_classes.specs.Exactly.{HoldsOf, IsExactly}
 
 -- the number is definite
 pub holds_one : {A : Type 0} (P : A → Type 0) (xs : List A) (n m : ℕ) → HoldsOf P n xs → HoldsOf P m xs → n ≡ m

@@ -7,7 +7,7 @@ use Rattle.edge_uses.specs.ShellRows.{ShellRows}
 use Rattle.edge_uses.specs.RowRelations.{row_count}
 use Rattle.solid_faults.specs.Edges.{unpaired_at, edge_unpaired, unpaired_of}
 use Rattle.solid_faults.specs.declared.edge.Unpaired.{Unpaired}
-use Rattle.shell_hints.specs.Exactly.{HoldsOf}
+use Rattle.shell_classes.specs.Exactly.{HoldsOf}
 use Rattle.shell_hints.specs.Counted.{IsOpen, IsTouched, IsCrowded}
 use Rattle.shell_hints.specs.Tests.{is_kind}
 use Rattle.shell_hints.specs.declared.counting.EdgeKind.TheVariants.{Open, Touched, Crowded}

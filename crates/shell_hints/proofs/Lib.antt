@@ -1,6 +1,3 @@
 pub mod Counts
 pub mod Edges
 pub mod Vertices
-pub mod LeastLemmas
-pub mod Those
-pub mod PlaceLemmas

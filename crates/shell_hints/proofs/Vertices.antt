@@ -22,7 +22,7 @@ use Rattle.solid_faults.specs.Gaps.{gap_failing}
 use Rattle.solid_faults.specs.Naming.{AreNamed}
 use Rattle.solid_faults.proofs.Definite.{map_none}
 use Rattle.solid_faults.proofs.FailingLemmas.{none_fails, all_hold_none}
-use Rattle.shell_hints.specs.Exactly.{HoldsOf, IsExactly}
+use Rattle.shell_classes.specs.Exactly.{HoldsOf, IsExactly}
 use Rattle.shell_hints.specs.Counted.{ArePinched, AreShared}
 use Rattle.shell_hints.proofs.Counts.{exactly_positive, failing_count}
 

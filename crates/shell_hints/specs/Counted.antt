@@ -8,7 +8,7 @@ use Rattle.edge_uses.specs.Joins.{IsJoined}
 use Rattle.edge_uses.specs.RowRelations.{row_count, IsPaired}
 use Rattle.edge_uses.specs.Before.{IsApart}
 use Rattle.edge_uses.specs.Around.{IsLinked}
-use Rattle.shell_hints.specs.Exactly.{HoldsOf}
+use Rattle.shell_classes.specs.Exactly.{HoldsOf}
 
 -- the edge has four rows or more, as many along it as against it
 abbrev pub IsTouched : ShellRows → ℕ → Type 0

@@ -1,4 +1,2 @@
-pub mod Exactly
 pub mod Counted
 pub mod Tests
-pub mod Leasts

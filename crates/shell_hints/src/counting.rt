@@ -8,7 +8,7 @@ ghost use Rattle.solid_data.specs.declared.solid.Shell.{Shell as AnyShell};
 ghost use Rattle.edge_uses.specs.ShellRows.{ShellRows, shell_rows};
 ghost use Rattle.solid_faults.specs.Edges.{unpaired_of};
 ghost use Rattle.solid_faults.specs.Faults.{AreFaults};
-ghost use Rattle.shell_hints.specs.Exactly.{IsExactly};
+ghost use Rattle.shell_classes.specs.Exactly.{IsExactly};
 ghost use Rattle.shell_hints.specs.Counted.{AreOpen, AreTouching, AreCrowded, ArePinched, AreShared};
 ghost use Rattle.shell_hints.specs.Tests.{is_kind};
 

@@ -8,7 +8,5 @@
 #![tactic(auto)]
 
 mod counting;
-mod leasts;
 
 pub use counting::{crowded, open_edges, pinch, touching, touching_shells};
-pub use leasts::grouped_leasts;

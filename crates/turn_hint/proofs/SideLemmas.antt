@@ -9,9 +9,9 @@ use Rattle.solid_data.specs.SolidData.{same_flag}
 use Rattle.solid_data.proofs.Members.{Has, get_some}
 use Rattle.solid_data.proofs.Trail.{leads_here}
 use Rattle.edge_uses.specs.ShellRows.{ShellRows, AreRows}
-use Rattle.solid_faults.specs.PartFacts.{parts_of}
-use Rattle.shell_hints.proofs.LeastLemmas.{leasts_alike, chain_back}
-use Rattle.shell_hints.proofs.PlaceLemmas.{place_holds, part_holds}
+use Rattle.shell_classes.specs.Leasts.{classes_of}
+use Rattle.shell_classes.proofs.LeastLemmas.{leasts_alike, chain_back}
+use Rattle.shell_classes.proofs.PlaceLemmas.{place_holds, part_holds}
 use Rattle.turn_hint.specs.Patches.{HasTwo, ShareTwo, ArePatches, patch_faces}
 use Rattle.turn_hint.specs.Turned.{Agree, AreTurned}
 use Rattle.turn_hint.specs.Sides.{node, flipped, one_way, AgreeSo, Sides, AreSides}
@@ -35,7 +35,7 @@ pub record IsPatch (d : ShellRows) (x : Sides) (p : ℕ) : Type 0 where
   pub sides : AreSides d x
   pub first : slice_get x.firsts p ≡ Some p
 
-pub is_patch : (d : ShellRows) (x : Sides) (p : ℕ) → AreSides d x → Has (parts_of x.firsts) p → IsPatch d x p
+pub is_patch : (d : ShellRows) (x : Sides) (p : ℕ) → AreSides d x → Has (classes_of x.firsts) p → IsPatch d x p
 is_patch d x p sides has = record { sides = sides; first = part_holds p x.firsts has }
 
 inside : (d : ShellRows) (x : Sides) (p a q : ℕ) → IsPatch d x p → slice_get x.firsts a ≡ Some q → a < d.face_count

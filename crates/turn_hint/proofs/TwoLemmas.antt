@@ -11,7 +11,7 @@ use Rattle.edge_uses.specs.declared.row.Row.{Row}
 use Rattle.edge_uses.specs.ShellRows.{ShellRows, AreRows}
 use Rattle.shell_components.specs.Components.{Linked, AreJoined, AreInside, AreComponents}
 use Rattle.solid_faults.specs.Edges.{row_on, rows_on_edge}
-use Rattle.shell_hints.proofs.LeastLemmas.{leasts_of_components}
+use Rattle.shell_classes.proofs.LeastLemmas.{leasts_of_components}
 use Rattle.turn_hint.specs.Patches.{HasTwo, ShareTwo, ArePatches}
 use Rattle.turn_hint.specs.Sides.{node, flipped, one_way, AgreeSo, Sides, AreSides, both_of, both_rows, face_pair, node_pairs, edge_pairs, all_pairs}
 use Rattle.turn_hint.specs.declared.sides.BothRows.{BothRows}

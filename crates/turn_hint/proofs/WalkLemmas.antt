@@ -7,7 +7,7 @@ use Rattle.solid_data.proofs.Members.{has_get, All-at}
 use Rattle.solid_data.proofs.Trail.{leads_here, leads_one}
 use Rattle.edge_uses.specs.declared.row.Row.{Row}
 use Rattle.edge_uses.specs.ShellRows.{ShellRows, AreRows}
-use Rattle.shell_hints.proofs.LeastLemmas.{leasts_alike}
+use Rattle.shell_classes.proofs.LeastLemmas.{leasts_alike}
 use Rattle.turn_hint.specs.Patches.{HasTwo, ShareTwo, ArePatches}
 use Rattle.turn_hint.specs.Turned.{Agree}
 use Rattle.turn_hint.specs.Sides.{node, flipped, one_way, AgreeSo}
@@ -23,7 +23,7 @@ flipped_twice : (f s : Bool) → flipped f (flipped f s) ≡ s
 flipped_twice true s = not_twice s
 flipped_twice false s = refl
 
-flipped_not : (f s : Bool) → flipped f (not s) ≡ not (flipped f s)
+pub flipped_not : (f s : Bool) → flipped f (not s) ≡ not (flipped f s)
 flipped_not true s = refl
 flipped_not false s = refl
 

@@ -3,3 +3,4 @@ pub mod Turned
 pub mod Sides
 pub mod Choosing
 pub mod Walks
+pub mod Turns

@@ -4,7 +4,7 @@ use Rattle.edge_uses.specs.declared.row.Row.{Row}
 use Rattle.edge_uses.specs.ShellRows.{ShellRows}
 use Rattle.shell_components.specs.Groups.{places_of}
 use Rattle.solid_faults.specs.Edges.{rows_on_edge}
-use Rattle.shell_hints.specs.Leasts.{AreLeasts}
+use Rattle.shell_classes.specs.Leasts.{AreLeasts}
 
 -- the edge has two rows, r and q
 pub record HasTwo (d : ShellRows) (e : ℕ) : Type 0 where

@@ -4,7 +4,7 @@ use Rattle.solid_data.specs.SolidData.{same_flag}
 use Rattle.edge_uses.specs.declared.row.Row.{Row}
 use Rattle.edge_uses.specs.ShellRows.{ShellRows, AreRows}
 use Rattle.solid_faults.specs.Edges.{rows_on_edge}
-use Rattle.shell_hints.specs.Leasts.{AreLeasts}
+use Rattle.shell_classes.specs.Leasts.{AreLeasts}
 use Rattle.turn_hint.specs.Patches.{HasTwo, ArePatches}
 use Rattle.turn_hint.specs.declared.sides.BothRows.{BothRows}
 

@@ -3,7 +3,7 @@
 ghost use Rattle.std.specs.Prelude.{◌≡◌, ◌++◌, ◌∷◌, [], List, ℕ, IfOk, MatchOption, filter, if◌then◌else◌};
 ghost use Rattle.solid_data.proofs.Members.{Has};
 ghost use Rattle.edge_uses.specs.ShellRows.{ShellRows};
-ghost use Rattle.solid_faults.specs.PartFacts.{parts_of};
+ghost use Rattle.shell_classes.specs.Leasts.{classes_of};
 ghost use Rattle.turn_hint.specs.Turned.{AreTurned};
 ghost use Rattle.turn_hint.specs.Sides.{AreSides};
 ghost use Rattle.turn_hint.specs.Choosing.{is_off, with_off};
@@ -54,7 +54,7 @@ fn chosen(
 /// The faces of a patch, which is named by its first face, that are inside out against the others: the smaller of the two sides,
 /// of equal ones that without the first face. None where no flags make the rows of the patch agree.
 pub fn turned(alloc: Global, sides: &Sides, patch: u32) -> Result<Option<Vec<u32>>, NoMemory>
-    requires { Has (parts_of sides.now.firsts) patch }
+    requires { Has (classes_of sides.now.firsts) patch }
     ensures { IfOk result (λ answer. (d : ShellRows) → AreSides d sides.now → MatchOption answer
         ((xs : List ℕ) → ¬ AreTurned d sides.now.firsts patch xs)
         (λ faces. AreTurned d sides.now.firsts patch faces.items

@@ -5,8 +5,9 @@
 //! other, with whose flags changed all rows of the patch agree; or there is none, as in a Moebius band.
 #![tactic(auto)]
 
+mod by_edge;
 mod choosing;
 mod sides;
+mod turns;
 
-pub use choosing::turned;
-pub use sides::{Sides, sides_of};
+pub use turns::{Turn, Turns, turns_of};

@@ -10,12 +10,12 @@ ghost use Rattle.solid_faults.specs.Edges.{rows_on_edge};
 ghost use Rattle.turn_hint.specs.Sides.{AreSides, node, both_rows as both, face_pair, node_pairs, all_pairs};
 ghost use Rattle.solid_data.specs.declared.TheConstants.{PART_LIMIT};
 
+use crate::by_edge::rows_by_edge;
 use shell_components::{Groups, components};
 use edge_uses::{Row, Rows};
 use iges_base::NoMemory;
-use shell_hints::grouped_leasts;
+use shell_classes::grouped_leasts;
 use solid_data::{EdgeId, RowId};
-use solid_faults::rows_by_edge;
 use std::alloc::Global;
 use std::marker::Model;
 

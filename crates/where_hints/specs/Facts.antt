@@ -3,7 +3,7 @@ use Rattle.std.specs.Prelude.{ℕ, Option}
 use Rattle.solid_data.specs.SolidData.{SolidData}
 use Rattle.solid_data.specs.declared.solid.Shell.{Shell}
 use Rattle.edge_uses.specs.ShellRows.{shell_rows}
-use Rattle.shell_hints.specs.Exactly.{IsExactly}
+use Rattle.shell_classes.specs.Exactly.{IsExactly}
 use Rattle.shell_hints.specs.Counted.{AreTouching, AreCrowded, ArePinched, AreShared}
 use Rattle.face_hints.specs.Bodies.{Bodies, AreBodies}
 use Rattle.open_hint.specs.Missing.{AreMissing}

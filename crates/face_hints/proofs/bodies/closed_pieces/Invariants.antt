@@ -1,6 +1,6 @@
 use Rattle.std.proofs.Common.{◌≡◌, Some, take, slice_get}
 use Rattle.solid_data.specs.declared.solid.Shell.{Shell}
-use Rattle.shell_hints.specs.Exactly.{AreThose}
+use Rattle.shell_classes.specs.Exactly.{AreThose}
 use Rattle.face_hints.proofs.BodyLemmas.{ClosedIn, AreTold}
 use Rattle.face_hints.proofs.bodies.closed_pieces.Given as goal
 

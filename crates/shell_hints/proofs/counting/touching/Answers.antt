@@ -1,5 +1,5 @@
 use Rattle.std.proofs.Common.{sym, ◌∙◌, ap, subst, count_by}
-use Rattle.shell_hints.specs.Exactly.{HoldsOf, IsExactly}
+use Rattle.shell_classes.specs.Exactly.{HoldsOf, IsExactly}
 use Rattle.shell_hints.specs.Counted.{IsTouched, AreTouching}
 use Rattle.shell_hints.specs.Tests.{is_kind}
 use Rattle.shell_hints.specs.declared.counting.EdgeKind.TheVariants.{Touched}

@@ -8,8 +8,8 @@ use Rattle.std.proofs.lemmas.Option.{same_Some}
 use Rattle.solid_data.proofs.Members.{Has, Rises}
 use Rattle.edge_uses.proofs.Whole.{rising}
 use Rattle.shell_components.specs.Groups.{place_if, places_of}
-use Rattle.solid_faults.specs.PartFacts.{first_if, parts_of}
-use Rattle.solid_faults.proofs.PartSteps.{all_from}
+use Rattle.shell_classes.specs.Leasts.{class_if, classes_of}
+use Rattle.shell_classes.proofs.Steps.{all_from}
 
 -- the places of a number, from base on
 abbrev places : ℕ → ℕ → List ℕ → List ℕ
@@ -67,7 +67,7 @@ faces_inside n m xs e = all_from (λ k. k < m) (places_of n xs) (λ k h. let lt 
 
 -- the faces that are the first of their piece, from base on
 abbrev heads : ℕ → List ℕ → List ℕ
-heads base xs = flat_map first_if (enumerate_from base xs)
+heads base xs = flat_map class_if (enumerate_from base xs)
 
 -- a piece has its first face
 places_some : (base p : ℕ) (xs : List ℕ) → Has (heads base xs) p → 0 < length (places p base xs)
@@ -79,7 +79,7 @@ places_some base p (x ∷ xs) h =
     let le = put_longer (x == p) base (places p (base + 1) xs) in omega (arith, some, le))
     (put_has (base == x) base p (heads (base + 1) xs) h)
 
-pub faces_some : (p : ℕ) (xs : List ℕ) → Has (parts_of xs) p → 0 < length (places_of p xs)
+pub faces_some : (p : ℕ) (xs : List ℕ) → Has (classes_of xs) p → 0 < length (places_of p xs)
 faces_some p xs h = places_some 0 p xs h
 
 heads_below : (base p : ℕ) (xs : List ℕ) → Has (heads base xs) p → p < base + length xs
@@ -87,7 +87,7 @@ heads_below base p [] h = absurd h
 heads_below base p (x ∷ xs) h =
     ⊎_elim (λ e. omega (arith, e.1)) (λ m. let lt = heads_below (base + 1) p xs m in omega (arith, lt)) (put_has (base == x) base p (heads (base + 1) xs) h)
 
-pub part_below : (p : ℕ) (xs : List ℕ) → Has (parts_of xs) p → p < length xs
+pub part_below : (p : ℕ) (xs : List ℕ) → Has (classes_of xs) p → p < length xs
 part_below p xs h = let lt = heads_below 0 p xs h in omega (arith, lt)
 
 heads_fewer : (base : ℕ) (xs : List ℕ) → length (heads base xs) ≤ length xs
@@ -95,7 +95,7 @@ heads_fewer base [] = omega arith
 heads_fewer base (x ∷ xs) =
     let le = put_shorter (base == x) base (length xs) (heads (base + 1) xs) (heads_fewer (base + 1) xs) in omega (arith, le)
 
-pub parts_fewer : (xs : List ℕ) → length (parts_of xs) ≤ length xs
+pub parts_fewer : (xs : List ℕ) → length (classes_of xs) ≤ length xs
 parts_fewer xs = heads_fewer 0 xs
 
 -- what stands at the places
@@ -138,7 +138,7 @@ heads_hold base p (x ∷ xs) h =
     ⊎_elim (λ e. (zero, omega (arith, e.1), ap Some (sym (eqb-true base x e.0) ∙ e.1)))
     (λ m. let r = heads_hold (base + 1) p xs m in (suc r.0, omega (arith, r.1), r.2)) (put_has (base == x) base p (heads (base + 1) xs) h)
 
-pub part_holds : (p : ℕ) (xs : List ℕ) → Has (parts_of xs) p → slice_get xs p ≡ Some p
+pub part_holds : (p : ℕ) (xs : List ℕ) → Has (classes_of xs) p → slice_get xs p ≡ Some p
 part_holds p xs h =
     let r = heads_hold 0 p xs h in
     let e : r.0 ≡ p = omega (arith, r.1) in

@@ -7,7 +7,7 @@ use Rattle.solid_data.proofs.Members.{get_some}
 use Rattle.solid_data.proofs.Trail.{leads_here, leads_one, leads_last, leads_trans}
 use Rattle.shell_components.specs.Components.{Linked, AreJoined, AreInside, AreComponents}
 use Rattle.shell_components.proofs.Joined.{least_of_joined}
-use Rattle.shell_hints.specs.Leasts.{AreLeasts}
+use Rattle.shell_classes.specs.Leasts.{AreLeasts}
 
 chain_of_steps : (R : ℕ → ℕ → Type 0) (pairs : List (ℕ × ℕ)) → ((a b : ℕ) → Linked pairs a b → R a b) → (n a b : ℕ) → Steps (Linked pairs) n a b → LeadsTo R a b
 chain_of_steps R pairs to zero a b e = subst (λ x. LeadsTo R a x) e (leads_here R a)

@@ -16,3 +16,9 @@ abbrev pub AreThose : {A : Type 0} → (A → Type 0) → List A → List A → 
 AreThose P [] ys = ys ≡ []
 AreThose P (x ∷ xs) [] = (¬ P x) × AreThose P xs []
 AreThose P (x ∷ xs) (y ∷ ys) = (P x × (x ≡ y) × AreThose P xs ys) ⊎ ((¬ P x) × AreThose P xs (y ∷ ys))
+
+-- ys are what is found of the xs, in order: of each x the next y with R x y, or nothing, where there is no such y
+abbrev pub AreFound : {A B : Type 0} → (A → B → Type 0) → List A → List B → Type 0
+AreFound {A} {B} R [] ys = ys ≡ []
+AreFound {A} {B} R (x ∷ xs) [] = ((z : B) → ¬ R x z) × AreFound R xs []
+AreFound {A} {B} R (x ∷ xs) (y ∷ ys) = (R x y × AreFound R xs ys) ⊎ (((z : B) → ¬ R x z) × AreFound R xs (y ∷ ys))

@@ -1,0 +1,2 @@
+pub mod SortedLists
+pub mod DoubleLemmas
