@@ -1,4 +1,4 @@
 pub mod MateLemmas
 pub mod TornLemmas
 pub mod BodyLemmas
-pub mod ExtraLemmas
+pub mod AmongLemmas

@@ -1,4 +1,3 @@
 pub mod Pieces
 pub mod Bodies
 pub mod Torn
-pub mod Extra

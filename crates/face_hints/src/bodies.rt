@@ -1,6 +1,7 @@
 //! The pieces of a shell that are closed by themselves, and the faces that are left over.
 
-ghost use Rattle.std.specs.Prelude.{◌≡◌, ◌↔◌, ◌⊎◌, ◌<◌, ◌≤◌, ◌*◌, ◌^◌, ◌++◌, ℕ, true, false, All, IsTrue, Some, IfOk, MatchOption, length, slice_get, get_or};
+ghost use Rattle.std.specs.Prelude.{◌≡◌, ◌==◌, ◌↔◌, ◌⊎◌, ◌<◌, ◌≤◌, ◌*◌, ◌^◌, ◌++◌, ℕ, true, false, All, IsTrue, Some, IfOk, MatchOption, length, slice_get, get_or};
+ghost use Rattle.std.specs.List.{list_any};
 ghost use Rattle.solid_data.proofs.Members.{Has};
 ghost use Rattle.solid_data.specs.declared.solid.Shell.{Shell as AnyShell};
 ghost use Rattle.shell_components.specs.Trees.{AreTrees};
@@ -177,11 +178,17 @@ fn closed_pieces(
     Ok(Some(bodies))
 }
 
+fn is_among(numbers: &Groups, n: u32) -> bool
+    ensures { result ≡ list_any (λ m. m == n) numbers.now }
+{
+    !numbers.places(n).is_empty()
+}
+
 fn push_stray(bodies: &Groups, face: u32, piece: u32, out: &mut Vec<u32>) -> Result<(), NoMemory>
     ensures { IfOk result (λ _. out.new.items
         ≡ out.old.items ++ stray_if bodies.now (face, piece)) }
 {
-    if bodies.places(piece).is_empty() {
+    if !is_among(bodies, piece) {
         out.push(face)?;
     }
     Ok(())

@@ -6,10 +6,8 @@
 
 mod bodies;
 mod cutting;
-mod extra;
 mod themselves;
 
 pub use bodies::{Bodies, bodies_of};
 pub use cutting::pieces;
-pub use extra::extra_faces;
 pub use themselves::are_closed;

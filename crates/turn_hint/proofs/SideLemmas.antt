@@ -138,10 +138,10 @@ off_link d x p e two h sided at =
     same_patch d x.firsts p two.row.at.face.0 two.other.at.face.0 h.sides.rows h.sides.patches at share in
     let w = walk_to d x p two.row.at.face.0 h at in
     let here : is_off x.labels p two.row.at.face.0 ≡ w.1 = off_is d x p w.0 two.row.at.face.0 w.1 h sided (inside d x p two.row.at.face.0 p h at) w.2 in
-    let on : Walk d (w.0 + 1) p false two.other.at.face.0 (flipped (one_way two) w.1) =
+    let on : Walk d (suc w.0) p false two.other.at.face.0 (flipped (one_way two) w.1) =
     walk_last d w.0 p false two.row.at.face.0 w.1 two.other.at.face.0 (flipped (one_way two) w.1) w.2
     (record { e = e; two = two; turns = refl; on = inl (refl, refl) }) in
-    off_is d x p (w.0 + 1) two.other.at.face.0 (flipped (one_way two) w.1) h sided (inside d x p two.other.at.face.0 p h there) on
+    off_is d x p (suc w.0) two.other.at.face.0 (flipped (one_way two) w.1) h sided (inside d x p two.other.at.face.0 p h there) on
     ∙ ap (flipped (one_way two)) (sym here)
 
 plain_flag : (c : Bool) → same_flag c true ≡ c
@@ -253,15 +253,15 @@ pub off_one : (d : ShellRows) (x : Sides) (p : ℕ) (xs : List ℕ) → IsPatch 
     → length (side_faces x p true) ≤ length (side_faces x p false) → AreTurned d x.firsts p xs → xs ≡ side_faces x p true
 off_one d x p xs h sided le t = by_first (t.turn p) refl
   where
+    clash : true ≡ false → ⊥
+    clash e = cc
+
     by_first : (b : Bool) → t.turn p ≡ b → xs ≡ side_faces x p true
     by_first false is = listed_as d x p xs false h sided t is
     by_first true is =
         let e : xs ≡ side_faces x p false = listed_as d x p xs true h sided t is in
         absurd
         (⊎_elim (λ k. omega (arith, k, le, sides_whole x p, ap (length {A = ℕ}) e)) (λ k. clash (sym is ∙ k.1)) t.smaller)
-
-    clash : true ≡ false → ⊥
-    clash e = cc
 
 pub rest_one : (d : ShellRows) (x : Sides) (p : ℕ) (xs : List ℕ) → IsPatch d x p → TwoSided d x p
     → length (side_faces x p false) < length (side_faces x p true) → AreTurned d x.firsts p xs → xs ≡ side_faces x p false
@@ -273,3 +273,13 @@ rest_one d x p xs h sided lt t = by_first (t.turn p) refl
         let e : xs ≡ side_faces x p true = listed_as d x p xs false h sided t is in
         absurd
         (⊎_elim (λ k. omega (arith, k, lt, sides_whole x p, ap (length {A = ℕ}) e)) (λ k. omega (arith, k.0, lt, sides_whole x p, ap (length {A = ℕ}) e)) t.smaller)
+
+-- What the code compares, in these terms.
+pub chosen_is : (x : Sides) (p : ℕ) (turned : Bool) (labels faces items : List ℕ) → labels ≡ x.labels → faces ≡ patch_faces x.firsts p
+    → items ≡ filter (with_off labels p turned) faces → items ≡ side_faces x p turned
+chosen_is x p turned labels faces items l f e = e ∙ (ap (λ ls. filter (with_off ls p turned) faces) l ∙ ap (filter (with_off x.labels p turned)) f)
+
+pub off_here : (d : ShellRows) (x : Sides) (p m : ℕ) (labels : List ℕ) (r b : Bool) → AreSides d x → labels ≡ x.labels → m ≡ length x.firsts
+    → r ≡ is_off labels p (m + p) → r ≡ b → is_off x.labels p (d.face_count + p) ≡ b
+off_here d x p m labels r b sides l n e f =
+    sym (ap (λ ls. is_off ls p (m + p)) l ∙ ap (λ k. is_off x.labels p (k + p)) (n ∙ sides.patches.each)) ∙ (sym e ∙ f)

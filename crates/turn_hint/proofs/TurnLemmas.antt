@@ -1,5 +1,5 @@
 -- Which patches are written, and that they are definite.
-use Rattle.std.specs.Prelude.{◌≡◌, ◌<◌, ◌≤◌, ◌+◌, ℕ, nat_lt, Bool, true, false, List, [], ◌∷◌, ◌++◌, length, Option, Some, None}
+use Rattle.std.specs.Prelude.{◌≡◌, ◌<◌, ◌≤◌, ◌+◌, ℕ, nat_lt, Bool, true, false, List, [], ◌∷◌, ◌++◌, length, Option, Some, None, MatchOption}
 use Rattle.std.proofs.Common.{refl, sym, ◌∙◌, ap, subst, arith}
 use Rattle.std.proofs.lemmas.Bool.Decides.{Decides-ltb}
 use Rattle.std.proofs.lemmas.Option.{same_Some}
@@ -20,6 +20,12 @@ use Rattle.turn_hint.proofs.SideLemmas.{IsPatch, is_patch, side_faces, no_sides,
 pub turned_one : (d : ShellRows) (x : Sides) (p : ℕ) (xs ys : List ℕ) → IsPatch d x p → AreTurned d x.firsts p xs → AreTurned d x.firsts p ys → xs ≡ ys
 turned_one d x p xs ys h a b = by_sides (is_off x.labels p (d.face_count + p)) refl
   where
+    clash : true ≡ false → ⊥
+    clash e = cc
+
+    not_less : (a b : ℕ) → nat_lt a b ≡ false → a < b → ⊥
+    not_less a b e lt = clash (sym ((Decides-ltb a b).1 lt) ∙ e)
+
     by_smaller : is_off x.labels p (d.face_count + p) ≡ true → (lt : Bool) → nat_lt (length (side_faces x p false)) (length (side_faces x p true)) ≡ lt → xs ≡ ys
     by_smaller two true e =
         let lt : length (side_faces x p false) < length (side_faces x p true) = (Decides-ltb (length (side_faces x p false)) (length (side_faces x p true))).0 e in
@@ -32,12 +38,6 @@ turned_one d x p xs ys h a b = by_sides (is_off x.labels p (d.face_count + p)) r
     by_sides : (two : Bool) → is_off x.labels p (d.face_count + p) ≡ two → xs ≡ ys
     by_sides true e = by_smaller e (nat_lt (length (side_faces x p false)) (length (side_faces x p true))) refl
     by_sides false e = absurd (no_sides d x p h e xs a)
-
-    not_less : (a b : ℕ) → nat_lt a b ≡ false → a < b → ⊥
-    not_less a b e lt = clash (sym ((Decides-ltb a b).1 lt) ∙ e)
-
-    clash : true ≡ false → ⊥
-    clash e = cc
 
 -- none of a patch that has none, or of which none is to be turned
 pub none_turned : (d : ShellRows) (firsts : List ℕ) (p : ℕ) → ((xs : List ℕ) → AreTurned d firsts p xs → ⊥) → (t : Turn) → IsTurn d firsts p t → ⊥
@@ -69,9 +69,9 @@ no_turns d x ts sides found none y = (
 )
 
 pub some_turns : (d : ShellRows) (x : Sides) (ts : List Turn) (z : Turns) → AreSides d x → AreFound (IsTurn d x.firsts) (classes_of x.firsts) ts
-    → (length ts ≡ 0 → ⊥) → z ≡ record { firsts = x.firsts; turns = ts } → IsExactly (AreTurns d) (Some z)
+    → 0 < length ts → z ≡ record { firsts = x.firsts; turns = ts } → IsExactly (AreTurns d) (Some z)
 some_turns d x ts z sides found some is y = (
-  (λ e. subst (AreTurns d) (sym is ∙ same_Some z y e) (record { patches = sides.patches; each = found; some = omega (arith, some) })),
+  (λ e. subst (AreTurns d) (sym is ∙ same_Some z y e) (record { patches = sides.patches; each = found; some = some })),
   (λ h.
       ap Some
       (is
@@ -79,3 +79,7 @@ some_turns d x ts z sides found some is y = (
       (ap (λ fs. record { firsts = fs; turns = y.turns }) (same_patches d x y sides h)
       ∙ ap (λ us. record { firsts = x.firsts; turns = us }) (same_turns d x ts y sides found h)))),
 )
+
+pub some_of : {A : Type 0} (o : Option A) (x : A) (N : Type 0) (P : A → Type 0) → o ≡ Some x → MatchOption o N P → P x
+some_of (Some y) x N P e h = subst P (same_Some y x e) h
+some_of None x N P e h = absurd cc

@@ -66,7 +66,8 @@ from_pairs : (pairs : Option BothRows → List (ℕ × ℕ)) (d : ShellRows) (y 
     → (e : ℕ) × (two : HasTwo d e) × Has (pairs (Some (both two.row two.other))) y
 from_pairs pairs d y none h =
     let k = from_flat_map (edge_pairs pairs d) d.edges y h in
-    (k.0, by_both k.0 (both_rows d (rows_on_edge d k.0)) refl k.2)
+    let t = by_both k.0 (both_rows d (rows_on_edge d k.0)) refl k.2 in
+    (k.0, t.0, t.1)
   where
     by_both : (e : ℕ) (o : Option BothRows) → both_rows d (rows_on_edge d e) ≡ o → Has (pairs o) y
         → (two : HasTwo d e) × Has (pairs (Some (both two.row two.other))) y

@@ -120,7 +120,7 @@ steps_of_walk d (suc n) s a b t (c, u, link, rest) =
     (steps_of_walk d n u c b t rest)
 
 -- one link more
-pub walk_last : (d : ShellRows) (n a : ℕ) (s : Bool) (b : ℕ) (t : Bool) (c : ℕ) (u : Bool) → Walk d n a s b t → Link d b t c u → Walk d (n + 1) a s c u
+pub walk_last : (d : ShellRows) (n a : ℕ) (s : Bool) (b : ℕ) (t : Bool) (c : ℕ) (u : Bool) → Walk d n a s b t → Link d b t c u → Walk d (suc n) a s c u
 walk_last d zero a s b t c u (e, f) link =
     (c, u, subst (λ z. Link d a z c u) (sym f) (subst (λ x. Link d x t c u) (sym e) link), (refl, refl))
 walk_last d (suc n) a s b t c u (x, y, first, rest) link = (x, y, first, walk_last d n x y b t c u rest link)

@@ -1,6 +1,6 @@
 //! The faces of a patch that are turned.
 
-ghost use Rattle.std.specs.Prelude.{◌≡◌, ◌++◌, ◌∷◌, [], List, ℕ, IfOk, MatchOption, filter, if◌then◌else◌};
+ghost use Rattle.std.specs.Prelude.{◌≡◌, ◌++◌, ◌∷◌, [], List, ℕ, ◌<◌, ◌≤◌, true, false, IfOk, MatchOption, filter, length, if◌then◌else◌};
 ghost use Rattle.solid_data.proofs.Members.{Has};
 ghost use Rattle.edge_uses.specs.ShellRows.{ShellRows};
 ghost use Rattle.shell_classes.specs.Leasts.{classes_of};
@@ -51,6 +51,13 @@ fn chosen(
     Ok(out)
 }
 
+fn is_longer(faces: &Vec<u32>, others: &Vec<u32>) -> bool
+    ensures longer { result ≡ true → length others.now.items < length faces.now.items }
+    ensures other { result ≡ false → length faces.now.items ≤ length others.now.items }
+{
+    faces.len() > others.len()
+}
+
 /// The faces of a patch, which is named by its first face, that are inside out against the others: the smaller of the two sides,
 /// of equal ones that without the first face. None where no flags make the rows of the patch agree.
 pub fn turned(alloc: Global, sides: &Sides, patch: u32) -> Result<Option<Vec<u32>>, NoMemory>
@@ -68,7 +75,7 @@ pub fn turned(alloc: Global, sides: &Sides, patch: u32) -> Result<Option<Vec<u32
     let faces = sides.faces(patch);
     let off = chosen(alloc, labels, patch, faces, true)?;
     let rest = chosen(alloc, labels, patch, faces, false)?;
-    if off.len() <= rest.len() {
+    if !is_longer(&off, &rest) {
         return Ok(Some(off));
     }
     Ok(Some(rest))

@@ -1,6 +1,6 @@
 //! The patches of a shell in which faces are to be turned.
 
-ghost use Rattle.std.specs.Prelude.{◌≡◌, ◌<◌, ◌++◌, ◌∷◌, [], ℕ, List, IfOk, Some, length, slice_get};
+ghost use Rattle.std.specs.Prelude.{◌≡◌, ◌<◌, ◌++◌, ◌∷◌, [], ℕ, List, true, false, IfOk, Some, length, slice_get};
 ghost use Rattle.solid_data.proofs.Members.{Has};
 ghost use Rattle.edge_uses.specs.ShellRows.{ShellRows};
 ghost use Rattle.shell_classes.specs.Exactly.{AreFound, IsExactly};
@@ -83,6 +83,20 @@ impl Turns {
     }
 }
 
+fn has_faces(faces: &Vec<u32>) -> bool
+    ensures some { result ≡ true → 0 < length faces.now.items }
+    ensures none { result ≡ false → length faces.now.items ≡ 0 }
+{
+    faces.len() > 0
+}
+
+fn has_turns(turns: &ItemList<Turn>) -> bool
+    ensures some { result ≡ true → 0 < length turns.now }
+    ensures none { result ≡ false → length turns.now ≡ 0 }
+{
+    turns.len() > 0
+}
+
 // Appends a patch, if faces of it are to be turned.
 fn push_turn(
     alloc: Global,
@@ -98,7 +112,7 @@ fn push_turn(
     let Some(faces) = turned(alloc, sides, patch)? else {
         return Ok(());
     };
-    if faces.is_empty() {
+    if !has_faces(&faces) {
         return Ok(());
     }
     out.push(Turn { patch, faces })?;
@@ -133,7 +147,7 @@ pub fn turns_of(alloc: Global, rows: &Rows) -> Result<Option<Turns>, NoMemory>
 {
     let sides = sides_of(alloc, rows)?;
     let turns = all_turns(alloc, &sides)?;
-    if turns.len() == 0 {
+    if !has_turns(&turns) {
         return Ok(None);
     }
     Ok(Some(Turns { sides, turns }))

@@ -6,12 +6,13 @@ use Rattle.edge_uses.specs.ShellRows.{shell_rows}
 use Rattle.shell_classes.specs.Exactly.{IsExactly}
 use Rattle.shell_hints.specs.Counted.{AreTouching, AreCrowded, ArePinched, AreShared}
 use Rattle.face_hints.specs.Bodies.{Bodies, AreBodies}
-use Rattle.open_hint.specs.Missing.{AreMissing}
+use Rattle.turn_hint.specs.Turns.{Turns, AreTurns}
 
--- the data of each hint, where its condition holds
+-- The data of each hint, where its condition holds. The number for `missing-faces` is given, and nothing is said of it here.
 pub record Hints : Type 0 where
   pub bodies : Option Bodies
   pub missing : Option ℕ
+  pub turns : Option Turns
   pub touching : Option ℕ
   pub crowded : Option ℕ
   pub pinched : Option ℕ
@@ -20,7 +21,7 @@ pub record Hints : Type 0 where
 -- of shell k
 pub record AreHints (s : SolidData) (k : ℕ) (h : Shell) (x : Hints) : Type 0 where
   pub bodies : IsExactly (AreBodies s h) x.bodies
-  pub missing : IsExactly (AreMissing s h) x.missing
+  pub turns : IsExactly (AreTurns (shell_rows s h)) x.turns
   pub touching : IsExactly (AreTouching (shell_rows s h)) x.touching
   pub crowded : IsExactly (AreCrowded (shell_rows s h)) x.crowded
   pub pinched : IsExactly (ArePinched s h) x.pinched

@@ -3,72 +3,15 @@
 ghost use Rattle.std.specs.Prelude.{◌≡◌, ◌<◌, ◌^◌, ◌++◌, ◌∷◌, [], OnOk, flat_map};
 ghost use Rattle.std.specs.List.{enumerate_from};
 ghost use Rattle.where_text.specs.Listing.{shown};
-ghost use Rattle.where_hints.specs.Lines.{bodies_named, body_line, body_lines, body_of, body_text, face_named, remove_line, removed, stray_lines, stray_text};
+ghost use Rattle.where_hints.specs.Lines.{bodies_named, body_line, body_lines, body_of, body_text, face_named, stray_lines, stray_text};
 
 use crate::counts::{put_count, put_end, put_head};
+use crate::naming::{Subject, put_faces};
 use crate::sentences::Hint;
 use face_hints::Bodies;
 use iges_base::{EntryNo, NoMemory, Out};
 use iges_params::File;
-use solid_data::{Shell, ShellAt};
-use where_text::{EntryNumbers, Listing, put_face, put_more_items, shown_members};
-
-/// The shell that hints are written on: its file, the shell, its number, and how much of lists is written.
-#[derive(Clone, Copy)]
-pub(crate) struct Subject<'a> {
-    pub(crate) file: &'a File,
-    pub(crate) shell: &'a Shell,
-    pub(crate) at: ShellAt,
-    pub(crate) listing: Listing,
-}
-
-#[tactic(auto, unfolding(crate::specs::Lines::remove_line))]
-fn put_remove(
-    out: &mut Out,
-    named: &mut EntryNumbers,
-    file: &File,
-    face: EntryNo,
-) -> Result<(), NoMemory>
-    ensures text { OnOk result (out.new ≡ out.old ++ remove_line file.now face) }
-    ensures named { OnOk result (named.new ≡ named.old ++ face ∷ []) }
-{
-    out.put(b"remove")?;
-    put_face(out, named, file, face)?;
-    out.put(b"\n")
-}
-
-fn put_removed(
-    out: &mut Out,
-    named: &mut EntryNumbers,
-    on: &Subject<'_>,
-    n: u32,
-) -> Result<(), NoMemory>
-    ensures text { OnOk result (out.new
-        ≡ out.old ++ removed on.now.file.now on.now.shell.now n) }
-    ensures named { OnOk result (named.new ≡ named.old ++ face_named on.now.shell.now n) }
-{
-    match on.shell.faces.get(n as usize) {
-        None => Ok(()),
-        Some(face) => put_remove(out, named, on.file, face.entity),
-    }
-}
-
-fn put_each_removed(
-    out: &mut Out,
-    named: &mut EntryNumbers,
-    on: &Subject<'_>,
-    faces: &[u32],
-) -> Result<(), NoMemory>
-    ensures text { OnOk result (out.new
-        ≡ out.old ++ flat_map (removed on.now.file.now on.now.shell.now) faces.now) }
-    ensures named { OnOk result (named.new
-        ≡ named.old ++ flat_map (face_named on.now.shell.now) faces.now) }
-{
-    'faces: for i in 0..faces.len() {
-        put_removed(out, named, on, faces[i])?;
-    }
-    Ok(())
-}
+use where_text::{EntryNumbers, put_face, put_more_items, shown_members};
 
 #[tactic(auto, unfolding(crate::specs::Lines::stray_lines))]
 fn put_stray_lines(
@@ -86,8 +29,7 @@ fn put_stray_lines(
     put_count(out, " faces", strays.len())?;
     put_count(out, " of", on.shell.faces.len())?;
     put_end(out, Hint::StrayFaces)?;
-    put_each_removed(out, named, on, shown_members(on.listing, strays))?;
-    put_more_items(out, strays.len() - on.listing.count(strays.len()))
+    put_faces(out, named, on, "remove", strays)
 }
 
 /// The faces that are left over; nothing where there are none.

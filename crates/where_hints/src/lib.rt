@@ -4,9 +4,11 @@
 mod bodies;
 mod counts;
 mod facts;
+mod naming;
 mod sentences;
+mod turning;
 mod writing;
 
 pub use facts::{Hints, hints_of};
 pub use sentences::Hint;
-pub use writing::put_hints;
+pub use writing::{HintView, put_hints};

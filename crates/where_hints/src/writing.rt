@@ -1,33 +1,55 @@
 //! The hints on a shell.
 
 ghost use Rattle.std.specs.Prelude.{◌≡◌, ◌++◌, OnOk};
-ghost use Rattle.where_hints.specs.Lines.{each_text, missing_text, first_text, hints_text, first_named};
+ghost use Rattle.where_hints.specs.Lines.{each_text, first_named, first_text, hints_named, hints_text, missing_named, missing_text, turns_named};
 
-use crate::bodies::{Subject, put_bodies, put_strays};
+use crate::bodies::{put_bodies, put_strays};
 use crate::counts::{put_counted, put_counted_if};
 use crate::facts::Hints;
+use crate::naming::Subject;
 use crate::sentences::Hint;
+use crate::turning::put_turns;
 use iges_base::{NoMemory, Out};
 use iges_params::File;
 use solid_data::{Shell, ShellAt};
+use solid_faults::Gap;
 use where_text::{EntryNumbers, Listing};
 
 // Each kind of edge and of vertex by itself.
-fn put_each(out: &mut Out, shell: ShellAt, hints: &Hints) -> Result<(), NoMemory>
-    ensures { OnOk result (out.new ≡ out.old ++ each_text shell.0 hints.now) }
+fn put_each(
+    out: &mut Out,
+    named: &mut EntryNumbers,
+    on: &Subject<'_>,
+    gaps: &[Gap],
+    hints: &Hints,
+) -> Result<(), NoMemory>
+    ensures text { OnOk result (out.new ≡ out.old
+        ++ each_text on.now.listing on.now.file.now on.now.shell.now on.now.at.0 gaps.now hints.now) }
+    ensures named { OnOk result (named.new
+        ≡ named.old ++ turns_named on.now.listing on.now.shell.now gaps.now hints.now.turns) }
 {
-    put_counted_if(out, Hint::Touching, " edges", shell, hints.touching)?;
-    put_counted_if(out, Hint::Crowded, " edges", shell, hints.crowded)?;
-    put_counted_if(out, Hint::Pinch, " vertices", shell, hints.pinched)
+    put_turns(out, named, on, gaps, &hints.turns)?;
+    put_counted_if(out, Hint::Touching, " edges", on.at, hints.touching)?;
+    put_counted_if(out, Hint::Crowded, " edges", on.at, hints.crowded)?;
+    put_counted_if(out, Hint::Pinch, " vertices", on.at, hints.pinched)
 }
 
 // That only faces are missing, or each kind by itself.
-fn put_missing(out: &mut Out, shell: ShellAt, hints: &Hints) -> Result<(), NoMemory>
-    ensures { OnOk result (out.new ≡ out.old ++ missing_text shell.0 hints.now hints.now.missing) }
+fn put_missing(
+    out: &mut Out,
+    named: &mut EntryNumbers,
+    on: &Subject<'_>,
+    gaps: &[Gap],
+    hints: &Hints,
+) -> Result<(), NoMemory>
+    ensures text { OnOk result (out.new ≡ out.old
+        ++ missing_text on.now.listing on.now.file.now on.now.shell.now on.now.at.0 gaps.now hints.now hints.now.missing) }
+    ensures named { OnOk result (named.new
+        ≡ named.old ++ missing_named on.now.listing on.now.shell.now gaps.now hints.now hints.now.missing) }
 {
     match hints.missing {
-        None => put_each(out, shell, hints),
-        Some(n) => put_counted(out, Hint::MissingFaces, " edges", shell, n),
+        None => put_each(out, named, on, gaps, hints),
+        Some(n) => put_counted(out, Hint::MissingFaces, " edges", on.at, n),
     }
 }
 
@@ -36,16 +58,16 @@ fn put_first(
     out: &mut Out,
     named: &mut EntryNumbers,
     on: &Subject<'_>,
+    gaps: &[Gap],
     hints: &Hints,
 ) -> Result<(), NoMemory>
     ensures text { OnOk result (out.new ≡ out.old
-        ++ first_text on.now.listing on.now.file.now on.now.shell.now on.now.at.0 hints.now
-        hints.now.bodies) }
-    ensures named { OnOk result (named.new ≡ named.old
-        ++ first_named on.now.listing on.now.shell.now hints.now.bodies) }
+        ++ first_text on.now.listing on.now.file.now on.now.shell.now on.now.at.0 gaps.now hints.now hints.now.bodies) }
+    ensures named { OnOk result (named.new
+        ≡ named.old ++ first_named on.now.listing on.now.shell.now gaps.now hints.now hints.now.bodies) }
 {
     match &hints.bodies {
-        None => put_missing(out, on.at, hints),
+        None => put_missing(out, named, on, gaps, hints),
         Some(found) => {
             put_strays(out, named, on, found.strays())?;
             put_bodies(out, named, on, found)
@@ -53,32 +75,41 @@ fn put_first(
     }
 }
 
-/// Appends the hints on a shell. The faces that they name join the others that are named.
+/// A shell that hints are written on: its file, its number, and how much of lists is written.
+#[derive(Clone, Copy)]
+pub struct HintView<'a> {
+    pub file: &'a File,
+    pub shell: &'a Shell,
+    pub at: ShellAt,
+    pub listing: Listing,
+}
+
+/// Appends the hints on a shell, whose loops have these gaps. The faces that they name join the others that are named.
+#[tactic(auto, unfolding(crate::specs::Lines::hints_text, crate::specs::Lines::hints_named))]
 pub fn put_hints(
     out: &mut Out,
     named: &mut EntryNumbers,
-    file: &File,
-    shell: (ShellAt, &Shell),
+    view: &HintView<'_>,
+    gaps: &[Gap],
     hints: &Hints,
-    listing: Listing,
 ) -> Result<(), NoMemory>
     ensures text { OnOk result (out.new ≡ out.old
-        ++ hints_text listing file.now shell.1.now shell.0.0 hints.now) }
-    ensures named { OnOk result (named.new ≡ named.old
-        ++ first_named listing shell.1.now hints.now.bodies) }
+        ++ hints_text view.now.listing view.now.file.now view.now.shell.now view.now.at.0 gaps.now hints.now) }
+    ensures named { OnOk result (named.new
+        ≡ named.old ++ hints_named view.now.listing view.now.shell.now gaps.now hints.now) }
 {
     let on = Subject {
-        file,
-        shell: shell.1,
-        at: shell.0,
-        listing,
+        file: view.file,
+        shell: view.shell,
+        at: view.at,
+        listing: view.listing,
     };
-    put_first(out, named, &on, hints)?;
+    put_first(out, named, &on, gaps, hints)?;
     put_counted_if(
         out,
         Hint::TouchingShells,
         " vertices",
-        shell.0,
+        view.at,
         hints.shared,
     )
 }
