@@ -30,12 +30,12 @@ use Rattle.record_values.specs.Told.{told_in}
 use Rattle.record_values.proofs.BadValues.{by_number, by_entity}
 use Rattle.record_values.proofs.Misfits.{misfits_are_first}
 use Rattle.where_records.specs.RecordText.{judged}
-use Rattle.bad_value_laws.specs.Breaks.{Breaks, BreaksBy, BadValuesBreak}
-use Rattle.bad_value_laws.proofs.NamedKinds.{a_vertex_list, an_entry, an_index, at_kind, bad_curve, named_there, no_entry, no_index, no_vertex_list}
-use Rattle.bad_value_laws.proofs.NamedKinds.{record_there, told_here}
-use Rattle.bad_value_laws.proofs.Sites.{edge_curve, edge_end, edge_end_index, edge_start, edge_start_index, face_item, loop_tuple, shell_item, solid_item}
-use Rattle.bad_value_laws.proofs.Sites.{tuple_curve, tuple_index, tuple_list}
-use Rattle.bad_value_laws.proofs.Splits.{at_item, split}
+use Rattle.record_laws.specs.Breaks.{Breaks, BreaksBy, BadValuesBreak}
+use Rattle.record_laws.proofs.NamedKinds.{a_vertex_list, an_entry, an_index, at_kind, bad_curve, named_there, no_entry, no_index, no_vertex_list}
+use Rattle.record_laws.proofs.NamedKinds.{record_there, told_here}
+use Rattle.record_laws.proofs.Sites.{edge_curve, edge_end, edge_end_index, edge_start, edge_start_index, face_item, loop_tuple, shell_item, solid_item}
+use Rattle.record_laws.proofs.Sites.{tuple_curve, tuple_index, tuple_list}
+use Rattle.record_laws.proofs.Splits.{at_item, split}
 
 abbrev fail : Rule → ℕ → ℕ → Failing
 fail r e item = record { rule = r; entity = record { 0 = e }; place = item }
