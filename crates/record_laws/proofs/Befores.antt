@@ -3,6 +3,7 @@ use Rattle.std.specs.Prelude.{◌≡◌, List, [], ◌∷◌, ◌++◌, ◌⊎�
 use Rattle.std.proofs.Common.{◌∙◌, inl, inr, ⊎_elim}
 use Rattle.solid_data.specs.Obligations.{Obligation, AllHold, FirstFalse}
 use Rattle.solid_data.specs.declared.verdict.Failing.{Failing}
+use Rattle.solid_data.proofs.ObligationLemmas.{FirstFalse-append_front, FirstFalse-append_rest}
 use Rattle.record_paths.specs.declared.path.Path.{Path}
 use Rattle.record_paths.specs.Paths.{Sited, all_owed, AreSame}
 use Rattle.record_paths.specs.Searched.{Bears}
@@ -46,6 +47,20 @@ before_split (o ∷ a) b y x h =
     (λ q. inr (⊎_elim (λ c. inl ((h.0, c.0), inr c.1, c.2)) (λ c. inr ((h.0, c.0), c.1)) q))
     (before_split a b y x r))
     h.1
+
+pub obligation_front : (a b : List Obligation) (y x : Failing) → ComesBefore y x a → ComesBefore y x (a ++ b)
+obligation_front [] b y x h = absurd h
+obligation_front (o ∷ a) b y x h =
+    (h.0, ⊎_elim (λ e. inl (e.0, FirstFalse-append_front a b x e.1)) (λ r. inr (obligation_front a b y x r)) h.1)
+
+pub obligation_rest : (a b : List Obligation) (y x : Failing) → AllHold a → ComesBefore y x b → ComesBefore y x (a ++ b)
+obligation_rest [] b y x all h = h
+obligation_rest (o ∷ a) b y x all h = (all.0, inr (obligation_rest a b y x all.1 h))
+
+pub obligation_across : (a b : List Obligation) (y x : Failing) → AllHold a → Bears a y → FirstFalse b x → ComesBefore y x (a ++ b)
+obligation_across [] b y x all h late = absurd h
+obligation_across (o ∷ a) b y x all h late =
+    (all.0, ⊎_elim (λ e. inl (e, FirstFalse-append_rest a b x all.1 late)) (λ r. inr (obligation_across a b y x all.1 r late)) h)
 
 -- ---- with their paths
 

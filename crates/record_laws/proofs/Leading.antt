@@ -27,7 +27,7 @@ seam_here (z ∷ before) rest y = seam_here before rest y
 pub seam : {A : Type 0} (before rest : List A) (y : A) (all : List A) → before ++ y ∷ rest ≡ all → slice_get all (length before) ≡ Some y
 seam before rest y all e = ap (λ xs. slice_get xs (length before)) (sym e) ∙ seam_here before rest y
 
-next : {A : Type 0} (before : List A) → suc (length before) ≡ length before + 1
+pub next : {A : Type 0} (before : List A) → suc (length before) ≡ length before + 1
 next before = omega arith
 
 lies_on : (x : Failing) (p : Option Path) (os : List Obligation) → FirstFalse os x → LiesOn x (on p os) p

@@ -6,3 +6,4 @@ pub mod Befores
 pub mod Settled
 pub mod NamedOnce
 pub mod Leading
+pub mod Earlier

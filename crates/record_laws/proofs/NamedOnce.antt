@@ -28,7 +28,7 @@ use Rattle.record_laws.proofs.Settled.{IsAt, at_name, kind_one, number_of}
 abbrev pub all_faces : Contents → List ℤ → List ℤ
 all_faces f known = flat_map (λ b. numbers (faces f b)) known
 
-numbers_push : (xs : List (ℤ × Bool)) (x : ℤ × Bool) → numbers (xs ++ x ∷ []) ≡ numbers xs ++ x.0 ∷ []
+pub numbers_push : (xs : List (ℤ × Bool)) (x : ℤ × Bool) → numbers (xs ++ x ∷ []) ≡ numbers xs ++ x.0 ∷ []
 numbers_push xs x = map-append (λ (i : ℤ × Bool). i.0) xs (x ∷ [])
 
 -- those before are among those before the next
@@ -41,7 +41,7 @@ pub known_this : (used : List ℤ) (xs : List (ℤ × Bool)) (x : ℤ × Bool) �
 known_this used xs x =
     subst (λ ns. Contains (used ++ ns) x.0) (sym (numbers_push xs x)) (Contains-append_right used (numbers xs ++ x.0 ∷ []) x.0 (Contains-push (numbers xs) x.0))
 
-faces_push : (f : Contents) (xs : List (ℤ × Bool)) (x : ℤ × Bool) → all_faces f (numbers (xs ++ x ∷ [])) ≡ all_faces f (numbers xs) ++ numbers (faces f x.0)
+pub faces_push : (f : Contents) (xs : List (ℤ × Bool)) (x : ℤ × Bool) → all_faces f (numbers (xs ++ x ∷ [])) ≡ all_faces f (numbers xs) ++ numbers (faces f x.0)
 faces_push f xs x =
     ap (all_faces f) (numbers_push xs x) ∙ flat_map-append (λ b. numbers (faces f b)) (numbers xs) (x.0 ∷ [])
     ∙ ap (λ ns. all_faces f (numbers xs) ++ ns) (append-nil (numbers (faces f x.0)))
@@ -72,13 +72,13 @@ module _ (f : Contents) (x : Failing) (tw : x.rule ≡ rule.Twice) where
 
   -- ---- obligations of other rules
 
-  record_none : (e : ℤ) (item : ℕ) (k : EntityKind) (z : ℤ) → ¬ Bears (record_places f e item k z) x
+  pub record_none : (e : ℤ) (item : ℕ) (k : EntityKind) (z : ℤ) → ¬ Bears (record_places f e item k z) x
   record_none e item k z b =
       ⊎_elim (λ h. let g : rule.NoEntry ≡ rule.Twice = clash rule.NoEntry (entry_number e) item h in cc)
       (λ r. ⊎_elim (λ h. let g : rule.WrongKind ≡ rule.Twice = clash rule.WrongKind (entry_number e) item h in cc)
       (λ q. ⊎_elim (λ h. let g : rule.BadLayout ≡ rule.Twice = clash rule.BadLayout (entry_number z) 0 h in cc) (λ n. n) q) r) b
 
-  geometry_none : (e item : ℕ) (P : Type 0) → ¬ Bears (obligation rule.BadGeometry e item P ∷ []) x
+  pub geometry_none : (e item : ℕ) (P : Type 0) → ¬ Bears (obligation rule.BadGeometry e item P ∷ []) x
   geometry_none e item P b = ⊎_elim (λ h. let g : rule.BadGeometry ≡ rule.Twice = clash rule.BadGeometry e item h in cc) (λ n. n) b
 
   item_none : (e : ℤ) (item : ℕ) (k : EntityKind) (z index : ℤ) (count : ℕ) → ¬ Bears (item_places f e item k z index count) x
@@ -106,7 +106,7 @@ module _ (f : Contents) (x : Failing) (tw : x.rule ≡ rule.Twice) where
       (λ q. edge_none v (entry_number index) (edge_at f v (entry_number index)) q)
       (bears_either place (edge_places f v (entry_number index) (edge_at f v (entry_number index))) x b)
 
-  tuples_none : (l : ℤ) (before ts : List LoopTuple) → ¬ Bears (after_each (tuple_places f l) before ts) x
+  pub tuples_none : (l : ℤ) (before ts : List LoopTuple) → ¬ Bears (after_each (tuple_places f l) before ts) x
   unfolding tuple_places
   tuples_none l before [] b = b
   tuples_none l before (t ∷ ts) b =

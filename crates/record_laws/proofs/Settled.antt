@@ -21,10 +21,7 @@ use Rattle.record_paths.specs.Paths.{naming_places, face_naming}
 use Rattle.record_paths.specs.Searched.{Bears}
 use Rattle.record_paths.proofs.Bearing.{bears_either}
 use Rattle.record_laws.proofs.NamedKinds.{at_kind}
-use Rattle.record_laws.proofs.Splits.{split}
-
-abbrev fail : Rule → ℕ → ℕ → Failing
-fail r e item = record { rule = r; entity = record { 0 = e }; place = item }
+use Rattle.record_laws.proofs.Splits.{fail, split}
 
 abbrev pub IsAt : ℕ → ℕ → Failing → Type 0
 IsAt e item x = (x.entity.0 ≡ e) × (x.place ≡ item)

@@ -1,4 +1,4 @@
-use Rattle.record_laws.proofs.Breaking.{bad_values_break}
+use Rattle.record_laws.proofs.Earlier.{bad_values_break}
 use Rattle.record_laws.proofs.law.bad_values_break.Goals as goal
 
 pub returns : goal.returns
