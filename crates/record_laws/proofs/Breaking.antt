@@ -30,32 +30,40 @@ use Rattle.record_values.specs.Told.{told_in}
 use Rattle.record_values.proofs.BadValues.{by_number, by_entity}
 use Rattle.record_values.proofs.Misfits.{misfits_are_first}
 use Rattle.where_records.specs.RecordText.{judged}
-use Rattle.bad_value_laws.specs.Breaks.{Breaks, BreaksBy, BadValuesBreak}
-use Rattle.bad_value_laws.proofs.NamedKinds.{a_vertex_list, an_entry, an_index, at_kind, bad_curve, named_there, no_entry, no_index, no_vertex_list}
-use Rattle.bad_value_laws.proofs.NamedKinds.{record_there, told_here}
-use Rattle.bad_value_laws.proofs.Sites.{edge_curve, edge_end, edge_end_index, edge_start, edge_start_index, face_item, loop_tuple, shell_item, solid_item}
-use Rattle.bad_value_laws.proofs.Sites.{tuple_curve, tuple_index, tuple_list}
-use Rattle.bad_value_laws.proofs.Splits.{at_item, split}
+use Rattle.record_laws.specs.Breaks.{BreaksBy}
+use Rattle.record_laws.proofs.NamedKinds.{a_vertex_list, an_entry, an_index, at_kind, bad_curve, named_there, no_entry, no_index, no_vertex_list}
+use Rattle.record_laws.proofs.NamedKinds.{record_there, told_here}
+use Rattle.record_laws.proofs.Sites.{edge_curve, edge_end, edge_end_index, edge_start, edge_start_index, face_item, loop_tuple, shell_item, solid_item}
+use Rattle.record_laws.proofs.Sites.{tuple_curve, tuple_index, tuple_list}
+use Rattle.record_laws.proofs.Splits.{at_item, fail, split}
 
-abbrev fail : Rule → ℕ → ℕ → Failing
-fail r e item = record { rule = r; entity = record { 0 = e }; place = item }
+abbrev Three : Contents → ℤ → Type 0
+Three f z = NamesKind shell f z ⊎ (NamesKind face f z ⊎ NamesKind «loop» f z)
 
-breaks_by : (f : Contents) (x : Failing) (bad : BadValue) → bad_value f x ≡ bad → BreaksBy f x bad x.rule → Breaks f x
-unfolding Breaks
-breaks_by f x bad e h = subst (λ b. BreaksBy f x b x.rule) (sym e) h
+-- the rule is broken; of Twice without the earlier place
+abbrev pub BrokenBy : Contents → Failing → BadValue → Rule → Type 0
+BrokenBy f x bad rule.Twice = Three f (judged f x.entity bad.place)
+BrokenBy f x bad r = BreaksBy f 0 x bad r
+
+unfoldable pub Broken : Contents → Failing → Type 0
+Broken f x = BrokenBy f x (bad_value f x) x.rule
+
+breaks_by : (f : Contents) (x : Failing) (bad : BadValue) → bad_value f x ≡ bad → BrokenBy f x bad x.rule → Broken f x
+unfolding Broken
+breaks_by f x bad e h = subst (λ b. BrokenBy f x b x.rule) (sym e) h
 
 -- the bad value of an entity of this kind
-bad_at : (f : Contents) (n : ℕ) (k : EntityKind) (r : Rule) (item : ℕ) → NamesKind k f (pos n) → is_of_number (fail r n item) ≡ false
+pub bad_at : (f : Contents) (n : ℕ) (k : EntityKind) (r : Rule) (item : ℕ) → NamesKind k f (pos n) → is_of_number (fail r n item) ≡ false
     → bad_value f (fail r n item) ≡ by_rule f r item (values_of f (pos n)) k
 bad_at f n k r item nk e = by_entity f (fail r n item) e ∙ ap (in_entity f (fail r n item)) (at_kind f (pos n) k nk)
 
 not_zero : (i : ℕ) → (suc i == 0) ≡ false
 not_zero i = elim (cases_Bool (suc i == 0)) [ inl t ↦ (let same = (Decides-eqb (suc i) 0).0 t in absurd (omega (arith, same))) | inr e ↦ e ]
 
-not_number : (r : Rule) (n i : ℕ) → is_of_number (fail r n (suc i)) ≡ false
+pub not_number : (r : Rule) (n i : ℕ) → is_of_number (fail r n (suc i)) ≡ false
 not_number r n i = ap (λ b. b && speaks_of_entry r) (not_zero i)
 
-layout_false : (f : Contents) (z : ℤ) (k : EntityKind) → NamesKind k f z → ¬ HasRecordOf k f z → Breaks f (fail rule.BadLayout (entry_number z) 0)
+layout_false : (f : Contents) (z : ℤ) (k : EntityKind) → NamesKind k f z → ¬ HasRecordOf k f z → Broken f (fail rule.BadLayout (entry_number z) 0)
 layout_false f (negsuc m) k nk h = absurd nk
 layout_false f (pos m) k nk h =
     let vs = values_of f (pos m) in
@@ -72,35 +80,32 @@ record Site (f : Contents) (e item : ℕ) (k : EntityKind) (number : ℤ) : Type
   there : judged f (record { 0 = e }) place ≡ number
 
 record_false : (f : Contents) (entity : ℤ) (item : ℕ) (k : EntityKind) (number : ℤ) (x : Failing) → Site f (entry_number entity) item k number
-    → FirstFalse (record_places f entity item k number) x → Breaks f x
+    → FirstFalse (record_places f entity item k number) x → Broken f x
 record_false f entity item k number x s h =
     let e = entry_number entity in
     ⊎_elim
-    (λ a. subst (Breaks f) (sym a.1) (breaks_by f (fail rule.NoEntry e item) _ (s.entry a.0) (λ n. a.0 (subst (Names f) s.there n))))
+    (λ a. subst (Broken f) (sym a.1) (breaks_by f (fail rule.NoEntry e item) _ (s.entry a.0) (λ n. a.0 (subst (Names f) s.there n))))
     (λ r. ⊎_elim
-    (λ b. subst (Breaks f) (sym b.1)
+    (λ b. subst (Broken f) (sym b.1)
     (breaks_by f (fail rule.WrongKind e item) _ (s.kind_due b.0)
     (subst (Names f) (sym s.there) r.0, (k, refl, λ n. b.0 (subst (NamesKind k f) s.there n)))))
-    (λ q. ⊎_elim (λ c. subst (Breaks f) (sym c.1) (layout_false f number k q.0 c.0)) (λ p. absurd p.1) q.1)
+    (λ q. ⊎_elim (λ c. subst (Broken f) (sym c.1) (layout_false f number k q.0 c.0)) (λ p. absurd p.1) q.1)
     r.1)
     h
-
-abbrev Three : Contents → ℤ → Type 0
-Three f z = NamesKind shell f z ⊎ (NamesKind face f z ⊎ NamesKind «loop» f z)
 
 -- a place that names a shell, a face or a loop, and what else is due there
 named_level : (f : Contents) (entity : ℤ) (item : ℕ) (k : EntityKind) (number : ℤ) (known : List ℤ) (more : List Obligation) (x : Failing)
     (s : Site f (entry_number entity) item k number)
     → bad_value f (fail rule.Twice (entry_number entity) item) ≡ record { place = s.place; due = None } → (NamesKind k f number → Three f number)
     → FirstFalse (record_places f entity item k number ++ (obligation rule.Twice (entry_number entity) item (¬ Contains known number) ∷ more)) x
-    → Breaks f x ⊎ (NamesKind k f number × FirstFalse more x)
+    → Broken f x ⊎ (NamesKind k f number × FirstFalse more x)
 named_level f entity item k number known more x s twice three h =
     ⊎_elim
     (λ front. inl (record_false f entity item k number x s front))
     (λ rest.
     let nk : NamesKind k f number = rest.0.1.0 in
     ⊎_elim
-    (λ a. inl (subst (Breaks f) (sym a.1) (breaks_by f (fail rule.Twice (entry_number entity) item) _ twice (subst (Three f) (sym s.there) (three nk)))))
+    (λ a. inl (subst (Broken f) (sym a.1) (breaks_by f (fail rule.Twice (entry_number entity) item) _ twice (subst (Three f) (sym s.there) (three nk)))))
     (λ b. inr (nk, b.1))
     rest.1)
     (split (record_places f entity item k number) (obligation rule.Twice (entry_number entity) item (¬ Contains known number) ∷ more) x h)
@@ -109,19 +114,19 @@ named_level f entity item k number known more x s twice three h =
 
 index_false : (f : Contents) (e item place : ℕ) (number index : ℤ) (count : ℕ) → bad_value f (fail rule.BadIndex e item) ≡ value_at place None
     → int_at (values_of f (pos e)) place ≡ index → int_at (values_of f (pos e)) (place - 1) ≡ number → item_count f number ≡ count → ¬ IsIndex index count
-    → Breaks f (fail rule.BadIndex e item)
+    → Broken f (fail rule.BadIndex e item)
 index_false f e item place number index count b i n c broken =
     breaks_by f (fail rule.BadIndex e item) _ b
     (λ h. broken (subst (λ m. IsIndex index m) (ap (item_count f) n ∙ c)
     (subst (λ z. IsIndex z (item_count f (int_at (values_of f (pos e)) (place - 1)))) i h)))
 
 item_false : (f : Contents) (entity : ℤ) (item : ℕ) (k : EntityKind) (number index : ℤ) (count : ℕ) (x : Failing) → Site f (entry_number entity) item k number
-    → (¬ IsIndex index count → Breaks f (fail rule.BadIndex (entry_number entity) item)) → FirstFalse (item_places f entity item k number index count) x
-    → Breaks f x
+    → (¬ IsIndex index count → Broken f (fail rule.BadIndex (entry_number entity) item)) → FirstFalse (item_places f entity item k number index count) x
+    → Broken f x
 item_false f entity item k number index count x s bad h =
     ⊎_elim
     (λ front. record_false f entity item k number x s front)
-    (λ rest. ⊎_elim (λ a. subst (Breaks f) (sym a.1) (bad a.0)) (λ b. absurd b.1) rest.1)
+    (λ rest. ⊎_elim (λ a. subst (Broken f) (sym a.1) (bad a.0)) (λ b. absurd b.1) rest.1)
     (split (record_places f entity item k number) (obligation rule.BadIndex (entry_number entity) item (IsIndex index count) ∷ []) x h)
 
 vertices_counted : (f : Contents) (z : ℤ) → item_count f z ≡ length (told vertices f z)
@@ -154,7 +159,7 @@ start_site f m i t nk hr there = record {
 }
 
 start_index : (f : Contents) (m i : ℕ) (t : EdgeTuple) → NamesKind edges f (pos m) → HasRecordOf edges f (pos m) → slice_get (told edges f (pos m)) i ≡ Some t
-    → ¬ IsIndex t.start_index (length (told vertices f t.start_list)) → Breaks f (fail rule.BadIndex m (suc i))
+    → ¬ IsIndex t.start_index (length (told vertices f t.start_list)) → Broken f (fail rule.BadIndex m (suc i))
 start_index f m i t nk hr there broken =
     let counted = vertices_counted f t.start_list in
     let none : ¬ IsIndex t.start_index (item_count f t.start_list) = λ h. broken (subst (λ n. IsIndex t.start_index n) counted h) in
@@ -178,7 +183,7 @@ end_site f m i t nk hr there start = record {
 
 end_index : (f : Contents) (m i : ℕ) (t : EdgeTuple) → NamesKind edges f (pos m) → HasRecordOf edges f (pos m) → slice_get (told edges f (pos m)) i ≡ Some t
     → IsIndex t.start_index (length (told vertices f t.start_list)) → ¬ IsIndex t.end_index (length (told vertices f t.end_list))
-    → Breaks f (fail rule.BadIndex m (suc i))
+    → Broken f (fail rule.BadIndex m (suc i))
 end_index f m i t nk hr there start broken =
     let some : IsIndex t.start_index (item_count f t.start_list) = subst (λ n. IsIndex t.start_index n) (sym (vertices_counted f t.start_list)) start in
     let before : 1 + 5 * i + 4 - 1 ≡ 1 + 5 * i + 3 = omega arith in
@@ -190,7 +195,7 @@ end_index f m i t nk hr there start broken =
 
 one_edge : (f : Contents) (m i : ℕ) (x : Failing) (o : Option EdgeTuple) → NamesKind edges f (pos m) → HasRecordOf edges f (pos m)
     → slice_get (told edges f (pos m)) i ≡ o
-    → FirstFalse (edge_places f (pos m) (suc i) o) x → Breaks f x
+    → FirstFalse (edge_places f (pos m) (suc i) o) x → Broken f x
 one_edge f m i x None nk hr there h = absurd h
 one_edge f m i x (Some t) nk hr there h =
     let geometry = obligation rule.BadGeometry m (suc i) (NamesGeometry f t.curve) ∷ [] in
@@ -199,7 +204,7 @@ one_edge f m i x (Some t) nk hr there h =
     ⊎_elim
     (λ front. ⊎_elim
     (λ g. ⊎_elim
-    (λ a. subst (Breaks f) (sym a.1) (breaks_by f (fail rule.BadGeometry m (suc i)) _
+    (λ a. subst (Broken f) (sym a.1) (breaks_by f (fail rule.BadGeometry m (suc i)) _
     (bad_at f m edges rule.BadGeometry (suc i) nk (not_number rule.BadGeometry m i) ∙ edge_bad f m i t rule.BadGeometry hr there)
     (λ n. a.0 (subst (NamesGeometry f) (edge_curve (values_of f (pos m)) i t there) n))))
     (λ b. absurd b.1)
@@ -214,7 +219,7 @@ one_edge f m i x (Some t) nk hr there h =
     (split (geometry ++ start) end x h)
 
 edge_false : (f : Contents) (e index : ℤ) (count : ℕ) (x : Failing) → NamesKind edges f e → HasRecordOf edges f e → IsIndex index count
-    → FirstFalse (edge_places f e (entry_number index) (edge_at f e (entry_number index))) x → Breaks f x
+    → FirstFalse (edge_places f e (entry_number index) (edge_at f e (entry_number index))) x → Broken f x
 edge_false f (negsuc m) index count x nk hr i h = absurd nk
 edge_false f (pos m) (negsuc j) count x nk hr i h = absurd (let e : negsuc j ≡ pos i.0 = i.1 in cc)
 edge_false f (pos m) (pos zero) count x nk hr i h =
@@ -246,7 +251,7 @@ tuple_site f m i t nk hr there = record {
 
 tuple_index_false : (f : Contents) (m i : ℕ) (t : LoopTuple) (count : ℕ) → NamesKind «loop» f (pos m) → HasRecordOf «loop» f (pos m)
     → slice_get (tuples f (pos m)) i ≡ Some t
-    → item_count f t.«list» ≡ count → ¬ IsIndex t.index count → Breaks f (fail rule.BadIndex m (suc i))
+    → item_count f t.«list» ≡ count → ¬ IsIndex t.index count → Broken f (fail rule.BadIndex m (suc i))
 tuple_index_false f m i t count nk hr there counted broken =
     let vs = values_of f (pos m) in
     let at = tuple_place (tuples f (pos m)) i in
@@ -257,7 +262,7 @@ tuple_index_false f m i t count nk hr there counted broken =
     (tuple_index vs at t read) (ap (int_at vs) before ∙ tuple_list vs at t read) counted broken
 
 curves_false : (f : Contents) (m i : ℕ) (t : LoopTuple) → NamesKind «loop» f (pos m) → HasRecordOf «loop» f (pos m) → slice_get (tuples f (pos m)) i ≡ Some t
-    → ¬ All (λ (c : Bool × ℤ). NamesGeometry f c.1) t.curves → Breaks f (fail rule.BadGeometry m (suc i))
+    → ¬ All (λ (c : Bool × ℤ). NamesGeometry f c.1) t.curves → Broken f (fail rule.BadGeometry m (suc i))
 curves_false f m i t nk hr there broken =
     let vs = values_of f (pos m) in
     let at = tuple_place (tuples f (pos m)) i in
@@ -270,7 +275,7 @@ curves_false f m i t nk hr there broken =
 
 used_false : (f : Contents) (m i : ℕ) (t : LoopTuple) (x : Failing) (v : Bool) → NamesKind «loop» f (pos m) → HasRecordOf «loop» f (pos m)
     → slice_get (tuples f (pos m)) i ≡ Some t → t.is_vertex ≡ v
-    → FirstFalse (used_places f (pos m) (suc i) t.«list» t.index v) x → Breaks f x
+    → FirstFalse (used_places f (pos m) (suc i) t.«list» t.index v) x → Broken f x
 used_false f m i t x true nk hr there e h =
     item_false f (pos m) (suc i) vertices t.«list» t.index (length (told vertices f t.«list»)) x
     (subst (λ b. Site f m (suc i) (list_kind b) t.«list») e (tuple_site f m i t nk hr there))
@@ -286,16 +291,16 @@ used_false f m i t x false nk hr there e h =
     (split place (edge_places f t.«list» (entry_number t.index) (edge_at f t.«list» (entry_number t.index))) x h)
 
 tuple_false : (f : Contents) (m i : ℕ) (t : LoopTuple) (x : Failing) → NamesKind «loop» f (pos m) → HasRecordOf «loop» f (pos m)
-    → slice_get (tuples f (pos m)) i ≡ Some t → FirstFalse (tuple_at f (pos m) (suc i) t) x → Breaks f x
+    → slice_get (tuples f (pos m)) i ≡ Some t → FirstFalse (tuple_at f (pos m) (suc i) t) x → Broken f x
 tuple_false f m i t x nk hr there h =
     ⊎_elim
     (λ front. used_false f m i t x t.is_vertex nk hr there refl front)
-    (λ rest. ⊎_elim (λ a. subst (Breaks f) (sym a.1) (curves_false f m i t nk hr there a.0)) (λ b. absurd b.1) rest.1)
+    (λ rest. ⊎_elim (λ a. subst (Broken f) (sym a.1) (curves_false f m i t nk hr there a.0)) (λ b. absurd b.1) rest.1)
     (split (used_places f (pos m) (suc i) t.«list» t.index t.is_vertex)
     (obligation rule.BadGeometry m (suc i) (All (λ (c : Bool × ℤ). NamesGeometry f c.1) t.curves) ∷ []) x h)
 
 tuples_false : (f : Contents) (l : ℤ) (x : Failing) → NamesKind «loop» f l → HasRecordOf «loop» f l
-    → FirstFalse (after_each (tuple_places f l) [] (tuples f l)) x → Breaks f x
+    → FirstFalse (after_each (tuple_places f l) [] (tuples f l)) x → Broken f x
 unfolding tuple_places
 tuples_false f (negsuc m) x nk hr h = absurd nk
 tuples_false f (pos m) x nk hr h =
@@ -306,7 +311,7 @@ tuples_false f (pos m) x nk hr h =
 
 -- ---- loops of a face, faces of a shell, shells of a solid
 
-loop_place : (i : ℕ) (d : Option Due) → value_at (if suc i == 0 then 0 else suc i + 2) d ≡ value_at (suc i + 2) d
+pub loop_place : (i : ℕ) (d : Option Due) → value_at (if suc i == 0 then 0 else suc i + 2) d ≡ value_at (suc i + 2) d
 loop_place i d = ap (λ b. value_at (if b then 0 else suc i + 2) d) (not_zero i)
 
 loop_site : (f : Contents) (m i : ℕ) (l : ℤ) → NamesKind face f (pos m) → slice_get (loops f (pos m)) i ≡ Some l → Site f m (suc i) «loop» l
@@ -318,7 +323,7 @@ loop_site f m i l nk there = record {
 }
 
 loop_false : (f : Contents) (m i : ℕ) (known : List ℤ) (l : ℤ) (x : Failing) → NamesKind face f (pos m) → slice_get (loops f (pos m)) i ≡ Some l
-    → FirstFalse (loop_at f (pos m) (suc i) known l) x → Breaks f x
+    → FirstFalse (loop_at f (pos m) (suc i) known l) x → Broken f x
 unfolding loop_site
 loop_false f m i known l x nk there h =
     let place = record_places f (pos m) (suc i) «loop» l in
@@ -331,7 +336,7 @@ loop_false f m i known l x nk there h =
     (split (place ++ once) (after_each (tuple_places f l) [] (tuples f l)) x h)
 
 loops_false : (f : Contents) (c : ℤ) (used : List ℤ) (x : Failing) → NamesKind face f c → FirstFalse (after_each (loop_places f c used) [] (loops f c)) x
-    → Breaks f x
+    → Broken f x
 unfolding loop_places
 loops_false f (negsuc m) used x nk h = absurd nk
 loops_false f (pos m) used x nk h =
@@ -341,7 +346,7 @@ loops_false f (pos m) used x nk h =
     loop_false f m a.place (used ++ a.before) a.item x nk a.there (subst (λ p. FirstFalse (loop_at f (pos m) p (used ++ a.before) a.item) x) place a.false_here)
 
 surface_false : (f : Contents) (c : ℤ) → NamesKind face f c → ¬ (let items = told face f c in NamesGeometry f items.surface)
-    → Breaks f (fail rule.BadGeometry (entry_number c) 0)
+    → Broken f (fail rule.BadGeometry (entry_number c) 0)
 surface_false f (negsuc m) nk broken = absurd nk
 surface_false f (pos m) nk broken = breaks_by f (fail rule.BadGeometry m 0) (value_at 0 (Some due.Geometry)) (bad_at f m face rule.BadGeometry 0 nk refl) broken
 
@@ -354,21 +359,21 @@ face_site f m i c nk there = record {
 }
 
 face_false : (f : Contents) (m i : ℕ) (known : List ℤ) (c : ℤ × Bool) (x : Failing) → NamesKind shell f (pos m) → slice_get (faces f (pos m)) i ≡ Some c
-    → FirstFalse (face_at f (pos m) (suc i) known c.0) x → Breaks f x
+    → FirstFalse (face_at f (pos m) (suc i) known c.0) x → Broken f x
 unfolding face_site
 face_false f m i known c x nk there h =
     let place = record_places f (pos m) (suc i) face c.0 in
     let surface = obligation rule.BadGeometry (entry_number c.0) 0 (let items = told face f c.0 in NamesGeometry f items.surface) ∷ [] in
     let once = obligation rule.Twice m (suc i) (¬ Contains known c.0) ∷ surface in
     ⊎_elim
-    (λ front. ⊎_elim (λ b. b) (λ n. ⊎_elim (λ a. subst (Breaks f) (sym a.1) (surface_false f c.0 n.0 a.0)) (λ b. absurd b.1) n.1)
+    (λ front. ⊎_elim (λ b. b) (λ n. ⊎_elim (λ a. subst (Broken f) (sym a.1) (surface_false f c.0 n.0 a.0)) (λ b. absurd b.1) n.1)
     (named_level f (pos m) (suc i) face c.0 known surface x (face_site f m i c nk there) (bad_at f m shell rule.Twice (suc i) nk (not_number rule.Twice m i))
     (λ n. inr (inl n)) front))
     (λ rest. let held = AllHold-append_left place once rest.0 in loops_false f c.0 (flat_map (loops f) known) x held.1.0 rest.1)
     (split (place ++ once) (after_each (loop_places f c.0 (flat_map (loops f) known)) [] (loops f c.0)) x h)
 
 faces_false : (f : Contents) (s : ℤ) (used : List ℤ) (x : Failing) → NamesKind shell f s → FirstFalse (after_each (face_places f s used) [] (faces f s)) x
-    → Breaks f x
+    → Broken f x
 unfolding face_places
 faces_false f (negsuc m) used x nk h = absurd nk
 faces_false f (pos m) used x nk h =
@@ -387,7 +392,7 @@ shell_site f n i s nk there = record {
 }
 
 shell_false : (f : Contents) (n i : ℕ) (known : List ℤ) (s : ℤ × Bool) (x : Failing) → NamesKind solid f (pos n) → slice_get (shells f (pos n)) i ≡ Some s
-    → FirstFalse (shell_at f (pos n) (suc i) known s.0) x → Breaks f x
+    → FirstFalse (shell_at f (pos n) (suc i) known s.0) x → Broken f x
 unfolding shell_site
 shell_false f n i known s x nk there h =
     let place = record_places f (pos n) (suc i) shell s.0 in
@@ -401,7 +406,7 @@ shell_false f n i known s x nk there h =
     (split (place ++ once) (after_each (face_places f s.0 used) [] (faces f s.0)) x h)
 
 shells_false : (f : Contents) (n : ℕ) (x : Failing) → NamesKind solid f (pos n) → FirstFalse (after_each (shell_places f (pos n)) [] (shells f (pos n))) x
-    → Breaks f x
+    → Broken f x
 unfolding shell_places
 shells_false f n x nk h =
     let a = at_item (shell_places f (pos n)) [] (shells f (pos n)) x h in
@@ -419,9 +424,9 @@ asked f n = record {
   there = refl;
 }
 
-pub bad_values_break : BadValuesBreak
+pub values_broken : (f : Contents) (n : ℕ) (x : Failing) → FirstFalse (places f n) x → Broken f x
 unfolding places
-bad_values_break f n x h =
+values_broken f n x h =
     ⊎_elim
     (λ front. record_false f (pos n) 0 solid (pos n) x (asked f n) front)
     (λ rest. shells_false f n x rest.0.1.0 rest.1)

@@ -1,8 +1,13 @@
 -- In which part of a list of obligations the first false one stands.
 use Rattle.std.specs.Prelude.{◌≡◌, ℕ, suc, ◌+◌, List, [], ◌∷◌, ◌++◌, ◌⊎◌, length, Some, slice_get}
 use Rattle.std.proofs.Common.{refl, arith, inl, inr, ⊎_elim, length-append}
+use Rattle.solid_data.specs.declared.verdict.Rule.{Rule}
 use Rattle.solid_data.specs.declared.verdict.Failing.{Failing}
 use Rattle.solid_data.specs.Obligations.{Obligation, AllHold, FirstFalse, after_each}
+
+-- what is named where a rule fails at an item of an entity
+abbrev pub fail : Rule → ℕ → ℕ → Failing
+fail r e item = record { rule = r; entity = record { 0 = e }; place = item }
 
 pub split : (os ps : List Obligation) (x : Failing) → FirstFalse (os ++ ps) x → FirstFalse os x ⊎ (AllHold os × FirstFalse ps x)
 split [] ps x h = inr (tt, h)

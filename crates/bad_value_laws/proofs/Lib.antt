@@ -1,4 +1,0 @@
-pub mod Splits
-pub mod NamedKinds
-pub mod Sites
-pub mod Breaking

@@ -1,5 +1,0 @@
-use Rattle.bad_value_laws.proofs.Breaking.{bad_values_break}
-use Rattle.bad_value_laws.proofs.law.bad_values_break.Goals as goal
-
-pub returns : goal.returns
-returns c = bad_values_break
