@@ -1,6 +1,6 @@
 -- Where an entity is named twice, the first place of the solid that names it comes before.
 use Rattle.std.specs.Prelude.{◌≡◌, ◌≢◌, ℕ, suc, ◌+◌, if◌then◌else◌, Bool, true, false, ℤ, pos, negsuc, List, [], ◌∷◌, ◌++◌, ◌⊎◌, length, flat_map, Contains}
-use Rattle.std.specs.Prelude.{Option, Some, None, slice_get, IsSomeAnd}
+use Rattle.std.specs.Prelude.{Some, None, slice_get, IsSomeAnd}
 use Rattle.std.specs.List.{enumerate_from}
 use Rattle.std.specs.Ordering.{int_eq}
 use Rattle.std.proofs.Common.{refl, sym, ◌∙◌, ap, subst, arith, inl, inr, ⊎_elim, length-append, append_assoc}
@@ -22,9 +22,9 @@ use Rattle.solid_data.specs.declared.verdict.Failing.{Failing}
 use Rattle.solid_data.proofs.Members.{Has, Has-from_Contains}
 use Rattle.solid_data.proofs.ObligationLemmas.{AllHold-append_left, AllHold-append_right}
 use Rattle.record_values.specs.declared.bad_values.BadValue.{BadValue}
-use Rattle.record_values.specs.declared.naming.Naming.{Naming}
-use Rattle.record_values.specs.BadValue.{bad_value, value_at}
-use Rattle.record_values.specs.Naming.{Names, names, shells_in, shells_told, faces_in, faces_told, loops_in, loops_told, names_in_face, names_in_shell, names_in_solid}
+use Rattle.record_values.specs.BadValue.{bad_value}
+use Rattle.record_values.specs.Naming.{Names, names, shells_in, shells_told, faces_in, faces_told, loops_in, loops_told, names_in_face, names_in_shell}
+use Rattle.record_values.specs.Naming.{names_in_solid}
 use Rattle.record_values.specs.Naming.{first_of, first_naming}
 use Rattle.record_paths.specs.Searched.{Bears}
 use Rattle.record_paths.proofs.Bearing.{bears_left, bears_right, first_bears}
@@ -125,7 +125,8 @@ face_listed f s z hr h =
     listed_in (λ (c : ℕ × (ℤ × Bool)). names s c.0 c.1.0 ∷ names_in_face f c.1.0) z (faces_in f s) c.0
     (subst (λ cs. Has cs c.0) (sym (faces_are f s hr)) c.1) (λ i. (names s i c.0.0, inl refl, c.2)) 1
 
-inner_listed : (f : Contents) (s z : ℤ) (c : ℤ × Bool) → HasRecordOf shell f s → Has (faces f s) c → Listed (names_in_face f c.0) z → Listed (names_in_shell f s) z
+inner_listed : (f : Contents) (s z : ℤ) (c : ℤ × Bool) → HasRecordOf shell f s → Has (faces f s) c → Listed (names_in_face f c.0) z
+    → Listed (names_in_shell f s) z
 inner_listed f s z c hr h l =
     listed_in (λ (c : ℕ × (ℤ × Bool)). names s c.0 c.1.0 ∷ names_in_face f c.1.0) z (faces_in f s) c
     (subst (λ cs. Has cs c) (sym (faces_are f s hr)) h) (λ i. (l.0, inr l.1, l.2)) 1
@@ -135,9 +136,11 @@ faces_fit : (f : Contents) (s : ℤ) (used : List ℤ) (before cs : List (ℤ ×
 unfolding face_places
 faces_fit f s used before [] c all h = absurd h
 faces_fit f s used before (y ∷ ys) c all h =
-    let here = AllHold-append_left (face_places f s used before y) (after_each (face_places f s used) (before ++ y ∷ []) ys) all in
+    let place = face_places f s used before y in
+    let others = after_each (face_places f s used) (before ++ y ∷ []) ys in
+    let here = AllHold-append_left place others all in
     ⊎_elim (λ e. subst (λ (w : ℤ × Bool). HasRecordOf face f w.0) e here.1.1.0)
-    (λ r. faces_fit f s used (before ++ y ∷ []) ys c (AllHold-append_right (face_places f s used before y) (after_each (face_places f s used) (before ++ y ∷ []) ys) all) r)
+    (λ r. faces_fit f s used (before ++ y ∷ []) ys c (AllHold-append_right place others all) r)
     h
 
 module _ (f : Contents) (x : Failing) (tw : x.rule ≡ rule.Twice) where
@@ -156,7 +159,7 @@ module _ (f : Contents) (x : Failing) (tw : x.rule ≡ rule.Twice) where
   abbrev Absent : List Names → Type 0
   Absent ns = (m : Names) → Has ns m → m.number ≢ number
 
-  -- The names up to that of x: each precedes it, and they have its number, if it was not known outside.
+  -- The names before that of x: each precedes it, and one has its number, if none outside has it.
   record IsFound (os : List Obligation) (ns : List Names) (Outer : Type 0) : Type 0 where
     early : List Names
     late : List Names
@@ -330,7 +333,9 @@ module _ (f : Contents) (x : Failing) (tw : x.rule ≡ rule.Twice) where
       (λ k. ⊎_elim (λ q. none (inl q)) (λ e. absent (names (pos m) (length before + 1) c.0) (inl refl) e)
       (in_push known c.0 number (subst (λ ns. Contains ns number) pushed k)))
       (λ k. ⊎_elim (λ q. none (inr q))
-      (λ q. let l = loop_listed f c.0 number held.1.1.0 (Has-from_Contains (loops f c.0) number (subst (λ ns. Contains ns number) (append-nil (loops f c.0)) q)) in
+      (λ q.
+      let new = subst (λ ns. Contains ns number) (append-nil (loops f c.0)) q in
+      let l = loop_listed f c.0 number held.1.1.0 (Has-from_Contains (loops f c.0) number new) in
       absent l.0 (inr l.1) l.2)
       (Contains-append_cases (flat_map (loops f) known) (flat_map (loops f) (c.0 ∷ [])) number
       (subst (λ ns. Contains ns number) (ap (flat_map (loops f)) pushed ∙ flat_map-append (loops f) known (c.0 ∷ [])) k)))

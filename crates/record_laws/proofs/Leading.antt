@@ -16,7 +16,8 @@ use Rattle.record_paths.proofs.Bearing.{first_bears, path_one, path_left, path_r
 use Rattle.record_paths.proofs.Same.{same_sited, same_false}
 use Rattle.record_laws.specs.Lying.{LiesOn, ComesBefore, PathsLeadToFalse}
 use Rattle.record_laws.proofs.Befores.{before_front, before_rest, before_across, before_same, lies_front, lies_rest}
-use Rattle.record_laws.proofs.Settled.{Named, tuple_settles, tuple_fresh, loop_settles, loop_fresh, face_settles, face_fresh, shell_settles, shell_fresh, whole_named}
+use Rattle.record_laws.proofs.Settled.{Named, tuple_settles, tuple_fresh, loop_settles, loop_fresh, face_settles, face_fresh, shell_settles, shell_fresh}
+use Rattle.record_laws.proofs.Settled.{whole_named}
 use Rattle.record_laws.proofs.NamedOnce.{places_once}
 
 seam_here : {A : Type 0} (before rest : List A) (y : A) → slice_get (before ++ y ∷ rest) (length before) ≡ Some y
@@ -48,13 +49,14 @@ module _ (f : Contents) (x : Failing) where
   abbrev IsOnce : List Sited → Type 0
   IsOnce ss = x.rule ≡ rule.Twice → ¬ ComesBefore x x (all_owed ss)
 
-  -- Where all hold, all that is owed where one bears the name does. Else that first false one is of another kind.
-  record IsGood (ss : List Sited) : Type 0 where
+  -- Where all hold, so does all that is owed where one bears the name. Where x is the first false one, the first that bears its name lies on its path, and x is
+  -- an obligation Twice, or not all that is owed there holds.
+  record Leads (ss : List Sited) : Type 0 where
     settled : AllHold (all_owed ss) → Bears (all_owed ss) x → Named f x
     found : IsOnce ss → FirstFalse (all_owed ss) x → Lies ss × Fresh
 
-  good_none : IsGood []
-  good_none = record { settled = λ all h. absurd h; found = λ once h. absurd h }
+  leads_none : Leads []
+  leads_none = record { settled = λ all h. absurd h; found = λ once h. absurd h }
 
   lies_left : (a b : List Sited) → Lies a → Lies (a ++ b)
   lies_left a b c = record { path = c.path; leads = path_left x a b c.path c.leads; lies = lies_front x a b c.path c.lies }
@@ -68,8 +70,8 @@ module _ (f : Contents) (x : Failing) where
       → FirstFalse (all_owed b) x → Fresh → ¬ Bears (all_owed a) x
   none_before a b settled once all late fresh h = ⊎_elim (λ tw. once tw (before_across a b x x all h late)) (λ never. never (settled all h)) fresh
 
-  good_join : (a b : List Sited) → IsGood a → (AllHold (all_owed a) → IsGood b) → IsGood (a ++ b)
-  good_join a b front rest = record {
+  leads_join : (a b : List Sited) → Leads a → (AllHold (all_owed a) → Leads b) → Leads (a ++ b)
+  leads_join a b front rest = record {
     settled = λ all h. let both = owed_hold a b all in ⊎_elim (front.settled both.0) ((rest both.0).settled both.1) (owed_bears a b x h);
     found = λ once h. ⊎_elim
         (λ early. let c = front.found (λ tw k. once tw (before_front a b x x k)) early in (lies_left a b c.0, c.1))
@@ -79,93 +81,94 @@ module _ (f : Contents) (x : Failing) where
         (owed_false a b x h);
   }
 
-  good_on : (p : Option Path) (os : List Obligation) → (AllHold os → Bears os x → Named f x) → (FirstFalse os x → Fresh) → IsGood (on p os)
-  good_on p os settled fresh = record {
+  leads_on : (p : Option Path) (os : List Obligation) → (AllHold os → Bears os x → Named f x) → (FirstFalse os x → Fresh) → Leads (on p os)
+  leads_on p os settled fresh = record {
     settled = λ all h. settled (on_hold p os all) (on_bears p os x h);
     found = λ once h.
         let bad = on_false p os x h in
         (record { path = p; leads = path_on x p os (first_bears os x bad); lies = lies_on x p os bad }, fresh bad);
   }
 
-  good_after : {A : Type 0} (g : List A → A → List Sited) (all : List A) → ((before : List A) (y : A) (rest : List A) → before ++ y ∷ rest ≡ all → IsGood (g before y))
-      → (before xs : List A) → before ++ xs ≡ all → IsGood (sited_after g before xs)
-  good_after g all each before [] e = good_none
-  good_after g all each before (y ∷ ys) e =
-      good_join (g before y) (sited_after g (before ++ y ∷ []) ys) (each before y ys e)
-      (λ h. good_after g all each (before ++ y ∷ []) ys (append_assoc before (y ∷ []) ys ∙ e))
+  leads_after : {A : Type 0} (g : List A → A → List Sited) (all : List A)
+      → ((before : List A) (y : A) (rest : List A) → before ++ y ∷ rest ≡ all → Leads (g before y))
+      → (before xs : List A) → before ++ xs ≡ all → Leads (sited_after g before xs)
+  leads_after g all each before [] e = leads_none
+  leads_after g all each before (y ∷ ys) e =
+      leads_join (g before y) (sited_after g (before ++ y ∷ []) ys) (each before y ys e)
+      (λ h. leads_after g all each (before ++ y ∷ []) ys (append_assoc before (y ∷ []) ys ∙ e))
 
   -- ---- the tuples of a loop
 
-  good_tuple : (m : ℕ) (p : Path) → NamesKind «loop» f (pos m) → (before : List LoopTuple) (t : LoopTuple) (rest : List LoopTuple)
-      → before ++ t ∷ rest ≡ tuples f (pos m) → IsGood (tuples_sited f p (pos m) before t)
+  leads_tuple : (m : ℕ) (p : Path) → NamesKind «loop» f (pos m) → (before : List LoopTuple) (t : LoopTuple) (rest : List LoopTuple)
+      → before ++ t ∷ rest ≡ tuples f (pos m) → Leads (tuples_sited f p (pos m) before t)
   unfolding tuples_sited tuple_places
-  good_tuple m p nk before t rest e =
+  leads_tuple m p nk before t rest e =
       let there = seam before rest t (tuples f (pos m)) e in
-      subst (λ item. IsGood (on (Some p) (tuple_at f (pos m) item t))) (next before)
-      (good_on (Some p) (tuple_at f (pos m) (suc (length before)) t) (tuple_settles f x m (length before) t nk there)
+      subst (λ item. Leads (on (Some p) (tuple_at f (pos m) item t))) (next before)
+      (leads_on (Some p) (tuple_at f (pos m) (suc (length before)) t) (tuple_settles f x m (length before) t nk there)
       (λ h. inr (tuple_fresh f x m (length before) t nk there h)))
 
-  good_tuples : (p : Path) (l : ℤ) → NamesKind «loop» f l → IsGood (sited_after (tuples_sited f p l) [] (tuples f l))
-  good_tuples p (negsuc m) nk = absurd nk
-  good_tuples p (pos m) nk = good_after (tuples_sited f p (pos m)) (tuples f (pos m)) (good_tuple m p nk) [] (tuples f (pos m)) refl
+  leads_tuples : (p : Path) (l : ℤ) → NamesKind «loop» f l → Leads (sited_after (tuples_sited f p l) [] (tuples f l))
+  leads_tuples p (negsuc m) nk = absurd nk
+  leads_tuples p (pos m) nk = leads_after (tuples_sited f p (pos m)) (tuples f (pos m)) (leads_tuple m p nk) [] (tuples f (pos m)) refl
 
   -- ---- the loops of a face
 
-  good_loop : (m : ℕ) (p : Path) (used : List ℤ) → NamesKind face f (pos m) → (before : List ℤ) (l : ℤ) (rest : List ℤ)
-      → before ++ l ∷ rest ≡ loops f (pos m) → IsGood (loops_sited f p (pos m) used before l)
+  leads_loop : (m : ℕ) (p : Path) (used : List ℤ) → NamesKind face f (pos m) → (before : List ℤ) (l : ℤ) (rest : List ℤ)
+      → before ++ l ∷ rest ≡ loops f (pos m) → Leads (loops_sited f p (pos m) used before l)
   unfolding loops_sited
-  good_loop m p used nk before l rest e =
+  leads_loop m p used nk before l rest e =
       let there = seam before rest l (loops f (pos m)) e in
       let known = used ++ before in
       let item = suc (length before) in
       let own = naming_places f (pos m) item «loop» known l in
-      subst (λ i. IsGood (loop_sited f p (pos m) i known l)) (next before)
-      (good_join (on (Some p) own) (sited_after (tuples_sited f (in_loop p l item) l) [] (tuples f l))
-      (good_on (Some p) own (loop_settles f x m (length before) known l nk there) (loop_fresh f x m (length before) known l nk there))
-      (λ held. good_tuples (in_loop p l item) l (on_hold (Some p) own held).1.0))
+      subst (λ i. Leads (loop_sited f p (pos m) i known l)) (next before)
+      (leads_join (on (Some p) own) (sited_after (tuples_sited f (in_loop p l item) l) [] (tuples f l))
+      (leads_on (Some p) own (loop_settles f x m (length before) known l nk there) (loop_fresh f x m (length before) known l nk there))
+      (λ held. leads_tuples (in_loop p l item) l (on_hold (Some p) own held).1.0))
 
-  good_loops : (p : Path) (used : List ℤ) (c : ℤ) → NamesKind face f c → IsGood (sited_after (loops_sited f p c used) [] (loops f c))
-  good_loops p used (negsuc m) nk = absurd nk
-  good_loops p used (pos m) nk = good_after (loops_sited f p (pos m) used) (loops f (pos m)) (good_loop m p used nk) [] (loops f (pos m)) refl
+  leads_loops : (p : Path) (used : List ℤ) (c : ℤ) → NamesKind face f c → Leads (sited_after (loops_sited f p c used) [] (loops f c))
+  leads_loops p used (negsuc m) nk = absurd nk
+  leads_loops p used (pos m) nk = leads_after (loops_sited f p (pos m) used) (loops f (pos m)) (leads_loop m p used nk) [] (loops f (pos m)) refl
 
   -- ---- the faces of a shell
 
-  good_face : (m : ℕ) (p : Path) (used : List ℤ) → NamesKind shell f (pos m) → (before : List (ℤ × Bool)) (c : ℤ × Bool) (rest : List (ℤ × Bool))
-      → before ++ c ∷ rest ≡ faces f (pos m) → IsGood (faces_sited f p (pos m) used before c)
+  leads_face : (m : ℕ) (p : Path) (used : List ℤ) → NamesKind shell f (pos m) → (before : List (ℤ × Bool)) (c : ℤ × Bool) (rest : List (ℤ × Bool))
+      → before ++ c ∷ rest ≡ faces f (pos m) → Leads (faces_sited f p (pos m) used before c)
   unfolding faces_sited
-  good_face m p used nk before c rest e =
+  leads_face m p used nk before c rest e =
       let there = seam before rest c (faces f (pos m)) e in
       let known = used ++ numbers before in
       let item = suc (length before) in
       let own = face_naming f (pos m) item known c.0 in
       let inner = flat_map (loops f) known in
-      subst (λ i. IsGood (face_sited f p (pos m) i known c.0)) (next before)
-      (good_join (on (Some p) own) (sited_after (loops_sited f (in_face p c.0 item) c.0 inner) [] (loops f c.0))
-      (good_on (Some p) own (face_settles f x m (length before) known c nk there) (face_fresh f x m (length before) known c nk there))
-      (λ held. good_loops (in_face p c.0 item) inner c.0 (on_hold (Some p) own held).1.0))
+      subst (λ i. Leads (face_sited f p (pos m) i known c.0)) (next before)
+      (leads_join (on (Some p) own) (sited_after (loops_sited f (in_face p c.0 item) c.0 inner) [] (loops f c.0))
+      (leads_on (Some p) own (face_settles f x m (length before) known c nk there) (face_fresh f x m (length before) known c nk there))
+      (λ held. leads_loops (in_face p c.0 item) inner c.0 (on_hold (Some p) own held).1.0))
 
-  good_faces : (p : Path) (used : List ℤ) (s : ℤ) → NamesKind shell f s → IsGood (sited_after (faces_sited f p s used) [] (faces f s))
-  good_faces p used (negsuc m) nk = absurd nk
-  good_faces p used (pos m) nk = good_after (faces_sited f p (pos m) used) (faces f (pos m)) (good_face m p used nk) [] (faces f (pos m)) refl
+  leads_faces : (p : Path) (used : List ℤ) (s : ℤ) → NamesKind shell f s → Leads (sited_after (faces_sited f p s used) [] (faces f s))
+  leads_faces p used (negsuc m) nk = absurd nk
+  leads_faces p used (pos m) nk = leads_after (faces_sited f p (pos m) used) (faces f (pos m)) (leads_face m p used nk) [] (faces f (pos m)) refl
 
   -- ---- the shells of a solid
 
-  good_shell : (m : ℕ) (p : Path) → NamesKind solid f (pos m) → (before : List (ℤ × Bool)) (s : ℤ × Bool) (rest : List (ℤ × Bool))
-      → before ++ s ∷ rest ≡ shells f (pos m) → IsGood (shells_sited f p (pos m) before s)
+  leads_shell : (m : ℕ) (p : Path) → NamesKind solid f (pos m) → (before : List (ℤ × Bool)) (s : ℤ × Bool) (rest : List (ℤ × Bool))
+      → before ++ s ∷ rest ≡ shells f (pos m) → Leads (shells_sited f p (pos m) before s)
   unfolding shells_sited
-  good_shell m p nk before s rest e =
+  leads_shell m p nk before s rest e =
       let there = seam before rest s (shells f (pos m)) e in
       let known = numbers before in
       let item = suc (length before) in
       let own = naming_places f (pos m) item shell known s.0 in
       let inner = flat_map (λ b. numbers (faces f b)) known in
-      subst (λ i. IsGood (shell_sited f p (pos m) i known s.0)) (next before)
-      (good_join (on (Some p) own) (sited_after (faces_sited f (in_shell p s.0 item) s.0 inner) [] (faces f s.0))
-      (good_on (Some p) own (shell_settles f x m (length before) known s nk there) (shell_fresh f x m (length before) known s nk there))
-      (λ held. good_faces (in_shell p s.0 item) inner s.0 (on_hold (Some p) own held).1.0))
+      subst (λ i. Leads (shell_sited f p (pos m) i known s.0)) (next before)
+      (leads_join (on (Some p) own) (sited_after (faces_sited f (in_shell p s.0 item) s.0 inner) [] (faces f s.0))
+      (leads_on (Some p) own (shell_settles f x m (length before) known s nk there) (shell_fresh f x m (length before) known s nk there))
+      (λ held. leads_faces (in_shell p s.0 item) inner s.0 (on_hold (Some p) own held).1.0))
 
-  good_shells : (m : ℕ) → NamesKind solid f (pos m) → IsGood (sited_after (shells_sited f in_solid (pos m)) [] (shells f (pos m)))
-  good_shells m nk = good_after (shells_sited f in_solid (pos m)) (shells f (pos m)) (good_shell m in_solid nk) [] (shells f (pos m)) refl
+  leads_shells : (m : ℕ) → NamesKind solid f (pos m) → Leads (sited_after (shells_sited f in_solid (pos m)) [] (shells f (pos m)))
+  leads_shells m nk = leads_after (shells_sited f in_solid (pos m)) (shells f (pos m)) (leads_shell m in_solid nk) [] (shells f (pos m)) refl
 
   -- ---- the solid
 
@@ -203,7 +206,7 @@ module _ (f : Contents) (x : Failing) where
       let rest = sited_after (shells_sited f in_solid (pos n)) [] (shells f (pos n)) in
       ⊎_elim (λ a. lies_left (head n) rest (head_lies n a))
       (λ r.
-      let c = (good_shells n r.0.1.0).found (λ tw k. once tw (before_rest (head n) rest x x r.0 k)) r.1 in
+      let c = (leads_shells n r.0.1.0).found (λ tw k. once tw (before_rest (head n) rest x x r.0 k)) r.1 in
       lies_right (head n) rest r.0 (none_before (head n) rest (λ all b. whole_named f x n all.1.0 all.1.1.0 b) once r.0 r.1 c.1) c.0)
       (owed_false (head n) rest x h)
 

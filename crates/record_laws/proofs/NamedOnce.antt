@@ -1,6 +1,6 @@
 -- No obligation Twice that holds before the first false one bears the name of that one: a shell, a face and a loop are named once.
 use Rattle.std.specs.Prelude.{◌≡◌, ℕ, ◌+◌, ◌<◌, Bool, true, false, ℤ, pos, List, [], ◌∷◌, ◌++◌, ◌⊎◌, length, flat_map, All, Contains, Option, Some, None}
-use Rattle.std.proofs.Common.{refl, sym, ◌∙◌, ap, subst, arith, inl, inr, ⊎_elim, length-append, append_assoc}
+use Rattle.std.proofs.Common.{sym, ◌∙◌, ap, subst, arith, inl, inr, ⊎_elim, length-append, append_assoc}
 use Rattle.std.proofs.lemmas.List.{append-nil, map-append}
 use Rattle.std.proofs.lemmas.List.Elements.{Contains-append_left, Contains-append_right, Contains-push}
 use Rattle.std.proofs.lemmas.Grind.{flat_map-append}
@@ -11,8 +11,8 @@ use Rattle.brep_lists.specs.declared.entity_kind.EntityKind.TheVariants.{Solid a
 use Rattle.brep_lists.specs.declared.entity_kind.EntityKind.TheVariants.{VertexList as vertices}
 use Rattle.brep_lists.specs.declared.edge_list.EdgeTuple.{EdgeTuple}
 use Rattle.brep_walk.specs.Places.{told, shells, faces, loops, tuples, numbers, edge_at, NamesKind, NamesGeometry, IsIndex, record_places, item_places}
-use Rattle.brep_walk.specs.Places.{edge_places, used_places, tuple_at, tuple_places, loop_at, loop_places, face_at, face_places, shell_at, shell_places, places}
-use Rattle.solid_data.specs.Obligations.{Obligation, AllHold, FirstFalse, obligation, entry_number, after_each}
+use Rattle.brep_walk.specs.Places.{edge_places, used_places, tuple_places, loop_at, loop_places, face_at, face_places, shell_at, shell_places, places}
+use Rattle.solid_data.specs.Obligations.{Obligation, obligation, entry_number, after_each}
 use Rattle.solid_data.specs.declared.verdict.Rule.{Rule}
 use Rattle.solid_data.specs.declared.verdict.Rule.TheVariants as rule
 use Rattle.solid_data.specs.declared.verdict.Failing.{Failing}
@@ -139,7 +139,8 @@ module _ (f : Contents) (x : Failing) (tw : x.rule ≡ rule.Twice) where
       let rest = (obligation rule.Twice (entry_number c) place (¬ Contains known l) ∷ []) ++ tuples_owe l in
       ⊎_elim (λ q. record_none c place «loop» l (before_bears own x x q))
       (λ r. ⊎_elim (λ q. record_none c place «loop» l q.1)
-      (λ q. ⊎_elim (λ e. tuples_none l [] (tuples f l) (first_bears (tuples_owe l) x e.1)) (λ e. tuples_none l [] (tuples f l) (before_bears (tuples_owe l) x x e)) q.1.1)
+      (λ q. ⊎_elim (λ e. tuples_none l [] (tuples f l) (first_bears (tuples_owe l) x e.1))
+      (λ e. tuples_none l [] (tuples f l) (before_bears (tuples_owe l) x x e)) q.1.1)
       r)
       (before_split own rest x x h)
 
@@ -150,8 +151,12 @@ module _ (f : Contents) (x : Failing) (tw : x.rule ≡ rule.Twice) where
   loops_reached c used before (l ∷ ls) h =
       let more = length-append before (l ∷ []) in
       ⊎_elim
-      (λ q. let at = loop_reached c (length before + 1) (used ++ before) l q in let place = at.1 in (at.0, (let r : length before < x.place = omega (arith, place) in r)))
-      (λ q. let at = loops_reached c used (before ++ l ∷ []) ls q.1 in let late = at.1 in (at.0, (let r : length before < x.place = omega (arith, late, more) in r)))
+      (λ q.
+      let at = loop_reached c (length before + 1) (used ++ before) l q in
+      let place = at.1 in (at.0, (let r : length before < x.place = omega (arith, place) in r)))
+      (λ q.
+      let at = loops_reached c used (before ++ l ∷ []) ls q.1 in
+      let late = at.1 in (at.0, (let r : length before < x.place = omega (arith, late, more) in r)))
       (reached_split (loop_places f c used before l) (after_each (loop_places f c used) (before ++ l ∷ []) ls) x h)
 
   loops_once : (c : ℤ) (used before ls : List ℤ) → ¬ ComesBefore x x (after_each (loop_places f c used) before ls)
@@ -219,7 +224,9 @@ module _ (f : Contents) (x : Failing) (tw : x.rule ≡ rule.Twice) where
       after_record kind h =
           ⊎_elim
           (λ e. ⊎_elim (λ b. geometry_none (entry_number c) 0 (Surface c) (inl b.1))
-          (λ u. two_kinds s (at_name x rule.Twice (entry_number s) place e.0).0 nk (in_face c known kind h.0 (false_reached (loops_owe known c) x u.1)).1.0) e.1)
+          (λ u.
+          let of = in_face c known kind h.0 (false_reached (loops_owe known c) x u.1) in
+          two_kinds s (at_name x rule.Twice (entry_number s) place e.0).0 nk of.1.0) e.1)
           (λ e. ⊎_elim (λ b. geometry_none (entry_number c) 0 (Surface c) (inl b.0))
           (λ u. loops_once c (flat_map (loops f) known) [] (loops f c) u) e.1)
           h.1

@@ -11,7 +11,7 @@ use Rattle.brep_lists.specs.declared.entity_kind.EntityKind.TheVariants.{VertexL
 use Rattle.brep_lists.specs.declared.edge_list.EdgeTuple.{EdgeTuple}
 use Rattle.brep_walk.specs.Places.{told, shells, faces, loops, tuples, edge_at, NamesKind, NamesGeometry, HasRecordOf, IsIndex, record_places, item_places}
 use Rattle.brep_walk.specs.Places.{edge_places, used_places, tuple_at}
-use Rattle.solid_data.specs.Obligations.{Obligation, AllHold, FirstFalse, obligation, entry_number}
+use Rattle.solid_data.specs.Obligations.{AllHold, FirstFalse, obligation, entry_number}
 use Rattle.solid_data.specs.declared.verdict.Rule.{Rule}
 use Rattle.solid_data.specs.declared.verdict.Rule.TheVariants as rule
 use Rattle.solid_data.specs.declared.verdict.Failing.{Failing}
