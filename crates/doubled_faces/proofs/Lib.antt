@@ -1,2 +1,3 @@
 pub mod SortedLists
 pub mod DoubleLemmas
+pub mod OtherLemmas

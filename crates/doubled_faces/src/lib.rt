@@ -4,8 +4,10 @@
 //! more: so no hole is left where the copy goes.
 #![tactic(auto)]
 
+mod doubled;
 mod doubles;
 mod finding;
 mod keys;
 
+pub use doubled::doubled_faces;
 pub use doubles::{Doubles, doubles_of};

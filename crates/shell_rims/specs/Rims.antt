@@ -1,11 +1,11 @@
 -- The rims of a shell: edges with one row each, in groups that common ends join. Edges are told by the places of their rows in a list.
-use Rattle.std.specs.Prelude.{◌≡◌, ◌≤◌, ◌==◌, ◌⊎◌, ℕ, List, [], ◌∷◌, length, flat_map, Some, slice_get, if◌then◌else◌}
-use Rattle.std.specs.List.{AllByRecursion, enumerate_from}
+use Rattle.std.specs.Prelude.{◌≡◌, ◌≤◌, ◌⊎◌, ℕ, List, [], ◌∷◌, length, flat_map, Some, slice_get}
+use Rattle.std.specs.List.{AllByRecursion}
 use Rattle.std.specs.Option.{option_to_list}
-use Rattle.solid_data.specs.Chain.{LeadsTo}
 use Rattle.solid_data.proofs.Members.{Has}
 use Rattle.edge_uses.specs.declared.row.Row.{Row}
 use Rattle.shell_components.specs.Groups.{places_of}
+use Rattle.shell_classes.specs.Leasts.{AreLeasts}
 
 -- the row starts or ends at the vertex
 abbrev pub IsEnd : Row → ℕ → Type 0
@@ -22,17 +22,8 @@ pub record ShareEnd (rows : List Row) (i j : ℕ) : Type 0 where
   pub ends_j : IsEnd other vertex
 
 -- for each row the first of its rim: the least that chains of common ends lead to
-pub record AreRims (rows : List Row) (firsts : List ℕ) : Type 0 where
-  pub each : length firsts ≡ length rows
-  pub joined : (i f : ℕ) → slice_get firsts i ≡ Some f → LeadsTo (ShareEnd rows) i f
-  pub least : (i f j : ℕ) → slice_get firsts i ≡ Some f → LeadsTo (ShareEnd rows) i j → f ≤ j
-
--- the rims, each by its first row
-abbrev pub first_if : ℕ × ℕ → List ℕ
-first_if f = if f.0 == f.1 then f.0 ∷ [] else []
-
-abbrev pub rims_from : List ℕ → List ℕ
-rims_from firsts = flat_map first_if (enumerate_from 0 firsts)
+abbrev pub AreRims : List Row → List ℕ → Type 0
+AreRims rows firsts = AreLeasts (ShareEnd rows) (length rows) firsts
 
 -- the rows of a rim, in order
 abbrev pub rim_rows : List ℕ → ℕ → List ℕ

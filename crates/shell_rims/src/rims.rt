@@ -5,15 +5,15 @@ ghost use Rattle.std.specs.List.{AllByRecursion};
 ghost use Rattle.std.specs.List.Sorted.{IsStrictlyIncreasing};
 ghost use Rattle.edge_uses.specs.declared.row.Row.{Row as AnyRow};
 ghost use Rattle.solid_data.specs.Ring.{place_of as place_in};
-ghost use Rattle.shell_components.specs.Trees.{AreTrees};
 ghost use Rattle.shell_rims.specs.LoneRows.{lone_rows as all_lone};
 ghost use Rattle.shell_rims.specs.Only.{row_ends, end_pairs as all_end_pairs};
-ghost use Rattle.shell_rims.specs.Rims.{AreRims, IsLeast, first_if, rims_from, ends_at};
+ghost use Rattle.shell_rims.specs.Rims.{AreRims, IsLeast, ends_at};
 
 use crate::lone::lone_rows;
-use edge_uses::{Row, Rows, Span, place_of};
+use edge_uses::{Row, Rows, place_of};
 use iges_base::NoMemory;
-use shell_components::{Groups, components, grouped};
+use shell_classes::{classes, grouped_leasts};
+use shell_components::{Groups, components};
 use solid_data::VertexId;
 use std::alloc::Global;
 use std::marker::Model;
@@ -108,19 +108,6 @@ fn firsts_of(alloc: Global, rows: &[Row], vertices: &[u32]) -> Result<Vec<u32>, 
     Ok(firsts)
 }
 
-fn grouped_firsts(alloc: Global, firsts: &[u32]) -> Result<Groups, NoMemory>
-    requires low { AreTrees firsts.now }
-    requires few { length firsts.now < 2 ^ 32 }
-    ensures { IfOk result (λ groups. groups ≡ firsts.now) }
-{
-    let numbers = Vec::from_slice(alloc, firsts)?;
-    let range = Span {
-        least: 0,
-        count: firsts.len(),
-    };
-    grouped(alloc, numbers, range)
-}
-
 /// The rims of a shell whose rows are given.
 pub fn rims_of(alloc: Global, rows: &Rows) -> Result<Rims, NoMemory>
     ensures rows { IfOk result (λ rims. rims.rows ≡ all_lone rows.now) }
@@ -132,33 +119,12 @@ pub fn rims_of(alloc: Global, rows: &Rows) -> Result<Rims, NoMemory>
         return Err(NoMemory);
     }
     let firsts = firsts_of(alloc, lone.as_slice(), vertices)?;
-    let groups = grouped_firsts(alloc, firsts.as_slice())?;
+    let groups = grouped_leasts(alloc, firsts.as_slice())?;
     Ok(Rims {
         rows: lone,
         firsts,
         groups,
     })
-}
-
-fn push_first(rim: u32, i: u32, out: &mut Vec<u32>) -> Result<(), NoMemory>
-    ensures { IfOk result (λ _. out.new.items ≡ out.old.items ++ first_if (i, rim)) }
-{
-    if i == rim {
-        out.push(i)?;
-    }
-    Ok(())
-}
-
-// The rims, each by its first row.
-fn rims_among(alloc: Global, firsts: &[u32]) -> Result<Vec<u32>, NoMemory>
-    requires { length firsts.now < 2 ^ 32 }
-    ensures { IfOk result (λ out. out.items ≡ rims_from firsts.now) }
-{
-    let mut out = Vec::new(alloc);
-    'rows: for i in 0..firsts.len() {
-        push_first(firsts[i], i as u32, &mut out)?;
-    }
-    Ok(out)
 }
 
 fn push_row_ends(rows: &[Row], i: u32, out: &mut Vec<u32>) -> Result<(), NoMemory>
@@ -188,7 +154,8 @@ fn least_in(numbers: &[u32]) -> Option<u32>
 impl Rims {
     ghost use Rattle.std.specs.Prelude.{◌≡◌, ◌<◌, ◌^◌, [], IfOk, MatchOption, length};
     ghost use Rattle.std.specs.List.{AllByRecursion};
-    ghost use Rattle.shell_rims.specs.Rims.{rims_from, rim_rows, rim_ends, IsLeast};
+    ghost use Rattle.shell_classes.specs.Leasts.{classes_of};
+    ghost use Rattle.shell_rims.specs.Rims.{rim_rows, rim_ends, IsLeast};
 
     /// The rows that are alone, by rising edge. A row is told below by its place in this list, from 0.
     pub fn rows(&self) -> &[Row]
@@ -200,9 +167,9 @@ impl Rims {
     /// The rims, each by its first row, in order.
     pub fn rims(&self, alloc: Global) -> Result<Vec<u32>, NoMemory>
         requires { length self.now.firsts < 2 ^ 32 }
-        ensures { IfOk result (λ rims. rims.items ≡ rims_from self.now.firsts) }
+        ensures { IfOk result (λ rims. rims.items ≡ classes_of self.now.firsts) }
     {
-        rims_among(alloc, self.firsts.as_slice())
+        classes(alloc, self.firsts.as_slice())
     }
 
     /// The rows of a rim, which is told by its first row, in order.

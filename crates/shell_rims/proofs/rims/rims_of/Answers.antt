@@ -8,6 +8,6 @@ firsts_of-requires-clause-known c =
     subst (λ vs. AreKnown vs c.as_slice.result.now) (sym c.vertex_slice-vertices.ensures.items)
     (subst (AreKnown c.args.rows.now.vertices) (sym (c.as_slice.ensures.value ∙ c.in_ok-lone.ensures)) (lone_known c.args.rows.now c.vertex_slice-vertices.ensures.kept))
 
-pub grouped_firsts-requires-clause-low : goal.grouped_firsts-requires-clause-low
-grouped_firsts-requires-clause-low c =
+pub grouped_leasts-requires-clause-low : goal.grouped_leasts-requires-clause-low
+grouped_leasts-requires-clause-low c =
     subst AreTrees (sym c.as_slice-2.ensures.value) (rims_low c.as_slice.result.now c.in_ok-firsts.firsts.items c.in_ok-firsts.ensures)
