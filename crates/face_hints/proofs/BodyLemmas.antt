@@ -200,7 +200,7 @@ pub exactly_found : (s : SolidData) (h : Shell) (firsts bodies : List ℕ) (torn
     → 1 < length (classes_of firsts) → ((q : ℕ) → (get_or torn q false ≡ true) ↔ IsTorn (shell_rows s h) firsts q)
     → AreThose (ClosedIn s h firsts) (classes_of firsts) bodies → AreTold (classes_of firsts) bodies torn
     → MatchOption o (¬ (2 * length (strays_of firsts bodies) < length firsts))
-        (λ b. (b ≡ found_bodies firsts bodies) × (2 * length (strays_of firsts bodies) < length firsts))
+    (λ b. (b ≡ found_bodies firsts bodies) × (2 * length (strays_of firsts bodies) < length firsts))
     → IsExactly (AreBodies s h) o
 exactly_found s h firsts bodies torn None a many marks those told found = many_strays s h firsts bodies a those found
 exactly_found s h firsts bodies torn (Some b) a many marks those told found = some_bodies s h firsts bodies torn b a many marks those told found.1 found.0

@@ -1,6 +1,6 @@
 -- Bodies, by the tables that the code has.
 use Rattle.std.specs.Prelude.{◌≡◌, ◌↔◌, ◌⊎◌, ◌<◌, ◌≤◌, All, ℕ, Bool, true, false, List, length, Some, None, slice_get, get_or}
-use Rattle.std.proofs.Common.{sym, ◌∙◌, ap, subst}
+use Rattle.std.proofs.Common.{refl, sym, ◌∙◌, ap, subst}
 use Rattle.solid_data.proofs.Members.{Has, get_some}
 use Rattle.solid_data.specs.SolidData.{SolidData}
 use Rattle.solid_data.specs.declared.solid.Shell.{Shell}
@@ -30,3 +30,7 @@ pub none_on : (s : SolidData) (h : Shell) (groups parts firsts : List ℕ) (torn
     → (p : ℕ) × Has parts p × (¬ ClosedIn s h groups p) × (get_or torn p false ≡ false) → IsExactly (AreBodies s h) None
 none_on s h groups parts firsts torn same are a marks k =
     untorn s h firsts torn k.0 a marks (subst (λ ps. Has ps k.0) are k.1) (subst (λ gs. ¬ ClosedIn s h gs k.0) same k.2) k.3
+
+pub faces_counted : (s : SolidData) (h : Shell) → (shell_rows s h).face_count ≡ length h.faces
+unfolding shell_rows
+faces_counted s h = refl

@@ -61,8 +61,8 @@ torn_next d firsts i row old new at each marks h = record {
     (λ m. ⊎_elim (λ k. before_more d firsts i p ((h.marks p).0 k)) (λ k. (i, row, omega arith, at, k.0, k.1)) ((marks p).0 m)),
     (λ t. (marks p).1 (⊎_elim
         (λ same.
-            let is : t.1 ≡ row = sym (same_Some row t.1 (sym at ∙ (ap (slice_get d.rows) (sym same.1) ∙ t.3))) in
-            inr (subst (λ (x : Row). ¬ IsPaired d x.edge.0) is t.4, subst (λ (x : Row). slice_get firsts x.at.face.0 ≡ Some p) is t.5))
+        let is : t.1 ≡ row = sym (same_Some row t.1 (sym at ∙ (ap (slice_get d.rows) (sym same.1) ∙ t.3))) in
+        inr (subst (λ (x : Row). ¬ IsPaired d x.edge.0) is t.4, subst (λ (x : Row). slice_get firsts x.at.face.0 ≡ Some p) is t.5))
         (λ other. inl ((h.marks p).1 (t.0, t.1, omega (arith, t.2, other.1), t.3, t.4, t.5))) (eqb_tells t.0 i))),
   );
 }

@@ -15,10 +15,10 @@ ghost use Rattle.face_hints.specs.Bodies.{AreBodies, AreClosed, IsTorn, stray_if
 
 use crate::cutting::pieces;
 use crate::themselves::are_closed;
-use shell_components::{Groups, grouped};
 use edge_uses::{Rows, Seen, Span, row_at, tally_of};
 use iges_base::NoMemory;
 use shell_classes::{classes, grouped_leasts};
+use shell_components::{Groups, grouped};
 use solid_data::{ShellAt, Solid};
 use std::alloc::Global;
 use std::marker::Model;
@@ -162,7 +162,12 @@ fn is_marked(marks: &[bool], i: u32) -> bool
 }
 
 // Adds a piece that is closed. Whether it's closed or marked as torn.
-fn push_told(bodies: &mut Vec<u32>, piece: u32, closed: bool, torn: &[bool]) -> Result<bool, NoMemory>
+fn push_told(
+    bodies: &mut Vec<u32>,
+    piece: u32,
+    closed: bool,
+    torn: &[bool],
+) -> Result<bool, NoMemory>
     ensures told { IfOk result (λ t. t ≡ true
         → ((closed ≡ true) × (bodies.new.items ≡ bodies.old.items ++ piece ∷ []))
         ⊎ ((closed ≡ false) × (bodies.new.items ≡ bodies.old.items) × (get_or torn.now piece false ≡ true))) }

@@ -6,7 +6,7 @@ use Rattle.shell_components.specs.Trees.{AreTrees}
 use Rattle.shell_classes.specs.Leasts.{classes_of}
 use Rattle.face_hints.specs.Pieces.{ArePieces}
 use Rattle.face_hints.proofs.BodyLemmas.{one_piece, pieces_low, rows_are, exactly_found, some_of, bodies_inside, bodies_fewer}
-use Rattle.face_hints.proofs.FoundLemmas.{told_on, marks_on, none_on}
+use Rattle.face_hints.proofs.FoundLemmas.{told_on, marks_on, none_on, faces_counted}
 use Rattle.face_hints.proofs.bodies.bodies_of.Goals as goal
 
 pub returns-then-is_one : goal.returns-then-is_one
@@ -21,7 +21,8 @@ grouped_leasts-requires-clause-low c = subst AreTrees (sym c.as_slice-3.ensures.
 pub closed_pieces-requires-clause-each : goal.closed_pieces-requires-clause-each
 closed_pieces-requires-clause-each c h at =
     ap (length {A = ℕ}) (c.in_ok-groups.ensures ∙ c.as_slice-3.ensures.value)
-    ∙ (c.in_ok-firsts.ensures.each ∙ ap (λ (d : ShellRows). d.face_count) (rows_are c.args.solid.now c.args.shell.0 h c.args.rows.now c.requires.rows at))
+    ∙ (c.in_ok-firsts.ensures.each ∙ ap (λ (d : ShellRows). d.face_count) (rows_are c.args.solid.now c.args.shell.0 h c.args.rows.now c.requires.rows at)
+    ∙ faces_counted c.args.solid.now h)
 
 pub returns-in_default : goal.returns-in_default
 returns-in_default c h at =

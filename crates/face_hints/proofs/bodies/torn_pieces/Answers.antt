@@ -20,8 +20,12 @@ pub mark_row-requires-clause-inside : goal.mark_row-requires-clause-inside
 mark_row-requires-clause-inside c =
     let t : AreTallied c.args.rows.now c.in_ok-tally.tally.span c.in_ok-tally.tally.seen =
     record { rows = c.in_ok-tally.ensures.kept; span = c.in_ok-tally.ensures.span; tally = c.in_ok-tally.ensures.tally } in
-    omega (arith, face_inside c.args.rows.now c.in_ok-tally.tally.span c.in_ok-tally.tally.seen c.rows.i c.row_at-row.result c.row_at-row.result.at.face.0 t
-    c.row_at-row.ensures refl, c.requires.each)
+    omega (
+      arith,
+      face_inside c.args.rows.now c.in_ok-tally.tally.span c.in_ok-tally.tally.seen c.rows.i c.row_at-row.result c.row_at-row.result.at.face.0 t
+          c.row_at-row.ensures refl,
+      c.requires.each,
+    )
 
 pub mark_row-requires-clause-low : goal.mark_row-requires-clause-low
 mark_row-requires-clause-low c = pieces_low c.args.rows.now c.args.firsts.now c.requires
