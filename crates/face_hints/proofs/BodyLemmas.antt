@@ -1,18 +1,20 @@
 -- Which pieces are bodies, and that this is definite.
-use Rattle.std.specs.Prelude.{◌≡◌, ◌<◌, ◌≤◌, ◌+◌, ◌*◌, ◌==◌, ◌⊎◌, ◌↔◌, ◌^◌, All, ℕ, Bool, true, false, IsTrue, List, [], ◌∷◌, ◌++◌, length, take, flat_map, Some, None, slice_get, get_or, if◌then◌else◌}
+use Rattle.std.specs.Prelude.{◌≡◌, ◌<◌, ◌≤◌, ◌+◌, ◌*◌, ◌==◌, ◌⊎◌, ◌↔◌, ◌^◌, All, ℕ, Bool, true, false, IsTrue, List, [], ◌∷◌, ◌++◌, length, take, flat_map, Option, Some, None, MatchOption, slice_get, get_or, if◌then◌else◌}
 use Rattle.std.specs.List.{enumerate_from, list_any}
 use Rattle.std.proofs.Common.{refl, sym, ◌∙◌, ap, subst, arith, inl, inr, ⊎_elim, length-append}
-use Rattle.std.proofs.lemmas.List.{take_more}
-use Rattle.std.proofs.lemmas.Option.{slice_get_within, get_or_from_slice_get, same_Some}
-use Rattle.solid_data.proofs.Members.{Has, has_left, has_right, has_append}
+use Rattle.std.proofs.lemmas.List.{take_all}
+use Rattle.std.proofs.lemmas.Option.{same_Some}
+use Rattle.shell_classes.proofs.Steps.{taken}
+use Rattle.solid_data.proofs.Members.{Has, has_get, has_left, has_right, has_append}
 use Rattle.solid_data.specs.SolidData.{SolidData}
 use Rattle.solid_data.specs.declared.solid.Shell.{Shell}
-use Rattle.edge_uses.specs.ShellRows.{shell_rows}
+use Rattle.edge_uses.specs.ShellRows.{ShellRows, shell_rows, rows_of}
+use Rattle.shell_components.specs.Trees.{AreTrees}
 use Rattle.shell_classes.specs.Leasts.{classes_of}
 use Rattle.shell_classes.proofs.Steps.{all_from}
 use Rattle.shell_classes.specs.Exactly.{AreThose, IsExactly}
-use Rattle.shell_classes.proofs.LeastLemmas.{leasts_one}
-use Rattle.shell_classes.proofs.Those.{those_one, those_hold, those_among, those_fewer}
+use Rattle.shell_classes.proofs.LeastLemmas.{leasts_one, leasts_low}
+use Rattle.shell_classes.proofs.Those.{those_one, those_hold, those_among, those_fewer, those_more, those_same}
 use Rattle.face_hints.specs.Pieces.{ShareMates, ArePieces, piece_faces}
 use Rattle.face_hints.specs.Bodies.{AreClosed, IsTorn, Bodies, AreBodies, stray_if, strays_of}
 use Rattle.shell_classes.proofs.PlaceLemmas.{part_below, parts_fewer}
@@ -37,6 +39,41 @@ pub told_torn : (parts bodies : List ℕ) (torn : List Bool) (p : ℕ) → get_o
     → AreTold (parts ++ p ∷ []) bodies torn
 told_torn parts bodies torn p is h q m =
     ⊎_elim (λ k. h q k) (λ k. ⊎_elim (λ e. inr (subst (λ x. get_or torn x false ≡ true) e is)) (λ none. absurd none) k) (has_append parts (p ∷ []) q m)
+
+pub clash : (b : Bool) → b ≡ true → b ≡ false → ⊥
+clash true e f = cc
+clash false e f = cc
+
+-- one piece more is told: it's closed, or marked
+pub told_next : (s : SolidData) (h : Shell) (firsts parts : List ℕ) (torn : List Bool) (i p : ℕ) (old new : List ℕ) (closed : Bool)
+    → slice_get parts i ≡ Some p → IsTrue closed ↔ ClosedIn s h firsts p
+    → ((closed ≡ true) × (new ≡ old ++ p ∷ [])) ⊎ ((closed ≡ false) × (new ≡ old) × (get_or torn p false ≡ true))
+    → AreThose (ClosedIn s h firsts) (take i parts) old × AreTold (take i parts) old torn
+    → AreThose (ClosedIn s h firsts) (take (i + 1) parts) new × AreTold (take (i + 1) parts) new torn
+told_next s h firsts parts torn i p old new closed at is told before =
+    subst (λ ps. AreThose (ClosedIn s h firsts) ps new × AreTold ps new torn) (sym (taken parts i p at))
+    (⊎_elim
+    (λ k. (
+      subst (AreThose (ClosedIn s h firsts) (take i parts ++ p ∷ [])) (sym k.1) (those_more (ClosedIn s h firsts) (take i parts) old p before.0 (is.0 k.0)),
+      told_body (take i parts) old new torn p k.1 before.1,
+    ))
+    (λ k. (
+      subst (AreThose (ClosedIn s h firsts) (take i parts ++ p ∷ [])) (sym k.1)
+          (those_same (ClosedIn s h firsts) (take i parts) old p before.0 (λ c. clash closed (is.1 c) k.0)),
+      subst (λ bs. AreTold (take i parts ++ p ∷ []) bs torn) (sym k.1) (told_torn (take i parts) old torn p k.2 before.1),
+    ))
+    told)
+
+pub told_all : (s : SolidData) (h : Shell) (firsts parts bodies : List ℕ) (torn : List Bool) (i : ℕ) → length parts ≤ i
+    → AreThose (ClosedIn s h firsts) (take i parts) bodies × AreTold (take i parts) bodies torn
+    → AreThose (ClosedIn s h firsts) parts bodies × AreTold parts bodies torn
+told_all s h firsts parts bodies torn i past before =
+    subst (λ ps. AreThose (ClosedIn s h firsts) ps bodies × AreTold ps bodies torn) (take_all i parts past) before
+
+pub untold_piece : (s : SolidData) (h : Shell) (firsts parts : List ℕ) (torn : List Bool) (i p : ℕ) (closed : Bool) → slice_get parts i ≡ Some p
+    → IsTrue closed ↔ ClosedIn s h firsts p → (closed ≡ false) × (get_or torn p false ≡ false)
+    → (q : ℕ) × Has parts q × (¬ ClosedIn s h firsts q) × (get_or torn q false ≡ false)
+untold_piece s h firsts parts torn i p closed at is untold = (p, has_get parts i p at, (λ c. clash closed (is.1 c) untold.0), untold.1)
 
 -- That bodies are definite.
 
@@ -150,3 +187,24 @@ strays_fewer_from base (p ∷ firsts) bodies =
 
 pub strays_fewer : (firsts bodies : List ℕ) → length (strays_of firsts bodies) ≤ length firsts
 strays_fewer firsts bodies = strays_fewer_from 0 firsts bodies
+
+-- Bodies, as the code finds them.
+
+pub pieces_low : (d : ShellRows) (firsts : List ℕ) → ArePieces d firsts → AreTrees firsts
+pieces_low d firsts a x lt = leasts_low (ShareMates d) d.face_count firsts a x (omega (arith, lt, a.each))
+
+pub rows_are : (s : SolidData) (k : ℕ) (h : Shell) (d : ShellRows) → d ≡ rows_of s (slice_get s.shells k) → slice_get s.shells k ≡ Some h → d ≡ shell_rows s h
+rows_are s k h d is at = is ∙ ap (rows_of s) at
+
+pub exactly_found : (s : SolidData) (h : Shell) (firsts bodies : List ℕ) (torn : List Bool) (o : Option Bodies) → ArePieces (shell_rows s h) firsts
+    → 1 < length (classes_of firsts) → ((q : ℕ) → (get_or torn q false ≡ true) ↔ IsTorn (shell_rows s h) firsts q)
+    → AreThose (ClosedIn s h firsts) (classes_of firsts) bodies → AreTold (classes_of firsts) bodies torn
+    → MatchOption o (¬ (2 * length (strays_of firsts bodies) < length firsts))
+    (λ b. (b ≡ found_bodies firsts bodies) × (2 * length (strays_of firsts bodies) < length firsts))
+    → IsExactly (AreBodies s h) o
+exactly_found s h firsts bodies torn None a many marks those told found = many_strays s h firsts bodies a those found
+exactly_found s h firsts bodies torn (Some b) a many marks those told found = some_bodies s h firsts bodies torn b a many marks those told found.1 found.0
+
+pub some_of : {A : Type 0} (o : Option A) (x : A) (N : Type 0) (P : A → Type 0) → o ≡ Some x → MatchOption o N P → P x
+some_of (Some y) x N P e h = subst P (same_Some y x e) h
+some_of None x N P e h = absurd cc

@@ -22,19 +22,19 @@ use Rattle.shell_classes.proofs.LeastLemmas.{leasts_of_components}
 use Rattle.face_hints.specs.Pieces.{ShareMates, ArePieces, mates_if, mate_faces, edge_mates, mate_pairs}
 
 -- what a tally says of an edge of the shell
-seen_at : (d : ShellRows) (span : Span) (seen : List Seen) (e : ℕ) → AreTallied d span seen → Has d.edges e → IsSeen d e (seen_of span seen e)
+pub seen_at : (d : ShellRows) (span : Span) (seen : List Seen) (e : ℕ) → AreTallied d span seen → Has d.edges e → IsSeen d e (seen_of span seen e)
 seen_at d span seen e t has =
     let k = has_place d.edges e has in
     t.tally e (subst (IsWithin span) (get_or_from_slice_get d.edges k.0 e e k.1) (t.span.holds k.0 e (slice_get_within d.edges k.0 e k.1)))
 
-pair_of : (p q : Bool) (x y a b : ℕ) → Has (if p && q then (x, y) ∷ [] else []) (a, b) → (p ≡ true) × (q ≡ true) × ((x, y) ≡ (a, b))
+pair_of : (p q : Bool) (x y a b : ℕ) → Has {A = ℕ × ℕ} (if p && q then (x, y) ∷ [] else []) (a, b) → (p ≡ true) × (q ≡ true) × (◌≡◌ {A = ℕ × ℕ} (x, y) (a, b))
 pair_of true true x y a b (inl e) = (refl, refl, e)
 pair_of true true x y a b (inr h) = absurd h
 pair_of true false x y a b h = absurd h
 pair_of false q x y a b h = absurd h
 
-pair_there : (along against x y : ℕ) → along ≡ 1 → against ≡ 1 → Has (mates_if along against x y) (x, y)
-pair_there along against x y e f = subst (λ n. Has (mates_if n against x y) (x, y)) (sym e) (subst (λ n. Has (mates_if 1 n x y) (x, y)) (sym f) (inl refl))
+pair_there : (along against x y : ℕ) → along ≡ 1 → against ≡ 1 → Has {A = ℕ × ℕ} (mates_if along against x y) (x, y)
+pair_there along against x y e f = subst (λ n. Has {A = ℕ × ℕ} (mates_if n against x y) (x, y)) (sym e) (subst (λ n. Has {A = ℕ × ℕ} (mates_if 1 n x y) (x, y)) (sym f) (inl refl))
 
 share_of_pair : (d : ShellRows) (e : ℕ) (seen : Seen) (a b : ℕ) → IsSeen d e seen → Has (mate_faces d seen) (a, b) → ShareMates d a b
 share_of_pair d e seen a b k h =
@@ -120,7 +120,7 @@ linked_of_share d span seen t a b h = by_way h.mates.row.along refl
         inr (pairs_of_rows d span seen h.mates.row.edge.0 h.m h.r h.mates.mate h.mates.row b a t known h.paired h.mates.at_m h.mates.at_r
         (ap (λ (e : _). e.0) (sym h.mates.one_edge)) refl (not-not h.mates.row.along h.mates.mate.along h.mates.opposite ∙ ap not is) is h.on_b h.on_a)
 
-face_inside : (d : ShellRows) (span : Span) (seen : List Seen) (r : ℕ) (row : Row) (a : ℕ) → AreTallied d span seen → slice_get d.rows r ≡ Some row
+pub face_inside : (d : ShellRows) (span : Span) (seen : List Seen) (r : ℕ) (row : Row) (a : ℕ) → AreTallied d span seen → slice_get d.rows r ≡ Some row
     → row.at.face.0 ≡ a → a < d.face_count
 face_inside d span seen r row a t at on =
     subst (λ n. n < d.face_count) on (All-at (λ (x : Row). x.at.face.0 < d.face_count) d.rows t.rows.on_faces row (has_get d.rows r row at))

@@ -7,7 +7,8 @@ use Rattle.std.proofs.lemmas.Option.{slice_get_within, get_or_from_slice_get, sa
 use Rattle.edge_uses.specs.declared.row.Row.{Row}
 use Rattle.edge_uses.specs.declared.tally.Seen.{Seen}
 use Rattle.edge_uses.specs.RowRelations.{IsPaired}
-use Rattle.edge_uses.specs.ShellRows.{ShellRows}
+use Rattle.edge_uses.specs.ShellRows.{ShellRows, AreRows}
+use Rattle.solid_data.proofs.Members.{Has, All-at, has_get, Has-from_Contains}
 use Rattle.edge_uses.specs.Tally.{IsSeen}
 use Rattle.edge_uses.proofs.Tallies.{set_same, set_other}
 use Rattle.face_hints.specs.Bodies.{IsTorn}
@@ -50,31 +51,18 @@ torn_none d firsts torn e each = record {
 before_more : (d : ShellRows) (firsts : List ℕ) (n p : ℕ) → IsTornBefore d firsts n p → IsTornBefore d firsts (n + 1) p
 before_more d firsts n p h = (h.0, h.1, omega (arith, h.2), h.3, h.4, h.5)
 
--- one row more, whose edge is paired
-pub torn_same : (d : ShellRows) (firsts : List ℕ) (i : ℕ) (row : Row) (torn : List Bool) → slice_get d.rows i ≡ Some row → IsPaired d row.edge.0
-    → AreTornBefore d firsts i torn → AreTornBefore d firsts (i + 1) torn
-torn_same d firsts i row torn at paired h = record {
-  each = h.each;
-  marks = λ p. (
-    (λ m. before_more d firsts i p ((h.marks p).0 m)),
-    (λ t. ⊎_elim
-        (λ same. absurd (t.4 (subst (λ (x : Row). IsPaired d x.edge.0) (same_Some row t.1 (sym at ∙ (ap (slice_get d.rows) (sym same.1) ∙ t.3))) paired)))
-        (λ other. (h.marks p).1 (t.0, t.1, omega (arith, t.2, other.1), t.3, t.4, t.5)) (eqb_tells t.0 i)),
-  );
-}
-
--- one row more, whose edge isn't paired
-pub torn_more : (d : ShellRows) (firsts : List ℕ) (i : ℕ) (row : Row) (old new : List Bool) → slice_get d.rows i ≡ Some row → (IsPaired d row.edge.0 → ⊥)
-    → length new ≡ length firsts
-    → ((p : ℕ) → (get_or new p false ≡ true) ↔ ((get_or old p false ≡ true) ⊎ (slice_get firsts row.at.face.0 ≡ Some p)))
+-- one row more
+pub torn_next : (d : ShellRows) (firsts : List ℕ) (i : ℕ) (row : Row) (old new : List Bool) → slice_get d.rows i ≡ Some row → length new ≡ length firsts
+    → ((p : ℕ) → (get_or new p false ≡ true) ↔ ((get_or old p false ≡ true) ⊎ ((¬ IsPaired d row.edge.0) × (slice_get firsts row.at.face.0 ≡ Some p))))
     → AreTornBefore d firsts i old → AreTornBefore d firsts (i + 1) new
-torn_more d firsts i row old new at unpaired each marks h = record {
+torn_next d firsts i row old new at each marks h = record {
   each = each;
   marks = λ p. (
-    (λ m. ⊎_elim (λ k. before_more d firsts i p ((h.marks p).0 k)) (λ k. (i, row, omega arith, at, unpaired, k)) ((marks p).0 m)),
+    (λ m. ⊎_elim (λ k. before_more d firsts i p ((h.marks p).0 k)) (λ k. (i, row, omega arith, at, k.0, k.1)) ((marks p).0 m)),
     (λ t. (marks p).1 (⊎_elim
-        (λ same. inr (subst (λ (x : Row). slice_get firsts x.at.face.0 ≡ Some p)
-        (sym (same_Some row t.1 (sym at ∙ (ap (slice_get d.rows) (sym same.1) ∙ t.3)))) t.5))
+        (λ same.
+        let is : t.1 ≡ row = sym (same_Some row t.1 (sym at ∙ (ap (slice_get d.rows) (sym same.1) ∙ t.3))) in
+        inr (subst (λ (x : Row). ¬ IsPaired d x.edge.0) is t.4, subst (λ (x : Row). slice_get firsts x.at.face.0 ≡ Some p) is t.5))
         (λ other. inl ((h.marks p).1 (t.0, t.1, omega (arith, t.2, other.1), t.3, t.4, t.5))) (eqb_tells t.0 i))),
   );
 }
@@ -86,3 +74,7 @@ torn_all d firsts n torn past h p = (
   (λ m. let t = (h.marks p).0 m in (t.0, t.1, t.3, t.4, t.5)),
   (λ t. (h.marks p).1 (t.0, t.1, omega (arith, slice_get_within d.rows t.0 t.1 t.2, past), t.2, t.3, t.4)),
 )
+
+pub edge_known : (d : ShellRows) (i : ℕ) (row : Row) → AreRows d → slice_get d.rows i ≡ Some row → Has d.edges row.edge.0
+edge_known d i row rows at =
+    Has-from_Contains d.edges row.edge.0 (All-at (λ (x : Row). _) d.rows rows.edges_hold row (has_get d.rows i row at))

@@ -1,6 +1,6 @@
 //! The pieces of a shell that are closed by themselves, and the faces that are left over.
 
-ghost use Rattle.std.specs.Prelude.{◌≡◌, ◌==◌, ◌↔◌, ◌⊎◌, ◌<◌, ◌≤◌, ◌*◌, ◌^◌, ◌++◌, ℕ, true, false, All, IsTrue, Some, IfOk, MatchOption, length, slice_get, get_or};
+ghost use Rattle.std.specs.Prelude.{◌≡◌, ◌==◌, ◌↔◌, ◌⊎◌, ◌<◌, ◌≤◌, ◌*◌, ◌^◌, ◌++◌, ◌∷◌, [], ℕ, true, false, All, IsTrue, Some, IfOk, MatchOption, length, slice_get, get_or};
 ghost use Rattle.std.specs.List.{list_any};
 ghost use Rattle.solid_data.proofs.Members.{Has};
 ghost use Rattle.solid_data.specs.declared.solid.Shell.{Shell as AnyShell};
@@ -15,10 +15,10 @@ ghost use Rattle.face_hints.specs.Bodies.{AreBodies, AreClosed, IsTorn, stray_if
 
 use crate::cutting::pieces;
 use crate::themselves::are_closed;
-use shell_components::{Groups, grouped};
 use edge_uses::{Rows, Seen, Span, row_at, tally_of};
 use iges_base::NoMemory;
 use shell_classes::{classes, grouped_leasts};
+use shell_components::{Groups, grouped};
 use solid_data::{ShellAt, Solid};
 use std::alloc::Global;
 use std::marker::Model;
@@ -94,6 +94,21 @@ fn mark(torn: &mut Vec<bool>, firsts: &[u32], face: u32)
     torn[firsts[face as usize] as usize] = true;
 }
 
+// Marks the piece of a row's face, if the row's edge isn't paired.
+fn mark_row(torn: &mut Vec<bool>, firsts: &[u32], seen: Seen, face: u32)
+    requires inside { face < length firsts.now }
+    requires low { AreTrees firsts.now }
+    requires each { length torn.old.items ≡ length firsts.now }
+    ensures each { length torn.new.items ≡ length firsts.now }
+    ensures marks { (d : ShellRows) (e : ℕ) → IsSeen d e seen → (p : ℕ) → (get_or torn.new.items p false ≡ true)
+        ↔ ((get_or torn.old.items p false ≡ true) ⊎ ((¬ IsPaired d e) × (slice_get firsts.now face ≡ Some p))) }
+{
+    if is_paired(seen) {
+        return;
+    }
+    mark(torn, firsts, face);
+}
+
 // Marks each piece that has a row of an edge that isn't paired, at its first face.
 fn torn_pieces(alloc: Global, rows: &Rows, firsts: &[u32]) -> Result<Vec<bool>, NoMemory>
     requires { ArePieces rows.now firsts.now }
@@ -105,9 +120,7 @@ fn torn_pieces(alloc: Global, rows: &Rows, firsts: &[u32]) -> Result<Vec<bool>, 
     let mut torn = vec![in alloc; false; firsts.len()]?;
     'rows: for i in 0..rows.len() {
         let row = row_at(rows, i);
-        if !is_paired(tally.of(row.edge.0)) {
-            mark(&mut torn, firsts, row.at.face.0);
-        }
+        mark_row(&mut torn, firsts, tally.of(row.edge.0), row.at.face.0);
     }
     Ok(torn)
 }
@@ -148,6 +161,26 @@ fn is_marked(marks: &[bool], i: u32) -> bool
     }
 }
 
+// Adds a piece that is closed. Whether it's closed or marked as torn.
+fn push_told(
+    bodies: &mut Vec<u32>,
+    piece: u32,
+    closed: bool,
+    torn: &[bool],
+) -> Result<bool, NoMemory>
+    ensures told { IfOk result (λ t. t ≡ true
+        → ((closed ≡ true) × (bodies.new.items ≡ bodies.old.items ++ piece ∷ []))
+        ⊎ ((closed ≡ false) × (bodies.new.items ≡ bodies.old.items) × (get_or torn.now piece false ≡ true))) }
+    ensures untold { IfOk result (λ t. t ≡ false → (closed ≡ false) × (get_or torn.now piece false ≡ false)) }
+{
+    if closed {
+        bodies.push(piece)?;
+        return Ok(true);
+    }
+    let marked = is_marked(torn, piece);
+    Ok(marked)
+}
+
 // The pieces that are closed by themselves; None where one is neither closed nor marked as torn.
 fn closed_pieces(
     alloc: Global,
@@ -169,9 +202,9 @@ fn closed_pieces(
     let mut bodies = Vec::new(alloc);
     'pieces: for i in 0..parts.len() {
         let piece = part_at(parts, i);
-        if is_closed_piece(alloc, solid, shell, groups, piece)? {
-            bodies.push(piece)?;
-        } else if !is_marked(torn, piece) {
+        let closed = is_closed_piece(alloc, solid, shell, groups, piece)?;
+        let told = push_told(&mut bodies, piece, closed, torn)?;
+        if !told {
             return Ok(None);
         }
     }
@@ -218,10 +251,9 @@ fn among(alloc: Global, bodies: &[u32], count: usize) -> Result<Groups, NoMemory
 
 // Whether fewer are left out than are kept.
 fn are_fewer(out: usize, all: usize) -> bool
-    requires { out ≤ all }
     ensures { IsTrue result ↔ (2 * out < all) }
 {
-    out < all - out
+    out < all && out < all - out
 }
 
 // The bodies with their strays, unless these are as many as the faces of the bodies.
@@ -253,6 +285,14 @@ fn with_strays(
     }))
 }
 
+// Whether there is no more than one piece.
+fn is_one(parts: &Vec<u32>) -> bool
+    ensures one { result ≡ true → length parts.now.items < 2 }
+    ensures more { result ≡ false → 1 < length parts.now.items }
+{
+    parts.len() < 2
+}
+
 /// The bodies of a shell: the pieces that are closed by themselves, where there is more than one piece, each other piece has
 /// an edge that isn't paired, and fewer faces are left over than bodies have. The rows of the shell are given. Each piece is
 /// judged at the cost of its own faces.
@@ -270,17 +310,16 @@ pub fn bodies_of(
     let _kept = rows.len();
     let firsts = pieces(alloc, rows)?;
     let parts = classes(alloc, firsts.as_slice())?;
-    if parts.len() < 2 {
+    if is_one(&parts) {
         return Ok(None);
     }
     let torn = torn_pieces(alloc, rows, firsts.as_slice())?;
     let groups = grouped_leasts(alloc, firsts.as_slice())?;
+    let parts = parts.as_slice();
     let torn = torn.as_slice();
-    match closed_pieces(alloc, solid, shell, &groups, parts.as_slice(), torn)? {
-        None => Ok(None),
-        Some(closed) => {
-            let found = with_strays(alloc, firsts, groups, closed)?;
-            Ok(found)
-        }
-    }
+    let Some(closed) = closed_pieces(alloc, solid, shell, &groups, parts, torn)? else {
+        return Ok(None);
+    };
+    let found = with_strays(alloc, firsts, groups, closed)?;
+    Ok(found)
 }

@@ -5,9 +5,9 @@ ghost use Rattle.solid_faults.specs.PartPairs.{face_in};
 ghost use Rattle.solid_faults.specs.Tallied.{AreTallied};
 ghost use Rattle.face_hints.specs.Pieces.{ArePieces, mate_faces, mate_pairs as pairs_of_mates};
 
-use shell_components::components;
 use edge_uses::{Rows, Seen, Tally, tally_of};
 use iges_base::NoMemory;
+use shell_components::components;
 use solid_data::{EdgeId, RowId};
 use std::alloc::Global;
 
