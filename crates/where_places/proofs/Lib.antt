@@ -1,0 +1,4 @@
+pub mod FieldNumbers
+pub mod Pairs
+pub mod Put
+pub mod PlacedFiles

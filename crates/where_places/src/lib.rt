@@ -1,0 +1,11 @@
+//! Where the entries of a file and their records stand in its lines.
+#![tactic(auto)]
+
+mod fields;
+mod placed_file;
+mod places;
+mod reading;
+
+pub use placed_file::read_placed_file;
+pub use places::{Places, RecordLines};
+pub use reading::file_places;
