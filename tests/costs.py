@@ -6,7 +6,7 @@ import sys
 
 from programs import TOP
 
-SHAPES, FEWEST = ("solids on", "lines", "a long", "hints on"), 59
+SHAPES, FEWEST = ("solids on", "lines", "copies of", "hints on"), 61
 
 
 def checks(context):

@@ -14,32 +14,12 @@ from .records import FITTING, FORMS, is_flag, is_integer
 from .shells import Rows
 from .walking import ANY_TOPOLOGY, Fail, Walk
 from .where_hints import put_shell_hints, unset_faces
+from .where_page import DOC, is_told, sentences, type_word
 
 LIMIT = 20
 # Of faces at a vertex of APART.
 FACE_LIMIT = 5
 WORD_LIMIT = 100
-DOC = {}
-
-
-# The tables of the page whose last cells are sentences, by their titles; the first name in a row's first or second cell is that of the sentence.
-TABLES = "Rule | Sentence", "Reason | Sentence", "Kind", "Hint", "Row"
-NAME = re.compile(r"(?:^|`)(?:hint )?([A-Z]+|[a-z0-9-]{2,})")
-
-
-def sentences(page):
-    """The sentences and the words for types, as the page has them."""
-    for title in TABLES:
-        for table in re.findall(rf"(?m)^\| {re.escape(title)} \|?.*\n\|[-|]+\n((?:\|.*\n)+)", page):
-            for row in table.splitlines():
-                first, *cells = row[2:-2].split(" | ")
-                DOC[NAME.search(cells[0] if title == "Row" else first)[1]] = cells[-1]
-    words = page[page.index("## 7.") : page.index("## 8.")]
-    DOC["types"] = {int(kind): word for kind, word in re.findall(r"(\d+) ([a-z-]+)", words)}
-
-
-def type_word(kind):
-    return DOC["types"].get(kind, f"type-{kind}")
 
 
 def shown_bytes(text):
@@ -87,8 +67,8 @@ class Item:
     more: int = 0
 
 
-# A face or a loop that an item or a fact names.
-NAMED = re.compile(r"(?:^| )(?:face|gap|first|flag-0|remove|turn) (\d+)")
+# A face or a loop that an item or a fact names, but for the loops of gaps.
+NAMED = re.compile(r"(?:^| )(?:face|first|flag-0|remove|turn) (\d+)")
 
 
 class Text:
@@ -125,6 +105,8 @@ class Text:
             self.lines += ["  " + fact for fact in item.facts]
             self.put_more(item.more, "  ")
             self.named |= {int(number) for line in (item.head, *item.facts) for number in NAMED.findall(line)}
+            if item.head.startswith("gap ") and is_told("gap` items;"):
+                self.named.add(int(item.head.split(" ")[1]))
         self.put_more(more)
 
 
@@ -548,7 +530,8 @@ def record_facts(file, fail, solid, places):
         values = file.entries[fail.entity].values
         k, due = value_of(file, fail)
         number = values[k - 1] if k <= len(values) else None
-        facts = [f"value {k} found {spelled(number) if k <= len(values) else 'end'}", *places.of_value(fail.entity, k)]
+        facts = [f"value {k} found {spelled(number) if k <= len(values) else 'end'}"]
+        facts += places.of_value(fail.entity, k) if is_told("line <line> column") else []
     if fail.rule in ("ENTRY", "TYPE", "RECORD", "GEOMETRY"):
         facts.append(f"due {due}")
     named = file.named(number) if is_integer(number) else None
@@ -607,7 +590,8 @@ def names(file, entry):
 
 def entity_facts(file, number, places):
     entry = file.entries[number]
-    facts = [(places.of_entity(number), True), (f"level {entry.fields[5]}", entry.fields[5]), (f"colour {colour(file, entry)}", entry.fields[13])]
+    facts = [(places.of_entity(number), is_told("lines directory"))]
+    facts += [(f"level {entry.fields[5]}", entry.fields[5]), (f"colour {colour(file, entry)}", entry.fields[13])]
     facts.append((f"matrix {entry.fields[7]}", entry.fields[7]))
     label = shown_bytes(entry.label).strip(" ")
     facts += [(f"label {label}", label), (f"subscript {entry.fields[19]}", entry.fields[19])]
@@ -684,10 +668,10 @@ def put_hints(text, file, solid, failing):
     unset = unset_faces(file, solid) if any(view.unpaired for view in failing) else []
     if unset:
         items = [text.item(f"flag-0 {face.entity} {surface_word(file, face.entity)}", []) for face in unset]
-        text.hint(f"face-flags faces {len(unset)}", items)
+        text.hint(f"face-flags faces {len(unset)}", items if is_told("flag-0") else [])
         return
     for view in text.shown(failing)[0]:
-        put_shell_hints(text, view, DOC)
+        put_shell_hints(text, view)
 
 
 def whole(text, file, number, places):
@@ -710,7 +694,8 @@ def overview(text, file, places):
         lines += [f"solid {number} {verdict}", *entity_facts(file, number, places)]
     count = len(file.solids())
     text.lines += [f"solids {count} failing {failing}", *lines]
-    put_unjudged(text, file)
+    if is_told("unjudged"):
+        put_unjudged(text, file)
     if count == 0:
         text.hint("no-solid")
     return 1 if failing or count == 0 else 0

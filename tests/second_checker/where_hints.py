@@ -1,9 +1,10 @@
-"""The hints on shells that fail (docs/WHERE.md, section 6). A hint that isn't on the page isn't due: it is dropped before the next row is looked at."""
+"""The hints on shells that fail (docs/WHERE.md, section 6). One that isn't on the page is dropped before the next row is looked at."""
 from dataclasses import dataclass, field
 
 from . import opening
 from .shells import Rows, check_apart, check_join, corners_of, mates_of, reach_of
 from .walking import Face, Fail, Loop, Shell, Use
+from .where_page import DOC, is_told
 
 
 @dataclass
@@ -212,7 +213,8 @@ def missing_hints(view, text):
     if edges and passes_open(view.solid, view.shell):
         rims = rims_of(view)
         items = [rim_item(view, text, place, rim) for place, rim in enumerate(rims, 1)]
-        yield Hint("missing-faces", f" edges {len(edges)} rims {len(rims)}", items)
+        has_rims = is_told("rim <rim>")
+        yield Hint("missing-faces", f" edges {len(edges)}" + f" rims {len(rims)}" * has_rims, items * has_rims)
 
 
 def rim_item(view, text, place, rim):
@@ -283,11 +285,11 @@ def shared_hints(view, text):
 FIRST, EACH, LAST = (split_hints, doubled_hints, extra_hints, unsewn_hints, missing_hints), (crowd_hints, pinch_hints), shared_hints
 
 
-def put_shell_hints(text, view, sentences):
+def put_shell_hints(text, view):
     """Writes the hints of a shell that are on the page."""
 
     def due(row):
-        return [hint for hint in row(view, text) if hint.name in sentences]
+        return [hint for hint in row(view, text) if hint.name in DOC]
 
     first = next((hints for hints in map(due, FIRST) if hints), [])
     if not first:
