@@ -1,6 +1,7 @@
 """`igesolid-where`: the second checker's text, the shapes of its lines (docs/WHERE.md), and `certify`'s verdict as its first line.
 
-Over the examples, the inputs of the tests, files that are made at random (tests/surfaces.py) and files that are changed at random.
+Over the examples, the inputs of the tests, files that are made at random (tests/surfaces.py), some of solids that share shells, and
+files that are changed at random.
 """
 import argparse
 import pathlib
@@ -134,7 +135,7 @@ def random_files(cases, seed):
     kept = [data for _, data in files() if data]
     for case in cases:
         rng = random.Random(f"where {seed} {case}")
-        data = surface_text(rng) if rng.random() < 0.5 else rng.choice(kept)
+        data = surface_text(rng, rng.choice([0, 0, 6])) if rng.random() < 0.5 else rng.choice(kept)
         yield f"case {case} of seed {seed}", data if rng.random() < 0.3 else changed_file(rng, data)
 
 
