@@ -116,8 +116,14 @@ def tuples_of(rng, loop, edge_places, vertex_place):
     return [len(tuples), *(value for told in tuples for value in told)]
 
 
-def surface_text(rng):
-    """The text of a random file of one solid, entry 1."""
+def further_solid(rng, shells):
+    """The values of a solid that names shells of others: mostly one alone, with either flag; now and then what is no shell."""
+    named = [value for _ in range(rng.choice([1] * 8 + [2, 3])) for value in (rng.choice([*shells, *shells, *shells, "plane"]), rng.randrange(2))]
+    return [*named[:2], len(named) // 2 - 1, *named[2:]]
+
+
+def surface_text(rng, further=0):
+    """The text of a random file of one solid, entry 1, and so many further ones that share its shells."""
     surface, entries = Surface(rng), Entries(rng)
     vertices = sorted({surface.corners.of(corner) for corner in surface.corners.parents}, key=repr)
     places, vertex_lists = lists_of(rng, vertices, 2)
@@ -146,4 +152,6 @@ def surface_text(rng):
         records[f"shell {number}"] = 514, 1, [len(faces), *listed]
         shells.append([f"shell {number}", rng.randrange(2)])
     records["solid"] = 186, 0, [*shells[0], len(shells) - 1, *(value for shell in shells[1:] for value in shell)]
+    for place in range(further):
+        records[f"solid {place}"] = 186, 0, further_solid(rng, [name for name, _ in shells])
     return entries.text("solid")
