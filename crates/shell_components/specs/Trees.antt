@@ -1,4 +1,4 @@
--- Private: the trees that labels make: each node hangs at the one that it is marked by.
+-- The trees that labels make: each node hangs at the one that it is marked by.
 use Rattle.std.specs.Prelude.{◌≡◌, ◌<◌, ◌≤◌, ℕ, List, length, get_or}
 use Rattle.shell_components.specs.Components.{Linked, AreLabels}
 

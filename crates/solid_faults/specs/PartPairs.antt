@@ -1,4 +1,4 @@
--- Private: for each row its face, and the face of one chosen row of its edge.
+-- For each row its face, and the face of one chosen row of its edge.
 use Rattle.std.specs.Prelude.{ℕ, ◌==◌, List, map, Option, Some, None, slice_get, if◌then◌else◌}
 use Rattle.edge_uses.specs.declared.row.Row.{Row}
 use Rattle.edge_uses.specs.declared.spanning.Span.{Span}

@@ -1,4 +1,4 @@
--- Each face twice: as it is, and turned. Nodes below n are the faces as they are; n more are the faces turned.
+-- Private: each face twice: as it is, and turned. Nodes below n are the faces as they are; n more are the faces turned.
 use Rattle.std.specs.Prelude.{◌≡◌, ◌+◌, ◌⊎◌, ℕ, Bool, true, false, not, List, [], ◌∷◌, flat_map, Option, Some, None, slice_get, if◌then◌else◌}
 use Rattle.solid_data.specs.SolidData.{same_flag}
 use Rattle.edge_uses.specs.declared.row.Row.{Row}
