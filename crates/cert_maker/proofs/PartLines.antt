@@ -190,8 +190,12 @@ same_counts : (a a2 b b2 c c2 d d2 : ℕ) → a ≡ a2 → b ≡ b2 → c ≡ c2
 same_counts a a2 b b2 c c2 d d2 ha hb hc hd = cc
 
 same_tally : (a a2 b b2 c c2 d d2 : ℕ) → a ≡ a2 → b ≡ b2 → c ≡ c2 → d ≡ d2
-    → (let x : TallyCounts = record { vertices = a; edges = b; faces = c; loops = d } in let y : TallyCounts = record { vertices = a2; edges = b2; faces = c2;
-        loops = d2 }
+    → (let x : TallyCounts = record { vertices = a; edges = b; faces = c; loops = d } in let y : TallyCounts = record {
+      vertices = a2;
+      edges = b2;
+      faces = c2;
+      loops = d2;
+    }
     in x ≡ y)
 same_tally a a2 b b2 c c2 d d2 ha hb hc hd = cc
 

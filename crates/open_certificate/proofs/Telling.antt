@@ -600,7 +600,7 @@ shell_takes k n rows edges corners faces borders kept fresh named counts s lines
   where
     at_first : (ls : List OpenLine) → ls ≡ [] → MatchesLines s ls k
         → ((((progress_from_latest s ls).begun ≡ false) × FitsShell s n rows edges corners faces)
-            × MatchesLines s (shell n rows edges corners faces borders ∷ ls)
+        × MatchesLines s (shell n rows edges corners faces borders ∷ ls)
         (with_shell k edges corners (faces - 1) borders))
     at_first (l ∷ ls) e t = absurd (let h : l ∷ ls ≡ [] = e in cc)
     at_first [] e t = (

@@ -27,7 +27,7 @@ IsUnfit s before bytes = (line : OpenLine) × IsSpelled bytes line × ¬ FitsLin
 abbrev pub IsBadLine : SolidData → List OpenLine → List ℕ → Illegal → Type 0
 IsBadLine s before bytes bad =
     (IsMisspelt bytes × (bad ≡ Misspelt (progress_from_latest s before).number)) ⊎ (IsUnfit s before bytes × (bad
-        ≡ Unfit (progress_from_latest s before).number))
+    ≡ Unfit (progress_from_latest s before).number))
 
 -- the first misspelt or unfit line, or the number after the last line where END is missing
 abbrev pub IsFirstBadAfter : SolidData → List OpenLine → List (List ℕ) → Illegal → Type 0

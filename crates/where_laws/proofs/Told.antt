@@ -65,11 +65,13 @@ built s i (g ∷ hs) numbered are =
 
 some_all : (s : SolidData) → IsNumberedSolid s → (xs : List Faults) × AreAllFaults s xs
 some_all s numbered =
-    let all = built s 0 s.shells numbered (λ j h at. let z : j ≡ 0 + j = omega arith in subst (λ n. slice_get s.shells n ≡ Some h) z at) in
-    (all.0, record {
-      each = all.1;
-      shell = λ k h x at there. let z : 0 + k ≡ k = omega arith in subst (λ n. AreFaults s n h x) z (all.2 k h x at there);
-    })
+    let all = built s 0 s.shells numbered (λ j h at. let z : j ≡ 0 + j = omega arith in subst (λ n. slice_get s.shells n ≡ Some h) z at) in (
+      all.0,
+      record {
+        each = all.1;
+        shell = λ k h x at there. let z : 0 + k ≡ k = omega arith in subst (λ n. AreFaults s n h x) z (all.2 k h x at there);
+      },
+    )
 
 -- ---- the hint on flags
 
@@ -99,22 +101,28 @@ module _ (listing : Listing) (f : Contents) (n : EntryNo) where
           let s : SolidData = solid_of f n.0 in
           let all = some_all s (solid_is_numbered f n.0 placed (has_few_parts f n.0 limits placed)) in
           let hint = some_hint s (pair_fails all.0 (shown listing (failing_shells all.0))) in
-          let rest : List ℕ = shell_lines listing f s all.0 ++ hint.0 ++ shell_texts listing f s all.0 in
-          (v, verdict_line n.0 v ++ rest, record {
-            judged = judged;
-            rest = rest;
-            told = inr (record { placed = placed; faults = all.0; all = all.1; hint = hint.0; is_hint = hint.1; rest_is = refl });
-            text_is = refl;
-          })
+          let rest : List ℕ = shell_lines listing f s all.0 ++ hint.0 ++ shell_texts listing f s all.0 in (
+            v,
+            verdict_line n.0 v ++ rest,
+            record {
+              judged = judged;
+              rest = rest;
+              told = inr (record { placed = placed; faults = all.0; all = all.1; hint = hint.0; is_hint = hint.1; rest_is = refl });
+              text_is = refl;
+            },
+          )
       by_places (inr (x, first)) (v, judged) =
           let path = some_path x (sited f n.0) (same_bears (all_owed (sited f n.0)) (places f n.0) x (same_sited f n.0) (first_bears (places f n.0) x first)) in
-          let rest : List ℕ = record_rest listing f n x path.0 in
-          (v, verdict_line n.0 v ++ rest, record {
-            judged = judged;
-            rest = rest;
-            told = inl (record { failing = x; first = first; path = path.0; leads = path.1; rest_is = refl });
-            text_is = refl;
-          })
+          let rest : List ℕ = record_rest listing f n x path.0 in (
+            v,
+            verdict_line n.0 v ++ rest,
+            record {
+              judged = judged;
+              rest = rest;
+              told = inl (record { failing = x; first = first; path = path.0; leads = path.1; rest_is = refl });
+              text_is = refl;
+            },
+          )
 
 -- ---- all solids
 

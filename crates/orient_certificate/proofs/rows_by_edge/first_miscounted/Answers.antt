@@ -15,7 +15,7 @@ returns-then-of-ne2 c =
     let here : get_or c.args.rows.now.edges c.edges.i 0 ≡ c.unwrap-edge.result.0 = get_or_from_slice_get c.args.rows.now.edges c.edges.i c.unwrap-edge.result.0
     0 at in
     let within : IsWithin c.args.by_edge.now.span c.unwrap-edge.result.0 = subst (IsWithin c.args.by_edge.now.span) here
-        (c.requires.span.holds c.edges.i 0 low) in
+    (c.requires.span.holds c.edges.i 0 low) in
     subst (FirstNot (HasTwoRows c.args.rows.now) c.args.rows.now.edges) here
     (left_in_fails (HasTwoRows c.args.rows.now) c.args.rows.now.edges c.args.rows.now.edges c.edges.i 0 low c.edges.invariant
     (λ two. count_ne c.args.rows.now c.args.by_edge.now.span c.args.by_edge.now.seen c.unwrap-edge.result.0 c.requires.by_edge within
@@ -28,7 +28,7 @@ edges-preserved c =
     let here : get_or c.args.rows.now.edges c.edges.i 0 ≡ c.unwrap-edge.result.0 = get_or_from_slice_get c.args.rows.now.edges c.edges.i c.unwrap-edge.result.0
     0 at in
     let within : IsWithin c.args.by_edge.now.span c.unwrap-edge.result.0 = subst (IsWithin c.args.by_edge.now.span) here
-        (c.requires.span.holds c.edges.i 0 low) in
+    (c.requires.span.holds c.edges.i 0 low) in
     left_in_less (HasTwoRows c.args.rows.now) c.args.rows.now.edges c.args.rows.now.edges c.edges.i 0 low c.edges.invariant
     (subst (HasTwoRows c.args.rows.now) (sym here) (count_told c.args.rows.now c.args.by_edge.now.span c.args.by_edge.now.seen c.unwrap-edge.result.0
     c.requires.by_edge within (sym (ap (λ (x : Seen). x.count) c.of.ensures) ∙ c.if-of-ne2.false)))
