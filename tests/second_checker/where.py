@@ -14,6 +14,7 @@ from .shells import Rows, check_apart, check_join, corners_of, mates_of, reach_o
 from .walking import ANY_TOPOLOGY, Fail, Walk
 
 LIMIT = 20
+FACE_LIMIT = 5
 WORD_LIMIT = 100
 DOC = {}
 
@@ -277,7 +278,7 @@ class View:
         for vertex in self.shared:
             views = [view for view in (*self.earlier, self) if vertex in view.vertices]
             facts = [f"in shell {view.place} face {view.face(face)}" for view in views for face in view.faces_at(vertex)]
-            items.append(text.item(f"vertex {self.vertex(vertex)}", facts))
+            items.append(Item(f"vertex {self.vertex(vertex)}", facts[:FACE_LIMIT], max(0, len(facts) - FACE_LIMIT)))
         return items
 
     def put(self, text):

@@ -2,7 +2,9 @@
 
 ghost use Rattle.iges_base.specs.declared.TheConstants.{FILE_LIMIT};
 ghost use Rattle.iges_io.specs.Reading.{TakesAtMost};
+ghost use Rattle.iges_lines.specs.Gives.{IfBad};
 ghost use Rattle.iges_params.specs.IsFile.{IsFile};
+ghost use Rattle.iges_params.specs.Refusal.{Refusal};
 ghost use Rattle.command_replies.specs.Outcome.{ReadsWhole};
 ghost use Rattle.command_replies.specs.Replies.{CountAfterCall, IsFileTold, IsReply, TakesWithin};
 ghost use Rattle.std.specs.Io.KnownBytes.{IsAtEnd};
@@ -12,8 +14,8 @@ ghost use Rattle.where_command.specs.Due.{OfNoFile, bad_file_text};
 use command_replies::{Answer, Reply, Stop, bad_file, bytes_in};
 use iges_fields::{FILE_LIMIT, NoMemory, Out};
 use iges_io::Source;
-use iges_lines::LineFault;
-use iges_params::{File, ReadFileFault, read_file};
+use iges_lines::{LineFault, sections};
+use iges_params::{File, ReadFileFault, take_sections};
 use std::alloc::Global;
 use where_file::put_bad_file;
 use where_text::put_reason_sentence;
@@ -33,6 +35,18 @@ fn bad_file_reply(alloc: Global, bytes: &[u8], fault: LineFault) -> Result<Reply
     })
 }
 
+// The file of the bytes. The lines of its directory aren't kept while its records are read.
+fn read_lines(alloc: Global, bytes: &[u8]) -> Result<File, ReadFileFault>
+    requires { length bytes.now ≤ FILE_LIMIT }
+    ensures found { IfOk result (IsFile bytes.now) }
+    ensures fault { IfBad result (Refusal bytes.now) }
+{
+    match sections(alloc, bytes) {
+        Ok(lines) => take_sections(alloc, lines),
+        Err(fault) => Err(fault),
+    }
+}
+
 fn file_of(alloc: Global, bytes: &[u8]) -> Result<Result<File, Reply>, NoMemory>
     requires { length bytes.now ≤ FILE_LIMIT }
     ensures found { IfOk result (λ r. MatchResult r (IsFile bytes.now)
@@ -40,7 +54,7 @@ fn file_of(alloc: Global, bytes: &[u8]) -> Result<Result<File, Reply>, NoMemory>
     ensures bad { IfOk result (λ r. MatchResult r (λ _. Unit {0})
         (λ reply. reply.answer ≡ Answer.BadFile)) }
 {
-    match read_file(alloc, bytes) {
+    match read_lines(alloc, bytes) {
         Ok(file) => Ok(Ok(file)),
         Err(ReadFileFault::Bad(fault)) => Ok(Err(bad_file_reply(alloc, bytes, fault)?)),
         Err(ReadFileFault::NoMemory) => Err(NoMemory),

@@ -1,7 +1,6 @@
 -- The facts of a line of the file that fails.
 use Rattle.std.specs.Prelude.{ℕ, ◌+◌, ◌-◌, ◌/◌, ◌%◌, Bool, true, false, List, [], ◌∷◌, ◌++◌, length, take, drop, flat_map, replicate, nat_lt, Option, Some, None, if◌then◌else◌}
 use Rattle.std.specs.Prelude.{codes, decimal}
-use Rattle.iges_base.specs.Word.{is_empty}
 use Rattle.iges_lines.specs.declared.reason.Reason.{Reason}
 use Rattle.iges_lines.specs.declared.reason.Reason.TheVariants as reason
 use Rattle.where_text.specs.Spelled.{masked, space_word}

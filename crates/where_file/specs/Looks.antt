@@ -1,8 +1,7 @@
 -- What a bad file, or the line of it that fails, looks like.
-use Rattle.std.specs.Prelude.{ℕ, Bool, true, false, not, ◌&&◌, ◌||◌, ◌==◌, nat_eq, nat_lt, nat_le, List, [], ◌∷◌, ◌++◌, length, drop, take, find, Option, Some, None, MatchOption}
-use Rattle.std.specs.Prelude.{codes, option_map, slice_index, slice_index_or, if◌then◌else◌, count_by}
+use Rattle.std.specs.Prelude.{ℕ, Bool, true, false, ◌&&◌, ◌||◌, ◌==◌, nat_eq, nat_lt, nat_le, List, [], ◌∷◌, length, drop, take, find, Option, Some, None}
+use Rattle.std.specs.Prelude.{codes, option_map, slice_index, count_by}
 use Rattle.std.specs.List.{list_all, list_any, prefix_len, starts_with}
-use Rattle.iges_base.specs.Word.{is_empty}
 use Rattle.iges_lines.specs.declared.reason.Reason.{Reason}
 use Rattle.iges_lines.specs.declared.reason.Reason.TheVariants as reason
 use Rattle.where_file.specs.declared.look.Look.{Look}
@@ -19,11 +18,14 @@ begins bytes start = starts_with nat_eq bytes start
 abbrev pub is_blank_byte : ℕ → Bool
 is_blank_byte b = b == 32 || b == 9 || b == 10 || b == 13
 
--- the bytes behind the blank ones, of the first 4096
-unfoldable pub first_word : List ℕ → List ℕ
-first_word bytes = drop (prefix_len is_blank_byte (take 4096 bytes)) (take 4096 bytes)
+-- the bytes behind the blank ones, of the first so many
+unfoldable pub first_word : ℕ → List ℕ → List ℕ
+first_word count bytes = drop (prefix_len is_blank_byte (take count bytes)) (take count bytes)
 
 -- ---- whole files, by their first bytes
+
+abbrev pub of_nothing : List ℕ → List (Bool × Look)
+of_nothing bytes = (length bytes == 0, look.Empty) ∷ []
 
 abbrev pub packed : List ℕ → List (Bool × Look)
 packed bytes =
@@ -58,11 +60,32 @@ of_words word = (begins word (codes "ISO-10303-21"), look.Step) ∷ (begins word
 abbrev pub is_lower : ℕ → Bool
 is_lower b = list_any (λ x. x == b) (codes "sgdpt")
 
+-- end marks of old systems, spaces and CRs alone
+unfoldable pub are_end_marks : List ℕ → Bool
+are_end_marks line = list_all (λ b. b == 26 || b == 32 || b == 13) line
+
+-- zero bytes, spaces and CRs alone
+unfoldable pub are_zeros : List ℕ → Bool
+are_zeros line = list_all (λ b. b == 0 || b == 32 || b == 13) line
+
+unfoldable pub are_spaces : List ℕ → Bool
+are_spaces line = list_all (λ b. b == 32) line
+
+unfoldable pub has_carriage_return : List ℕ → Bool
+has_carriage_return line = list_any (λ b. b == 13) line
+
+unfoldable pub has_tab : List ℕ → Bool
+has_tab line = list_any (λ b. b == 9) line
+
+-- a byte that isn't of ASCII
+unfoldable pub has_other_byte : List ℕ → Bool
+has_other_byte line = list_any (λ b. nat_lt 127 b) line
+
 -- what stands behind the T line
 abbrev pub behind_end : List ℕ → List (Bool × Look)
 behind_end line =
-    (list_all (λ b. b == 26 || b == 32 || b == 13) line, look.ControlZ) ∷
-    (list_all (λ b. b == 0 || b == 32 || b == 13) line, look.Nuls) ∷
+    (are_end_marks line, look.ControlZ) ∷
+    (are_zeros line, look.Nuls) ∷
     (length line == 80 && slice_index line 72 == 83, look.SecondFile) ∷ []
 
 abbrev pub in_letters : List ℕ → List (Bool × Look)
@@ -78,22 +101,22 @@ is_unbroken line = nat_le 160 (length line) && slice_index line 72 == 83 && (sli
 
 -- 80 characters, but not all of ASCII
 abbrev pub is_long_in_utf_8 : List ℕ → Bool
-is_long_in_utf_8 line = list_any (λ b. nat_lt 127 b) line && count_by begins_character line == 80
+is_long_in_utf_8 line = has_other_byte line && count_by begins_character line == 80
 
 -- the bytes of a line that hasn't 80
 abbrev pub in_bytes : List ℕ → List (Bool × Look)
 in_bytes line =
     (is_unbroken line, look.NoLineEnds) ∷
     (length line == 81 && slice_index line 80 == 13, look.TwoCrs) ∷
-    (list_any (λ b. b == 13) line, look.CrAlone) ∷
-    (list_any (λ b. b == 9) line, look.Tabs) ∷
+    (has_carriage_return line, look.CrAlone) ∷
+    (has_tab line, look.Tabs) ∷
     (is_long_in_utf_8 line, look.Utf8) ∷ []
 
 -- its length, where it is the last, and LF doesn't end it
 abbrev pub in_length : Bool → List ℕ → List (Bool × Look)
 in_length is_last line =
     (length line == 72, look.NoNumbers) ∷
-    (list_all (λ b. b == 32) line, look.Blank) ∷
+    (are_spaces line, look.Blank) ∷
     (is_last && nat_lt (length line) 80, look.CutOff) ∷ []
 
 -- ---- which of these apply
@@ -105,9 +128,9 @@ or_else (Some x) y = Some x
 
 -- the kind of a whole file
 unfoldable pub whole_kind : List ℕ → Option Look
-whole_kind [] = Some look.Empty
-whole_kind (b ∷ bytes) =
-    or_else (first_holding (packed (b ∷ bytes))) (or_else (first_holding (of_systems (b ∷ bytes))) (first_holding (of_words (first_word (b ∷ bytes)))))
+whole_kind bytes =
+    or_else (first_holding (of_nothing bytes)) (or_else (first_holding (packed bytes))
+    (or_else (first_holding (of_systems bytes)) (first_holding (of_words (first_word 4096 bytes)))))
 
 abbrev pub is_of_whole : Reason → Bool
 is_of_whole reason.NotFixed = true

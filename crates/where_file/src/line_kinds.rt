@@ -1,7 +1,7 @@
 //! What was done to a line that fails, by its bytes.
 
 ghost use Rattle.std.specs.Prelude.{◌≡◌, ◌≤◌, count_by, length, slice_index};
-ghost use Rattle.where_file.specs.Looks.{begins_character, behind_end, first_holding, in_bytes, in_length, in_letters, is_long_in_utf_8, is_lower, is_unbroken, line_kind};
+ghost use Rattle.where_file.specs.Looks.{are_end_marks, are_spaces, are_zeros, begins_character, behind_end, first_holding, has_carriage_return, has_other_byte, has_tab, in_bytes, in_length, in_letters, is_long_in_utf_8, is_lower, is_unbroken, line_kind};
 
 use crate::look::Look;
 use crate::whole::or_else;
@@ -32,10 +32,52 @@ fn begins_character(b: u8) -> bool
     b < 128 || b >= 192
 }
 
+#[tactic(auto, unfolding(crate::specs::Looks::are_end_marks))]
+fn are_end_marks(line: &[u8]) -> bool
+    ensures { result ≡ are_end_marks line.now }
+{
+    line.iter().all(|b| *b == 26 || *b == b' ' || *b == b'\r')
+}
+
+#[tactic(auto, unfolding(crate::specs::Looks::are_zeros))]
+fn are_zeros(line: &[u8]) -> bool
+    ensures { result ≡ are_zeros line.now }
+{
+    line.iter().all(|b| *b == 0 || *b == b' ' || *b == b'\r')
+}
+
+#[tactic(auto, unfolding(crate::specs::Looks::are_spaces))]
+fn are_spaces(line: &[u8]) -> bool
+    ensures { result ≡ are_spaces line.now }
+{
+    line.iter().all(|b| *b == b' ')
+}
+
+#[tactic(auto, unfolding(crate::specs::Looks::has_carriage_return))]
+fn has_carriage_return(line: &[u8]) -> bool
+    ensures { result ≡ has_carriage_return line.now }
+{
+    line.iter().any(|b| *b == b'\r')
+}
+
+#[tactic(auto, unfolding(crate::specs::Looks::has_tab))]
+fn has_tab(line: &[u8]) -> bool
+    ensures { result ≡ has_tab line.now }
+{
+    line.iter().any(|b| *b == b'\t')
+}
+
+#[tactic(auto, unfolding(crate::specs::Looks::has_other_byte))]
+fn has_other_byte(line: &[u8]) -> bool
+    ensures { result ≡ has_other_byte line.now }
+{
+    line.iter().any(|b| *b > 127)
+}
+
 fn is_long_in_utf_8(line: &[u8]) -> bool
     ensures { result ≡ is_long_in_utf_8 line.now }
 {
-    line.iter().any(|b| *b > 127) && count_of_characters(line) == 80
+    has_other_byte(line) && count_of_characters(line) == 80
 }
 
 fn is_unbroken(line: &[u8]) -> bool
@@ -55,9 +97,9 @@ fn is_lower(b: u8) -> bool
 fn behind_end(line: &[u8]) -> Option<Look>
     ensures { result ≡ first_holding (behind_end line.now) }
 {
-    if line.iter().all(|b| *b == 26 || *b == b' ' || *b == b'\r') {
+    if are_end_marks(line) {
         Some(Look::ControlZ)
-    } else if line.iter().all(|b| *b == 0 || *b == b' ' || *b == b'\r') {
+    } else if are_zeros(line) {
         Some(Look::Nuls)
     } else if line.len() == 80 && byte_at(line, 72) == b'S' {
         Some(Look::SecondFile)
@@ -82,9 +124,9 @@ fn in_bytes(line: &[u8]) -> Option<Look>
         Some(Look::NoLineEnds)
     } else if line.len() == 81 && byte_at(line, 80) == b'\r' {
         Some(Look::TwoCrs)
-    } else if line.iter().any(|b| *b == b'\r') {
+    } else if has_carriage_return(line) {
         Some(Look::CrAlone)
-    } else if line.iter().any(|b| *b == b'\t') {
+    } else if has_tab(line) {
         Some(Look::Tabs)
     } else if is_long_in_utf_8(line) {
         Some(Look::Utf8)
@@ -98,7 +140,7 @@ fn in_length(line: &[u8], is_last: bool) -> Option<Look>
 {
     if line.len() == 72 {
         Some(Look::NoNumbers)
-    } else if line.iter().all(|b| *b == b' ') {
+    } else if are_spaces(line) {
         Some(Look::Blank)
     } else if is_last && line.len() < 80 {
         Some(Look::CutOff)

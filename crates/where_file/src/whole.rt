@@ -2,7 +2,7 @@
 
 ghost use Rattle.std.specs.List.{prefix_len};
 ghost use Rattle.std.specs.Prelude.{◌≡◌, ◌≤◌, length, take};
-ghost use Rattle.where_file.specs.Looks.{begins, first_holding, first_word, is_blank_byte, is_brep, is_certificate, of_systems, of_words, or_else, packed, whole_kind};
+ghost use Rattle.where_file.specs.Looks.{begins, first_holding, first_word, is_blank_byte, is_brep, is_certificate, of_nothing, of_systems, of_words, or_else, packed, whole_kind};
 
 use crate::look::Look;
 
@@ -29,19 +29,32 @@ fn blank_len(bytes: &[u8]) -> usize
     len
 }
 
-// The first 4096 bytes.
-fn front(bytes: &[u8]) -> &[u8]
-    ensures { result.now ≡ take 4096 bytes.now }
+// So many bytes, or all where there are fewer.
+fn front(bytes: &[u8], count: usize) -> &[u8]
+    ensures { result.now ≡ take count bytes.now }
 {
-    &bytes[..bytes.len().min(4096)]
+    if bytes.len() <= count {
+        return bytes;
+    }
+    &bytes[..count]
 }
 
 #[tactic(auto, unfolding(crate::specs::Looks::first_word))]
-fn first_word(bytes: &[u8]) -> &[u8]
-    ensures { result.now ≡ first_word bytes.now }
+fn first_word(bytes: &[u8], count: usize) -> &[u8]
+    ensures { result.now ≡ first_word count bytes.now }
 {
-    let front = front(bytes);
+    let front = front(bytes, count);
     &front[blank_len(front)..]
+}
+
+fn of_nothing(bytes: &[u8]) -> Option<Look>
+    ensures { result ≡ first_holding (of_nothing bytes.now) }
+{
+    if bytes.is_empty() {
+        Some(Look::Empty)
+    } else {
+        None
+    }
 }
 
 fn packed(bytes: &[u8]) -> Option<Look>
@@ -119,9 +132,7 @@ pub fn or_else(one: Option<Look>, other: Option<Look>) -> Option<Look>
 pub fn whole_kind(bytes: &[u8]) -> Option<Look>
     ensures { result ≡ whole_kind bytes.now }
 {
-    if bytes.is_empty() {
-        return Some(Look::Empty);
-    }
-    let by_word = of_words(first_word(bytes));
-    or_else(packed(bytes), or_else(of_systems(bytes), by_word))
+    let by_word = of_words(first_word(bytes, 4096));
+    let by_start = or_else(packed(bytes), or_else(of_systems(bytes), by_word));
+    or_else(of_nothing(bytes), by_start)
 }

@@ -4,9 +4,8 @@ ghost use Rattle.std.specs.Prelude.{◌≡◌, ◌<◌, ◌≤◌, ◌+◌, ◌-
 ghost use Rattle.edge_uses.specs.ShellRows.{rows_of};
 ghost use Rattle.iges_base.specs.declared.entry_no.EntryNo.{EntryNo as AnyEntryNo};
 ghost use Rattle.solid_faults.specs.Edges.{shared_of};
-ghost use Rattle.where_text.specs.Listing.{shown};
 ghost use Rattle.shell_facts.specs.FaceTable.{touches_of};
-ghost use Rattle.where_shells.specs.Apart.{apart_lines, apart_named, apart_text, in_shell_line, shared_lines, shared_named, shared_text};
+ghost use Rattle.where_shells.specs.Apart.{apart_lines, apart_named, apart_text, face_count, in_shell_line, shared_lines, shared_named, shared_text};
 
 use crate::lines::{put_count, put_head, put_vertex_line};
 use crate::view::{Page, ShellView};
@@ -15,6 +14,9 @@ use iges_params::File;
 use shell_facts::FacesUpTo;
 use solid_data::{Rule, VertexId};
 use where_text::{put_face, put_more_facts, put_more_items};
+
+/// How many of the faces at a vertex are written.
+const FACE_LIMIT: usize = 5;
 
 // A line for a face, given with the number of its shell from 0.
 #[tactic(auto, unfolding(crate::specs::Apart::in_shell_line))]
@@ -47,6 +49,14 @@ fn put_in_shells(
     Ok(())
 }
 
+fn face_count(faces: usize) -> usize
+    ensures is { result ≡ face_count faces }
+    ensures within { result ≤ faces }
+{
+    faces.min(FACE_LIMIT)
+}
+
+// A vertex, and the first of the faces at it.
 #[tactic(auto, unfolding(crate::specs::Apart::shared_lines))]
 fn put_shared_lines(
     page: &mut Page,
@@ -55,11 +65,11 @@ fn put_shared_lines(
     faces: &FacesUpTo,
 ) -> Result<(), NoMemory>
     ensures text { OnOk result (page.new.out ≡ page.old.out
-        ++ shared_lines view.now.listing view.now.file.now view.now.solid.now vertex faces.now) }
+        ++ shared_lines view.now.file.now view.now.solid.now vertex faces.now) }
     ensures named { OnOk result (page.new.named ≡ page.old.named
-        ++ map (λ (x : ℕ × AnyEntryNo). x.1) (shown view.now.listing faces.now)) }
+        ++ map (λ (x : ℕ × AnyEntryNo). x.1) (take (face_count (length faces.now)) faces.now)) }
 {
-    let count = view.listing.count(faces.len());
+    let count = face_count(faces.len());
     put_vertex_line(&mut page.out, view, "vertex", vertex)?;
     put_in_shells(page, view.file, faces, count)?;
     put_more_facts(&mut page.out, faces.len() - count)
@@ -69,9 +79,9 @@ fn put_shared(page: &mut Page, view: &ShellView<'_>, vertex: u32) -> Result<(), 
     requires faces { view.now.faces.now ≡ touches_of view.now.solid.now }
     requires inside { vertex < length view.now.solid.now.vertices }
     ensures text { OnOk result (page.new.out ≡ page.old.out
-        ++ shared_text view.now.listing view.now.file.now view.now.solid.now view.now.at.0 vertex) }
+        ++ shared_text view.now.file.now view.now.solid.now view.now.at.0 vertex) }
     ensures named { OnOk result (page.new.named ≡ page.old.named
-        ++ shared_named view.now.listing view.now.solid.now view.now.at.0 vertex) }
+        ++ shared_named view.now.solid.now view.now.at.0 vertex) }
 {
     let faces = view.faces.up_to(view.at, VertexId(vertex));
     put_shared_lines(page, view, vertex, &faces)
@@ -81,9 +91,9 @@ fn put_each_shared(page: &mut Page, view: &ShellView<'_>, shared: &[u32]) -> Res
     requires faces { view.now.faces.now ≡ touches_of view.now.solid.now }
     requires inside { All (λ v. v < length view.now.solid.now.vertices) shared.now }
     ensures text { OnOk result (page.new.out ≡ page.old.out
-        ++ flat_map (shared_text view.now.listing view.now.file.now view.now.solid.now view.now.at.0) shared.now) }
+        ++ flat_map (shared_text view.now.file.now view.now.solid.now view.now.at.0) shared.now) }
     ensures named { OnOk result (page.new.named ≡ page.old.named
-        ++ flat_map (shared_named view.now.listing view.now.solid.now view.now.at.0) shared.now) }
+        ++ flat_map (shared_named view.now.solid.now view.now.at.0) shared.now) }
 {
     'vertices: for i in 0..shared.len() {
         put_shared(page, view, shared[i])?;

@@ -4,3 +4,5 @@ pub mod FirstFailing
 pub mod VerdictSteps
 pub mod Counts
 pub mod ToldSolids
+pub mod SameShells
+pub mod LoneShells

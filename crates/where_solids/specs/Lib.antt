@@ -6,3 +6,4 @@ pub mod KindHints
 pub mod ShellTexts
 pub mod Told
 pub mod Overview
+pub mod Recalled

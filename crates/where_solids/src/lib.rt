@@ -8,6 +8,7 @@ mod kind_hints;
 mod lines;
 mod listed;
 mod overview;
+mod recalling;
 mod record_texts;
 mod shell_texts;
 mod telling;

@@ -3,7 +3,7 @@
 ghost use Rattle.iges_base.specs.declared.entry_no.EntryNo.{EntryNo as AnyEntryNo};
 ghost use Rattle.solid_verdict.specs.Closed.{IsVerdictOn};
 ghost use Rattle.solid_data.specs.declared.verdict.Verdict.{Verdict as AnyVerdict};
-ghost use Rattle.std.specs.Prelude.{◌≡◌, ◌++◌, ◌&&◌, ◌==◌, nat_lt, List, IfOk, OnOk, count_by, flat_map, length, zip};
+ghost use Rattle.std.specs.Prelude.{◌≡◌, ◌++◌, ◌&&◌, ◌==◌, nat_lt, List, IfOk, IfSome, OnOk, Some, count_by, flat_map, length, slice_get, zip, ℕ};
 ghost use Rattle.where_solids.specs.Overview.{AreVerdicts, IsOverview, all_close, fails, overview_start, solid_paragraph, verdict_words};
 ghost use Rattle.where_text.specs.Spelled.{space_word};
 
@@ -11,6 +11,7 @@ use crate::all_faults::all_faults;
 use crate::hints::put_no_solid;
 use crate::lines::{put_count, put_failing};
 use crate::listed::solids;
+use crate::recalling::{Judged, LastNaming, lone_shell, recalled};
 use crate::verdicts::verdict;
 use brep_walk::{WalkFault, Walker};
 use iges_fields::{Bytes, EntryNo, ItemList, NoMemory, Out};
@@ -40,13 +41,53 @@ fn verdict_on(alloc: Global, walker: &mut Walker<'_>, no: EntryNo) -> Result<Ver
     Ok(verdict(&solid, &all))
 }
 
+// The verdict on a solid that an earlier one with the same only shell has, where there is one.
+fn earlier_verdict(last: &mut LastNaming, judged: &Judged<'_>, no: EntryNo) -> Option<Verdict>
+    requires { (j : ℕ) (n : AnyEntryNo) (v : AnyVerdict)
+        → slice_get judged.now.solids.now j ≡ Some n → slice_get judged.now.verdicts.now j ≡ Some v
+        → IsVerdictOn judged.now.file.now n.0 v }
+    ensures { IfSome result (IsVerdictOn judged.now.file.now no.0) }
+{
+    let shell = lone_shell(judged.file, no)?;
+    let place = last.replace(judged.file, shell, judged.verdicts.len())?;
+    recalled(judged, place, no, shell)
+}
+
+// The verdict on the next solid. Of solids that name the same shell alone, with the same flag, only one is walked and judged.
+fn next_verdict(
+    alloc: Global,
+    walker: &mut Walker<'_>,
+    last: &mut LastNaming,
+    judged: &Judged<'_>,
+    no: EntryNo,
+) -> Result<Verdict, NoMemory>
+    requires file { walker.old ≡ judged.now.file.now }
+    requires judged { (j : ℕ) (n : AnyEntryNo) (v : AnyVerdict)
+        → slice_get judged.now.solids.now j ≡ Some n → slice_get judged.now.verdicts.now j ≡ Some v
+        → IsVerdictOn judged.now.file.now n.0 v }
+    ensures file { walker.new ≡ walker.old }
+    ensures verdict { IfOk result (IsVerdictOn walker.old no.0) }
+{
+    match earlier_verdict(last, judged, no) {
+        Some(verdict) => Ok(verdict),
+        None => verdict_on(alloc, walker, no),
+    }
+}
+
 fn verdicts(alloc: Global, file: &File, solids: &[EntryNo]) -> Result<ItemList<Verdict>, NoMemory>
     ensures { IfOk result (AreVerdicts file.now solids.now) }
 {
     let mut walker = Walker::new(alloc, file);
+    let mut last = LastNaming::new(alloc, file.entry_count())?;
     let mut verdicts = ItemList::with_room(alloc, solids.len())?;
     'solids: for i in 0..solids.len() {
-        verdicts.push(verdict_on(alloc, &mut walker, solids[i])?)?;
+        let judged = Judged {
+            file,
+            solids,
+            verdicts: verdicts.as_slice(),
+        };
+        let verdict = next_verdict(alloc, &mut walker, &mut last, &judged, solids[i])?;
+        verdicts.push(verdict)?;
     }
     Ok(verdicts)
 }
@@ -163,7 +204,7 @@ fn all_closed(solids: usize, failing: usize) -> bool
 }
 
 /// Says of each solid of a file, in directory order, whether it is closed, or the first rule that fails. It errs only
-/// where memory runs out. Each solid's records are walked once.
+/// where memory runs out. Each solid's records are walked once, and not at all where an earlier solid names the same shell alone.
 pub fn tell_all(alloc: Global, file: &File) -> Result<Overview, NoMemory>
     ensures { IfOk result (λ told. (vs : List AnyVerdict) × IsOverview file.now vs told.text
         × (told.all_closed ≡ all_close vs)) }
