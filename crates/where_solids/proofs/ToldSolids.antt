@@ -26,7 +26,8 @@ use Rattle.where_solids.specs.AllFaults.{AreAllFaults, failing_shells}
 use Rattle.where_entities.specs.Entities.{entities_text}
 use Rattle.where_solids.specs.Hints.{IsFlagsHint, no_solid_hint, pair_fails, unset_flags}
 use Rattle.where_solids.specs.Listed.{solids_of}
-use Rattle.where_solids.specs.Overview.{AreVerdicts, IsOverview, all_close, fails, overview_start, overview_text, solid_paragraph}
+use Rattle.where_unjudged.specs.Unjudged.{unjudged_text}
+use Rattle.where_solids.specs.Overview.{AreVerdicts, IsOverview, all_close, fails, overview_end, overview_start, overview_text, solid_paragraph}
 use Rattle.where_solids.specs.Lines.{line_at, shells_line, units_line, verdict_line}
 use Rattle.where_solids.specs.ShellTexts.{named_at, paragraphs_at, shell_lines, shell_texts}
 use Rattle.where_solids.specs.Told.{IsToldOf, record_rest}
@@ -109,14 +110,9 @@ pub no_flags : (s : SolidData) (unpaired b : Bool) (unset : ℕ) (out : List ℕ
 no_flags s unpaired b unset out is none told =
     ([], inr ((λ u some closed. let yes : b ≡ true = told.1 (u, subst (λ n. 0 < n) (sym is) some, closed) in absurd cc), refl), sym (append-nil out))
 
-pub start_none : (vs : List Verdict) → length vs ≡ 0 → codes "solids 0 failing 0\n" ++ no_solid_hint ≡ overview_start vs
-unfolding overview_start
-start_none [] long = refl
-start_none (v ∷ vs) long = absurd (omega (arith, long))
-
 pub all_told : (f : Contents) (ns listed : List EntryNo) (vs judged : List Verdict) (m n : ℕ) (b : Bool) (text : List ℕ) → ns ≡ solids_of f → listed ≡ ns
     → AreVerdicts f listed vs → judged ≡ vs → m ≡ length ns
-    → n ≡ count_by fails judged → b ≡ (nat_lt 0 m && n == 0) → text ≡ overview_start vs ++ flat_map (solid_paragraph f) (zip ns vs)
+    → n ≡ count_by fails judged → b ≡ (nat_lt 0 m && n == 0) → text ≡ overview_start vs ++ flat_map (solid_paragraph f) (zip ns vs) ++ unjudged_text f ++ overview_end vs
     → (ws : List Verdict) × IsOverview f ws text × (b ≡ all_close ws)
 unfolding overview_text
 all_told f ns listed vs judged m n b text solids same verdicts is many failing closed told =
@@ -124,7 +120,7 @@ all_told f ns listed vs judged m n b text solids same verdicts is many failing c
       vs,
       record {
         judged = subst (λ xs. AreVerdicts f xs vs) (same ∙ solids) verdicts;
-        text_is = told ∙ ap (λ xs. overview_start vs ++ flat_map (solid_paragraph f) (zip xs vs)) solids;
+        text_is = told ∙ ap (λ xs. overview_start vs ++ flat_map (solid_paragraph f) (zip xs vs) ++ unjudged_text f ++ overview_end vs) solids;
       },
       closed ∙ (ap (λ k. nat_lt 0 k && n == 0) each ∙ ap (λ k. nat_lt 0 (length vs) && k == 0) (failing ∙ ap (count_by fails) is)),
     )

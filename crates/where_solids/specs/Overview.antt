@@ -1,6 +1,6 @@
 -- The verdict on each solid of a file.
 use Rattle.std.specs.Prelude.{◌≡◌, ℕ, Bool, true, false, ◌&&◌, ◌==◌, nat_lt, List, [], ◌∷◌, ◌++◌, length, flat_map, zip, count_by, Some, slice_get, codes}
-use Rattle.std.specs.Prelude.{decimal}
+use Rattle.std.specs.Prelude.{decimal, if◌then◌else◌}
 use Rattle.iges_base.specs.declared.entry_no.EntryNo.{EntryNo}
 use Rattle.iges_params.specs.Contents.{Contents}
 use Rattle.solid_data.specs.declared.verdict.Verdict.{Verdict}
@@ -8,6 +8,7 @@ use Rattle.solid_data.specs.declared.verdict.Verdict.TheVariants.{Closed, Fails}
 use Rattle.solid_verdict.specs.Closed.{IsVerdictOn}
 use Rattle.where_entities.specs.Facts.{entity_facts}
 use Rattle.where_text.specs.Spelled.{space_word}
+use Rattle.where_unjudged.specs.Unjudged.{unjudged_text}
 use Rattle.where_solids.specs.Hints.{no_solid_hint}
 use Rattle.where_solids.specs.Lines.{counted, failing_words}
 use Rattle.where_solids.specs.Listed.{solids_of}
@@ -29,13 +30,17 @@ verdict_words (Fails x) = failing_words x
 unfoldable pub solid_paragraph : Contents → EntryNo × Verdict → List ℕ
 solid_paragraph f p = codes "solid" ++ space_word (decimal p.0.0) ++ space_word (verdict_words p.1) ++ codes "\n" ++ entity_facts f p.0.0
 
--- how many solids there are, and how many of them fail; that there is none
+-- how many solids there are, and how many of them fail
 unfoldable pub overview_start : List Verdict → List ℕ
-overview_start [] = codes "solids 0 failing 0\n" ++ no_solid_hint
-overview_start (v ∷ vs) = codes "solids" ++ space_word (decimal (length (v ∷ vs))) ++ counted (codes "failing") (count_by fails (v ∷ vs)) ++ codes "\n"
+overview_start vs = codes "solids" ++ space_word (decimal (length vs)) ++ counted (codes "failing") (count_by fails vs) ++ codes "\n"
 
+-- that there is none
+unfoldable pub overview_end : List Verdict → List ℕ
+overview_end vs = if length vs == 0 then no_solid_hint else []
+
+-- the solids, then what stands beside them
 unfoldable pub overview_text : Contents → List Verdict → List ℕ
-overview_text f vs = overview_start vs ++ flat_map (solid_paragraph f) (zip (solids_of f) vs)
+overview_text f vs = overview_start vs ++ flat_map (solid_paragraph f) (zip (solids_of f) vs) ++ unjudged_text f ++ overview_end vs
 
 -- there are solids, and all are closed
 abbrev pub all_close : List Verdict → Bool

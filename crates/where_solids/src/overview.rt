@@ -4,7 +4,8 @@ ghost use Rattle.iges_base.specs.declared.entry_no.EntryNo.{EntryNo as AnyEntryN
 ghost use Rattle.solid_verdict.specs.Closed.{IsVerdictOn};
 ghost use Rattle.solid_data.specs.declared.verdict.Verdict.{Verdict as AnyVerdict};
 ghost use Rattle.std.specs.Prelude.{◌≡◌, ◌++◌, ◌&&◌, ◌==◌, nat_lt, List, IfOk, IfSome, OnOk, Some, count_by, flat_map, length, slice_get, zip, ℕ};
-ghost use Rattle.where_solids.specs.Overview.{AreVerdicts, IsOverview, all_close, fails, overview_start, solid_paragraph, verdict_words};
+ghost use Rattle.where_solids.specs.Overview.{AreVerdicts, IsOverview, all_close, fails, overview_end, overview_start, solid_paragraph, verdict_words};
+ghost use Rattle.where_unjudged.specs.Unjudged.{unjudged_text};
 ghost use Rattle.where_text.specs.Spelled.{space_word};
 
 use crate::all_faults::all_faults;
@@ -20,6 +21,7 @@ use solid_data::Verdict;
 use std::alloc::Global;
 use where_entities::put_entity_facts;
 use where_text::{EntryNumbers, put_number};
+use where_unjudged::put_unjudged;
 
 /// Whether there are solids and all are closed, and a text that speaks of each.
 #[derive(Drop)]
@@ -113,20 +115,28 @@ fn failing_count(verdicts: &[Verdict]) -> usize
     count
 }
 
-// The line of the counts; where there is no solid, also the hint on that.
+// The line of the counts.
 #[tactic(auto, unfolding(crate::specs::Overview::overview_start))]
 fn put_start(out: &mut Out, solids: usize, failing: usize) -> Result<(), NoMemory>
     ensures { (vs : List AnyVerdict) → length vs ≡ solids → count_by fails vs ≡ failing
         → OnOk result (out.new ≡ out.old ++ overview_start vs) }
 {
-    if solids == 0 {
-        out.put(b"solids 0 failing 0\n")?;
-        return put_no_solid(out);
-    }
     out.put(b"solids")?;
     put_number(out, solids as u64)?;
     put_count(out, "failing", failing)?;
     out.put(b"\n")
+}
+
+// That there is no solid, where there is none.
+#[tactic(auto, unfolding(crate::specs::Overview::overview_end))]
+fn put_end(out: &mut Out, solids: usize) -> Result<(), NoMemory>
+    ensures { (vs : List AnyVerdict) → length vs ≡ solids
+        → OnOk result (out.new ≡ out.old ++ overview_end vs) }
+{
+    if solids == 0 {
+        return put_no_solid(out);
+    }
+    Ok(())
 }
 
 fn put_verdict_words(out: &mut Out, verdict: Verdict) -> Result<(), NoMemory>
@@ -183,7 +193,8 @@ fn text_of(
     requires each { length verdicts.now ≡ length solids.now }
     requires failing { failing ≡ count_by fails verdicts.now }
     ensures { IfOk result (λ text. text ≡ overview_start verdicts.now
-        ++ flat_map (solid_paragraph file.now) (zip solids.now verdicts.now)) }
+        ++ flat_map (solid_paragraph file.now) (zip solids.now verdicts.now)
+        ++ unjudged_text file.now ++ overview_end verdicts.now) }
 {
     let mut out = Out::new(alloc);
     put_start(&mut out, solids.len(), failing)?;
@@ -194,6 +205,8 @@ fn text_of(
         solids.as_slice(),
         verdicts.as_slice(),
     )?;
+    put_unjudged(alloc, &mut out, file)?;
+    put_end(&mut out, solids.len())?;
     Ok(out.into_bytes())
 }
 
@@ -204,7 +217,7 @@ fn all_closed(solids: usize, failing: usize) -> bool
 }
 
 /// Says of each solid of a file, in directory order, whether it is closed, or the first rule that fails. It errs only
-/// where memory runs out. Each solid's records are walked once, and not at all where an earlier solid names the same shell alone.
+/// where memory runs out. What stands beside the solids is told too. Each solid's records are walked once, and not at all where an earlier solid names the same shell alone.
 pub fn tell_all(alloc: Global, file: &File) -> Result<Overview, NoMemory>
     ensures { IfOk result (λ told. (vs : List AnyVerdict) × IsOverview file.now vs told.text
         × (told.all_closed ≡ all_close vs)) }

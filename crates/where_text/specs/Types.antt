@@ -32,6 +32,17 @@ type_names =
     (pos 142, codes "curve-on-surface") ∷
     (pos 143, codes "bounded-surface") ∷
     (pos 144, codes "trimmed-surface") ∷
+    (pos 150, codes "block") ∷
+    (pos 152, codes "wedge") ∷
+    (pos 154, codes "right-cylinder") ∷
+    (pos 156, codes "right-cone") ∷
+    (pos 158, codes "ball") ∷
+    (pos 160, codes "ring") ∷
+    (pos 162, codes "solid-of-revolution") ∷
+    (pos 164, codes "solid-of-extrusion") ∷
+    (pos 168, codes "ellipsoid") ∷
+    (pos 180, codes "boolean-tree") ∷
+    (pos 184, codes "assembly") ∷
     (pos 186, codes "solid") ∷
     (pos 190, codes "plane-surface") ∷
     (pos 192, codes "cylinder") ∷
@@ -44,6 +55,7 @@ type_names =
     (pos 402, codes "group") ∷
     (pos 406, codes "property") ∷
     (pos 408, codes "instance") ∷
+    (pos 430, codes "solid-instance") ∷
     (pos 502, codes "vertex-list") ∷
     (pos 504, codes "edge-list") ∷
     (pos 508, codes "loop") ∷
