@@ -10,8 +10,8 @@ ghost use Rattle.shell_alone.specs.Alone.{face_at, faces_at, renumbered_face as 
 
 use crate::copying::{renumbered_edges, renumbered_face, vertex_keys};
 use crate::places::{Places, places_met};
-use shell_components::{Used, add_face, nothing_used};
 use iges_base::{EntryNo, ItemList, NoMemory};
+use shell_components::{Used, add_face, nothing_used};
 use solid_data::{Faces, Shell, ShellAt, Shells, Solid};
 use std::alloc::Global;
 

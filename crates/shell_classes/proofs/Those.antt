@@ -68,9 +68,9 @@ found_one R (x ∷ xs) (y ∷ ys) [] one a b =
 found_one R (x ∷ xs) (y ∷ ys) (z ∷ zs) one a b =
     ⊎_elim
     (λ h. ⊎_elim
-        (λ k. ap (λ w. w ∷ ys) (one x y z (inl refl) h.0 k.0)
-        ∙ ap (λ ws. z ∷ ws) (found_one R xs ys zs (λ w u v m. one w u v (inr m)) h.1 k.1))
-        (λ k. absurd (k.0 y h.0)) b)
+    (λ k. ap (λ w. w ∷ ys) (one x y z (inl refl) h.0 k.0)
+    ∙ ap (λ ws. z ∷ ws) (found_one R xs ys zs (λ w u v m. one w u v (inr m)) h.1 k.1))
+    (λ k. absurd (k.0 y h.0)) b)
     (λ h. ⊎_elim (λ k. absurd (h.0 z k.0)) (λ k. found_one R xs (y ∷ ys) (z ∷ zs) (λ w u v m. one w u v (inr m)) h.1 k.1) b) a
 
 -- one more of which something is found

@@ -11,10 +11,10 @@ ghost use Rattle.turn_hint.specs.Sides.{AreSides, node, both_rows as both, face_
 ghost use Rattle.solid_data.specs.declared.TheConstants.{PART_LIMIT};
 
 use crate::by_edge::rows_by_edge;
-use shell_components::{Groups, components};
 use edge_uses::{Row, Rows};
 use iges_base::NoMemory;
 use shell_classes::grouped_leasts;
+use shell_components::{Groups, components};
 use solid_data::{EdgeId, RowId};
 use std::alloc::Global;
 use std::marker::Model;
