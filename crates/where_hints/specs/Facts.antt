@@ -8,10 +8,9 @@ use Rattle.shell_hints.specs.Counted.{AreTouching, AreCrowded, ArePinched, AreSh
 use Rattle.face_hints.specs.Bodies.{Bodies, AreBodies}
 use Rattle.turn_hint.specs.Turns.{Turns, AreTurns}
 
--- The data of each hint, where its condition holds. The number for `missing-faces` is given, and nothing is said of it here.
+-- The data of each hint, where its condition holds.
 pub record Hints : Type 0 where
   pub bodies : Option Bodies
-  pub missing : Option ℕ
   pub turns : Option Turns
   pub touching : Option ℕ
   pub crowded : Option ℕ

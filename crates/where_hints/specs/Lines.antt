@@ -103,19 +103,15 @@ turns_text listing f h k (g ∷ gaps) x = []
 turns_text listing f h k [] None = []
 turns_text listing f h k [] (Some x) = all_turns listing f h k x
 
--- Faces left over, and bodies: where there are either, no other hint is written but that on touching shells. Next comes that only faces are missing, and then
--- each kind of edge and of vertex by itself.
+-- Faces left over, and bodies: where there are either, no other hint is written but that on touching shells. Else each kind of edge and of vertex is told by
+-- itself.
 abbrev pub each_text : Listing → Contents → Shell → ℕ → List Gap → Hints → List ℕ
 each_text listing f h k gaps x =
     turns_text listing f h k gaps x.turns ++ counted_text hint.Touching (codes " edges") k x.touching
     ++ counted_text hint.Crowded (codes " edges") k x.crowded ++ counted_text hint.Pinch (codes " vertices") k x.pinched
 
-abbrev pub missing_text : Listing → Contents → Shell → ℕ → List Gap → Hints → Option ℕ → List ℕ
-missing_text listing f h k gaps x None = each_text listing f h k gaps x
-missing_text listing f h k gaps x (Some n) = counted_lines hint.MissingFaces (codes " edges") k n
-
 abbrev pub first_text : Listing → Contents → Shell → ℕ → List Gap → Hints → Option Bodies → List ℕ
-first_text listing f h k gaps x None = missing_text listing f h k gaps x x.missing
+first_text listing f h k gaps x None = each_text listing f h k gaps x
 first_text listing f h k gaps x (Some b) = stray_text listing f h k b.strays ++ body_text listing f h k b.firsts b.bodies
 
 -- the hints on shell k, from 0, whose loops have these gaps
@@ -141,12 +137,8 @@ turns_named listing h (g ∷ gaps) x = []
 turns_named listing h [] None = []
 turns_named listing h [] (Some x) = flat_map (turn_named listing h) (shown listing x.turns)
 
-abbrev pub missing_named : Listing → Shell → List Gap → Hints → Option ℕ → List EntryNo
-missing_named listing h gaps x None = turns_named listing h gaps x.turns
-missing_named listing h gaps x (Some n) = []
-
 abbrev pub first_named : Listing → Shell → List Gap → Hints → Option Bodies → List EntryNo
-first_named listing h gaps x None = missing_named listing h gaps x x.missing
+first_named listing h gaps x None = turns_named listing h gaps x.turns
 first_named listing h gaps x (Some b) = flat_map (face_named h) (shown listing b.strays) ++ bodies_named listing h b.bodies
 
 unfoldable pub hints_named : Listing → Shell → List Gap → Hints → List EntryNo

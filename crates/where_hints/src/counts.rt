@@ -33,9 +33,9 @@ pub(crate) fn put_end(out: &mut Out, hint: Hint) -> Result<(), NoMemory>
     put_hint_sentence(out, hint)
 }
 
-/// A hint that counts.
+// A hint that counts.
 #[tactic(auto, unfolding(crate::specs::Lines::counted_lines))]
-pub(crate) fn put_counted(
+fn put_counted(
     out: &mut Out,
     hint: Hint,
     word: &str,

@@ -20,7 +20,6 @@ use turn_hint::{Turns, turns_of};
 #[derive(Drop)]
 pub struct Hints {
     pub(crate) bodies: Option<Bodies>,
-    pub(crate) missing: Option<usize>,
     pub(crate) turns: Option<Turns>,
     pub(crate) touching: Option<usize>,
     pub(crate) crowded: Option<usize>,
@@ -33,32 +32,28 @@ impl Model for Hints {
 
     ghost Value = { Found };
 
-    ghost view = { λ x. record { bodies = x.bodies; missing = x.missing; turns = x.turns; touching = x.touching; crowded = x.crowded; pinched = x.pinched; shared = x.shared } };
+    ghost view = { λ x. record { bodies = x.bodies; turns = x.turns; touching = x.touching; crowded = x.crowded; pinched = x.pinched; shared = x.shared } };
 }
 
-/// What the hints on a shell are, whose rows and faults are given, and how many edges are open if only faces are missing.
-/// It takes time in proportion to the shell.
+/// What the hints on a shell are, whose rows and faults are given. It takes time in proportion to the shell.
 pub fn hints_of(
     alloc: Global,
     solid: &Solid,
     shell: ShellAt,
     rows: &Rows,
     faults: &ShellFaults,
-    missing: Option<usize>,
 ) -> Result<Hints, NoMemory>
     requires shell { shell.0 < length solid.now.shells }
     requires rows { rows.now ≡ rows_of solid.now (slice_get solid.now.shells shell.0) }
     requires faults { (h : AnyShell) → slice_get solid.now.shells shell.0 ≡ Some h
         → AreFaults solid.now shell.0 h faults.now }
-    ensures hints { IfOk result (λ x. (h : AnyShell) → slice_get solid.now.shells shell.0 ≡ Some h
+    ensures { IfOk result (λ x. (h : AnyShell) → slice_get solid.now.shells shell.0 ≡ Some h
         → AreHints solid.now shell.0 h x) }
-    ensures missing { IfOk result (λ x. x.missing ≡ missing) }
 {
     solid.recall_numbering();
     let unpaired = faults.unpaired();
     Ok(Hints {
         bodies: bodies_of(alloc, solid, shell, rows)?,
-        missing,
         turns: turns_of(alloc, rows)?,
         touching: touching(unpaired),
         crowded: crowded(unpaired),

@@ -1,10 +1,10 @@
 //! The hints on a shell.
 
 ghost use Rattle.std.specs.Prelude.{◌≡◌, ◌++◌, OnOk};
-ghost use Rattle.where_hints.specs.Lines.{each_text, first_named, first_text, hints_named, hints_text, missing_named, missing_text, turns_named};
+ghost use Rattle.where_hints.specs.Lines.{each_text, first_named, first_text, hints_named, hints_text, turns_named};
 
 use crate::bodies::{put_bodies, put_strays};
-use crate::counts::{put_counted, put_counted_if};
+use crate::counts::put_counted_if;
 use crate::facts::Hints;
 use crate::naming::Subject;
 use crate::sentences::Hint;
@@ -34,25 +34,6 @@ fn put_each(
     put_counted_if(out, Hint::Pinch, " vertices", on.at, hints.pinched)
 }
 
-// That only faces are missing, or each kind by itself.
-fn put_missing(
-    out: &mut Out,
-    named: &mut EntryNumbers,
-    on: &Subject<'_>,
-    gaps: &[Gap],
-    hints: &Hints,
-) -> Result<(), NoMemory>
-    ensures text { OnOk result (out.new ≡ out.old
-        ++ missing_text on.now.listing on.now.file.now on.now.shell.now on.now.at.0 gaps.now hints.now hints.now.missing) }
-    ensures named { OnOk result (named.new
-        ≡ named.old ++ missing_named on.now.listing on.now.shell.now gaps.now hints.now hints.now.missing) }
-{
-    match hints.missing {
-        None => put_each(out, named, on, gaps, hints),
-        Some(n) => put_counted(out, Hint::MissingFaces, " edges", on.at, n),
-    }
-}
-
 // The hints up to that on touching shells.
 fn put_first(
     out: &mut Out,
@@ -67,7 +48,7 @@ fn put_first(
         ≡ named.old ++ first_named on.now.listing on.now.shell.now gaps.now hints.now hints.now.bodies) }
 {
     match &hints.bodies {
-        None => put_missing(out, named, on, gaps, hints),
+        None => put_each(out, named, on, gaps, hints),
         Some(found) => {
             put_strays(out, named, on, found.strays())?;
             put_bodies(out, named, on, found)
