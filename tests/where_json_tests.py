@@ -46,6 +46,17 @@ def of_shape(lines, shape, more, required=()):
     return {"type": "object", "properties": {"is": {"const": shape.words}, **values, **more}, "required": needed, "additionalProperties": False}
 
 
+def of_head(lines, shape, more):
+    if not has_sentence(lines, shape.words):
+        return of_shape(lines, shape, {name: it for name, it in more.items() if name != "items" or shape.words != lines.UNSAID})
+    return of_shape(lines, shape, {**more, "sentence": {"type": "string"}}, ["sentence"])
+
+
+def has_sentence(lines, words):
+    """Whether a head line of these fixed words has a sentence."""
+    return words.split(" ")[0] in lines.SENTENCES and words != lines.UNSAID
+
+
 def list_of(name):
     return {"type": "array", "items": {"$ref": f"#/$defs/{name}"}}
 
@@ -57,14 +68,11 @@ def schema(where_json, lines):
         definitions[f"fact of {word}"] = {"anyOf": [of_shape(lines, shape, {}) for shape in shapes]}
     for word, shapes in lines.HEADS.items():
         more = {"facts": list_of(f"fact of {word}")} if word in lines.FACTS else {}
-        is_said = word in lines.SENTENCES
-        if is_said:
-            more["sentence"] = {"type": "string"}
-        if word == "rule":
-            more["items"] = list_of("item of a rule")
-        definitions[word] = {"anyOf": [of_shape(lines, shape, more, ["sentence"] * is_said) for shape in shapes]}
+        if word in lines.HOLDERS:
+            more["items"] = list_of("item of a rule or a hint")
+        definitions[word] = {"anyOf": [of_head(lines, shape, more) for shape in shapes]}
     named = lambda words: {"anyOf": [{"$ref": f"#/$defs/{word}"} for word in words]}
-    definitions["item of a rule"] = named(lines.ITEMS)
+    definitions["item of a rule or a hint"] = named((*lines.ITEMS, "more"))
     definitions["head line"] = named(word for word in lines.HEADS if word not in lines.ITEMS)
     whole = {"schema": {"const": where_json.SCHEMA}, "lines": list_of("head line")}
     about = {"$schema": "https://json-schema.org/draft/2020-12/schema", "title": "What igesolid where --json prints"}
@@ -75,14 +83,35 @@ def written(told):
     return json.dumps(told, indent=1) + "\n"
 
 
+def rows(page, title):
+    """The cells of the rows of the tables whose first row begins so."""
+    for table in re.findall(rf"(?m)^\| {title} \|.*\n\|[-|]+\n((?:\|.*\n)+)", page):
+        for row in table.splitlines():
+            yield row[2:-2].split(" | ")
+
+
+def quoted(cell):
+    return re.findall(r"`(.*?)`", cell)
+
+
 def on_page():
-    """The facts of each head line, and `a sentence`, as the table of docs/WHERE.md has them."""
-    page = (TOP / "docs" / "WHERE.md").read_text()
-    table = re.search(r"\| Head line \| .* \|\n\|[-|]+\n((?:\|.*\n)+)", page)[1]
-    for row in table.splitlines():
-        heads, facts = row[2:-2].split(" | ")
-        for head in re.findall(r"`(.*?)`", heads):
-            yield head, re.findall(r"`(.*?)`", facts), facts == "a sentence"
+    """Each head line of docs/WHERE.md, whether it has a sentence there, and the facts of head lines by their first word."""
+    page, heads, facts = (TOP / "docs" / "WHERE.md").read_text(), {}, {}
+    for first, *_ in rows(page, "Hint"):
+        heads.update((hint, True) for hint in quoted(first))
+    for _, told, *_ in rows(page, "Row"):
+        hint, *items = told.split("; ")
+        heads.update((it, True) for it in quoted(hint))
+        for head, *own in map(quoted, items):
+            heads[head] = False
+            facts.setdefault(head.split()[0], []).extend(own)
+    for first, own, *_ in (*rows(page, "Item"), *rows(page, "Head line")):
+        for head in quoted(first):
+            heads[head] = own == "a sentence"
+        facts.setdefault(head.split()[0], []).extend(quoted(own))
+    facts["item"], facts["entity"] = ([it for first, *_ in rows(page, title) for it in quoted(first)] for title in ("Fact \\| At", "Fact \\| If"))
+    facts["solid"] = facts["entity"]
+    return heads, {word: own for word, own in facts.items() if own}
 
 
 def in_table(lines):
@@ -93,13 +122,14 @@ def in_table(lines):
             facts.setdefault(heads[-1].split()[0], []).append(line[2:])
         else:
             heads.append(line)
-    for head in heads:
-        word = head.split()[0]
-        yield head, facts.get(lines.ALIKE.get(word, word), []), word in lines.SENTENCES
+    facts.update((word, facts[other]) for word, other in lines.ALIKE.items())
+    return {head: has_sentence(lines, lines.Shape(head).words) for head in heads}, facts
 
 
 def tables(where_json, lines):
-    yield "docs/WHERE.md: the shapes of lines are those of python/igesolid/where_lines.py", sorted(on_page()) == sorted(in_table(lines))
+    for name, told, wanted in zip(("head lines", "facts"), on_page(), in_table(lines)):
+        odd = [it for it in {**told, **wanted} if told.get(it) != wanted.get(it)]
+        yield f"docs/WHERE.md: the shapes of {name} are those of python/igesolid/where_lines.py, but for {odd}", not odd
     wanted = written(schema(where_json, lines))
     yield "docs/where.schema.json: tests/where_json_tests.py --mend writes it anew", SCHEMA.exists() and SCHEMA.read_text() == wanted
 
@@ -138,7 +168,8 @@ def round_trips(folder, program, where_json, is_valid):
 def refused(where_json, lines):
     """Texts with a line of no shape, or laid out otherwise."""
     good = (TOP / "tests" / "recorded" / "fail_pair.1.txt").read_text()
-    changed = good + "more\n", good.replace("\n\n", "\n", 1), good.replace("once\n  against", "once against"), good[:-1], good.replace("once 1", "once one")
+    changed = good + "more\n", good.replace("\n\n", "\n", 1), good.replace("once\n  against", "once against"), good[:-1]
+    changed += (good.replace("once 1", "once one"),)
     for text in changed:
         try:
             where_json.json_of(text)

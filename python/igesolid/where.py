@@ -2,7 +2,7 @@
 from dataclasses import dataclass, field
 from typing import Dict, Iterable, Iterator, List, Optional, Tuple
 
-from .where_lines import FACTS, HEADS, ITEMS, SENTENCES, NotUnderstood, Shape, read_line
+from .where_lines import FACTS, HEADS, HOLDERS, ITEMS, SENTENCES, UNSAID, NotUnderstood, Shape, read_line
 
 
 @dataclass
@@ -35,15 +35,11 @@ class Paragraph(Line):
 
 
 @dataclass
-class Rule(Paragraph):
-    """A rule that fails, of a shell or of a record, with its items."""
+class Holder(Paragraph):
+    """A paragraph with items; `more` is how many further ones there are."""
 
     items: List[Paragraph] = field(default_factory=list)
     more: int = 0
-
-    @property
-    def name(self) -> str:
-        return self.told["rule"]
 
     @property
     def shell(self) -> Optional[int]:
@@ -51,20 +47,42 @@ class Rule(Paragraph):
 
 
 @dataclass
+class Rule(Holder):
+    """A rule that fails, of a shell or of a record, with its items."""
+
+    @property
+    def name(self) -> str:
+        return self.told["rule"]
+
+
+@dataclass
+class Hint(Holder):
+    """A hint, of a shell or of the file; its items are what it names."""
+
+    @property
+    def name(self) -> str:
+        return self.text.split(" ")[1]
+
+
+KINDS_OF_HOLDERS = {"rule": Rule, "hint": Hint}
+
+
+@dataclass
 class Parts:
     """The first line of the text, and its other parts in their order."""
 
     verdict: Paragraph
+    line: Optional[Paragraph] = None
     units: Optional[Paragraph] = None
     shells: Optional[Paragraph] = None
     failing: List[Paragraph] = field(default_factory=list)
-    hints: List[Paragraph] = field(default_factory=list)
+    hints: List[Hint] = field(default_factory=list)
     rules: List[Rule] = field(default_factory=list)
     entities: Dict[int, Paragraph] = field(default_factory=dict)
 
 
 class Where(str):
-    """The text of `where`, and what it tells: `rules`, each with its items and their facts; the shells that fail; hints; entities.
+    """The text of `where`, and what it tells: `rules` and `hints`, each with its items and their facts; the shells that fail; entities.
 
     It is read when the first of these is asked for, and a text of another shape raises `NotUnderstood` then."""
 
@@ -95,7 +113,7 @@ class Where(str):
         return self.parts.failing
 
     @property
-    def hints(self) -> List[Paragraph]:
+    def hints(self) -> List[Hint]:
         return self.parts.hints
 
     @property
@@ -122,7 +140,7 @@ def paragraphs(lines: Iterable[str]) -> Iterator[Paragraph]:
     for line in lines:
         if line.startswith("  ") and last is not None:
             text = line[2:]
-            if last.word in SENTENCES:
+            if last.word in SENTENCES and last.shape.words != UNSAID:
                 last.sentence += f" {text}" if last.sentence else text
             else:
                 last.facts.append(Line(text, *read_line(FACTS, last.word, text)))
@@ -130,29 +148,41 @@ def paragraphs(lines: Iterable[str]) -> Iterator[Paragraph]:
             if last is not None:
                 yield last
             word = line.split(" ", 1)[0]
-            last = (Rule if word == "rule" else Paragraph)(line, *read_line(HEADS, word, line))
+            last = KINDS_OF_HOLDERS.get(word, Paragraph)(line, *read_line(HEADS, word, line))
     if last is not None:
         yield last
 
 
+def is_item(it: Paragraph, holder: Optional[str]) -> bool:
+    """Whether a paragraph belongs to the rule or the hint before it: `holder` is the first word of the last head line that is no item."""
+    return it.word in ITEMS or it.word == "more" and holder in HOLDERS
+
+
 def _put(parts: Parts, it: Paragraph) -> None:
-    """Puts a paragraph to the others of its kind."""
-    if it.word == "units":
+    """Puts a paragraph that is no item to the others of its kind."""
+    if it.word == "line":
+        parts.line = it
+    elif it.word == "units":
         parts.units = it
     elif it.word == "shells":
         parts.shells = it
     elif it.word == "shell":
         parts.failing.append(it)
-    elif it.word == "hint":
+    elif isinstance(it, Hint):
         parts.hints.append(it)
     elif isinstance(it, Rule):
         parts.rules.append(it)
-    elif it.word == "more" and parts.rules:
-        parts.rules[-1].more = it.number("more")
-    elif it.word in ITEMS and parts.rules:
-        parts.rules[-1].items.append(it)
     elif it.word == "entity":
         parts.entities[it.number("entity")] = it
+
+
+def _put_item(holder: Paragraph, it: Paragraph) -> None:
+    if not isinstance(holder, Holder):
+        raise NotUnderstood(f"the text of igesolid-where has an item of nothing: {it.text}")
+    if it.word == "more":
+        holder.more = it.number("more")
+    else:
+        holder.items.append(it)
 
 
 def _parts_of(text: str) -> Parts:
@@ -160,8 +190,13 @@ def _parts_of(text: str) -> Parts:
     if not found or found[0].word not in ("closed", "fail", "bad"):
         raise NotUnderstood("the text of igesolid-where begins with no verdict")
     parts = Parts(found[0])
+    last = found[0]
     for it in found[1:]:
-        _put(parts, it)
+        if is_item(it, last.word):
+            _put_item(last, it)
+        else:
+            _put(parts, it)
+            last = it
     if parts.verdict.word == "fail" and not (parts.rules and all(rule.items for rule in parts.rules)):
         raise NotUnderstood("the text of igesolid-where has a rule without items, or none")
     return parts

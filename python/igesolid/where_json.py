@@ -10,8 +10,8 @@ from .content import content_of_file, content_of_path
 from .engine import Program
 from .errors import BadFile, Error, NoMemory, NoProgram, NotRead
 from .saying import Failed, print_all, say
-from .where import Line, paragraphs
-from .where_lines import FACTS, HEADS, ITEMS, NotUnderstood, Shape, Value, kind_of
+from .where import Line, is_item, paragraphs
+from .where_lines import FACTS, HEADS, NotUnderstood, Shape, Value, kind_of
 
 SCHEMA = 1
 # A sentence's lines have so many columns at most.
@@ -41,18 +41,20 @@ def _object(line: Line) -> Object:
 
 
 def told_by(text: str) -> Object:
-    """What a text tells: an object for each head line, with its facts or its sentence; items are in the rule before them."""
+    """What a text tells: an object for each head line, with its facts or its sentence; items are in the rule or the hint before them."""
     lines: List[Object] = []
+    last: Optional[str] = None
     for it in paragraphs(text.split("\n")):
         made = _object(it)
         if it.facts:
             made["facts"] = [_object(fact) for fact in it.facts]
         if it.sentence:
             made["sentence"] = it.sentence
-        if it.word in ITEMS and lines:
+        if is_item(it, last) and lines:
             lines[-1].setdefault("items", []).append(made)
         else:
             lines.append(made)
+            last = it.word
     told = {"schema": SCHEMA, "lines": lines}
     if text_of(told) != text:
         raise NotUnderstood("the text of igesolid-where isn't laid out as docs/WHERE.md says")

@@ -1,6 +1,6 @@
 """The lines of the text of `where`: one table of their shapes, by which they are read and written.
 
-It is the table of docs/WHERE.md, section 8. A further edition of the text is further lines here, and their values in `KINDS`."""
+It is the tables of docs/WHERE.md, sections 6 and 8. A further edition of the text is further lines here, and their values in `KINDS`."""
 import re
 from typing import Dict, List, NamedTuple, Optional, Tuple, Union
 
@@ -11,13 +11,54 @@ TABLE = """
 closed <solid>
 fail <rule> <entity> <place>
 bad file line <line> <reason>
+line <line> bytes <bytes> end <end>
+  hex <hex>
+  column <column>
+  text <text>
+  mark <mark>
 solids <solids> failing <failing>
+unjudged <count> <type>
+  shell <shell> form <form> faces <its_faces>
+  face <face>
+  more <more>
 units <unit_flag> <unit>
 shells <shells> failing <failing>
 shell <shell> entity <entity> flag <flag> faces <faces> edges <edges> vertices <vertices> JOIN <JOIN> PAIR <PAIR> REACH <REACH> LINK <LINK> APART <APART>
 hint face-flags faces <faces>
+hint stray-faces shell <shell> faces <faces> of <of>
+hint bodies shell <shell> pieces <pieces>
+hint doubled-faces shell <shell> faces <faces>
+hint extra-faces shell <shell> faces <faces> of <of>
+hint unsewn shell <shell> edges <edges> alike <alike> gaps <gaps>
+hint missing-faces shell <shell> edges <edges> rims <rims>
+hint turned shell <shell> faces <faces> of <of>
+hint one-sided shell <shell> faces <faces> edges <edges>
+hint touching shell <shell> edges <edges>
+hint crowded shell <shell> edges <edges>
+hint pinch shell <shell> vertices <vertices>
+hint touching-shells shell <shell> vertices <vertices>
+hint other-form form <form>
+hint shell
+hint solids <numbers> more <more>
 hint solids <numbers>
+hint empty-solid
+hint loose-shells
+hint loose-faces
+hint trimmed
+hint other-solids
 hint no-solid
+hint looks-like <kind>
+hint layout
+hint more <more>
+flag-0 <F>
+remove <F>
+  same edges face <F>
+body <body> faces <faces> first <F>
+rim <rim> edges <edges>
+  at <V>
+  edge <list> <index> face <F>
+  more <more>
+turn <F>
 rule <rule> shell <shell> faults <faults> once <once> same-way <same_way> many <many>
 rule <rule> shell <shell> faults <faults> parts <parts>
 rule <rule> shell <shell> faults <faults>
@@ -50,6 +91,9 @@ vertex <V> fans <fans> points <points>
   more <more>
 item <entity> <place>
   value <value> found <found>
+  line <line> column <column>
+  text <text>
+  mark <mark>
   due <due>
   why <why>
   entry <entry> <type> form <form>
@@ -66,6 +110,7 @@ solid <solid> closed
 solid <solid> fail <rule> <entity> <place>
 entity <entity> <type>
 entity <entity> <type> surface <surface> <surface_type>
+  lines directory <directory> record <first> <last>
   level <level>
   colour <colour> <red> <green> <blue> <name>
   colour <colour> <red> <green> <blue>
@@ -75,10 +120,13 @@ entity <entity> <type> surface <surface> <surface_type>
   label <label>
   subscript <subscript>
   name <name>
+  more <more>
 """
 SHORT = {"<V>": "<list> <index> <x> <y> <z>", "<F>": "<face> <surface_type>"}
-# Heads whose facts are a sentence, for people; heads that are items of the rule before them; heads with the same facts.
-SENTENCES, ITEMS, ALIKE = ("bad", "hint", "rule"), ("gap", "edge", "part", "vertex", "item", "more"), {"solid": "entity"}
+# Heads whose facts are a sentence, for people, but for one; heads that are items of the rule or the hint before them, and so may `more` be; heads
+# with the same facts.
+SENTENCES, UNSAID, HOLDERS, ALIKE = ("bad", "hint", "rule"), "hint more", ("hint", "rule"), {"solid": "entity"}
+ITEMS = ("flag-0", "remove", "body", "rim", "turn", "gap", "edge", "part", "vertex", "item")
 
 RECORD_RULES, SHELL_RULES = ("ENTRY", "TYPE", "RECORD", "ONCE", "INDEX", "GEOMETRY"), ("JOIN", "PAIR", "REACH", "LINK", "APART")
 FORMS_DUE = "solid form 0|shell form 1|(?:face|loop|edge-list|vertex-list) form 0 1"
@@ -95,18 +143,22 @@ class Kind(NamedTuple):
 
 NUMBER, SIGNED, BIT, COUNT = Kind(N, ("integer",)), Kind(f"-?{N}", ("integer",)), Kind("[01]", ("integer",)), Kind(f"{N}|-", ("integer", "null"))
 NUMBERS, WORD, SPELLED, TEXT = Kind(f"{N}(?: {N})*", ("array",)), Kind("[a-z0-9-]+"), Kind("[^ ]+"), Kind(".*")
+PAIR_OF_DIGITS = "[0-9a-f]{2}"
 # The values that aren't numbers of 0 or above.
 KINDS = {
     **dict.fromkeys(("level", "colour", "matrix", "subscript", "form"), SIGNED),
     **dict.fromkeys(("flag", "tuple_flag", "face_flag", "shell_flag"), BIT),
-    **dict.fromkeys(("type", "surface_type", "curve_type", "reason", "word"), WORD),
+    **dict.fromkeys(("type", "surface_type", "curve_type", "reason", "word", "kind"), WORD),
     **dict.fromkeys(("x", "y", "z", "red", "green", "blue", "unit_flag"), SPELLED),
-    **dict.fromkeys(("unit", "found", "label", "name"), TEXT),
+    **dict.fromkeys(("unit", "found", "label", "name", "text"), TEXT),
     "rule": Kind("|".join(RECORD_RULES + SHELL_RULES)),
     "due": Kind(f"{FORMS_DUE}|{VALUES_DUE}"),
     "why": Kind("zero|negative|even|beyond|null"),
+    "end": Kind("lf|crlf|cr|none"),
+    "hex": Kind(f"{PAIR_OF_DIGITS}(?: {PAIR_OF_DIGITS})*"),
+    "mark": Kind(r" *\^+"),
     "numbers": NUMBERS,
-    "LINK": COUNT,
+    **dict.fromkeys(("LINK", "its_faces"), COUNT),
 }
 Value = Union[int, str, List[int], None]
 

@@ -33,8 +33,8 @@ MEANINGS = {
     "LINK": "a non-manifold vertex",
     "APART": "shells that touch at a vertex",
 }
-# Of `where`: a hint, or the verdict on a bad file, and the sentence below it.
-SENTENCE = re.compile(r"(?m)^(?:hint|bad file) .*\n((?:  .*\n?)+)")
+# Of `where`: a hint on what fails, or the verdict on a bad file, and the sentence below it.
+SENTENCES = [re.compile(rf"(?m)^{head} .*\n((?:  .*\n?)+)") for head in ("hint(?! layout$)", "bad file")]
 # How many edges of a shell aren't paired, and in which way.
 UNPAIRED = re.compile(r"(?m)^rule PAIR .* once (\d+) same-way (\d+) many (\d+)$")
 WAYS = "used by one face alone", "used twice in the same direction", "used more than twice"
@@ -138,7 +138,7 @@ def filled(template: bytes, **parts: bytes) -> bytes:
 
 def words_in(text: str) -> str:
     """The first sentence of the first hint, or of what is said of a bad file; or how edges aren't paired."""
-    found = SENTENCE.search(text)
+    found = next(filter(None, (sentence.search(text) for sentence in SENTENCES)), None)
     if found:
         return re.split(r"(?<=[.:]) ", " ".join(found[1].split()))[0].rstrip(":")
     unpaired = UNPAIRED.search(text)
