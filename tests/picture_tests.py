@@ -62,7 +62,7 @@ def grammar():
         yield f"pictures: {name} {number} has its faults", listed == wanted
         lines = text.split("\n")
         for place, line in enumerate(lines):
-            is_free = "found " in line or line.startswith(("units ", "  name ", "  label ", "  colour ")) or is_sentence(lines, place)
+            is_free = "found " in line or line.startswith(("units ", "  name ", "  label ", "  colour ", "  text ")) or is_sentence(lines, place)
             if line and not is_free:
                 changed = "\n".join([*lines[:place], f"{line} x", *lines[place + 1 :]])
                 yield f"pictures: {name} {number} with a word more: {line}", not is_understood(changed)

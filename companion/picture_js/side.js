@@ -47,8 +47,8 @@ function faultBox(fault, choose) {
 }
 
 function hintBox(hint, choose) {
-  const box = make("div", "hint"), told = hint.isTold ? "" : " (a hint, not proved)";
-  box.append(make("code", "", hint.head + told), hint.sentence);
+  const box = make("div", "hint");
+  box.append(make("code", "", hint.head), hint.sentence);
   if (hint.faces.length) {
     const shown =
       { ...hint, facts: [], edges: [], vertices: [], arrows: [], spokes: [], rule: "", number: 0 };

@@ -14,7 +14,7 @@ const named = parts => Object.entries(parts)
   .map(([word, shape]) => `${word} (?<${word.replace("-", "_")}>${shape})`).join(" ");
 
 const EDGE = `edge (?<list>${N}) (?<index>${N})`, CURVE = `curve (?<curve>${N}) (?<type>${T})`;
-const FACE = `face (?<face>${N}) (?<type>${T})`;
+const SURFACE = `(?<face>${N}) (?<type>${T})`, FACE = `face ${SURFACE}`;
 const VERTEX = `(?<list>${N}) (?<index>${N}) (?<at>\\S+ \\S+ \\S+)`;
 const USE = `${FACE} ${named({ loop: N, tuple: N })}`;
 const COUNTS = {
@@ -32,8 +32,12 @@ const HEADS = {
   units: `units (?<flag>${WORD}) (?<unit>.*)`,
   shells: named({ shells: N, failing: N }),
   shell: named({ shell: N, ...COUNTS }),
-  hint: `hint (?<hint>face-flags) ${named({ faces: N })}|hint (?<list>solids)(?<solids>(?: ${N})+)(?: more ${N})?`
-    + `|hint (?<none>no-solid|shell|empty-solid|layout)|hint (?<look>looks-like) [a-z0-9-]+|hint (?<other>other-form) form -?${N}`,
+  hint: `hint (?<hint>[a-z-]+)(?: [a-z0-9-]+)*`,
+  "flag-0": `flag-0 ${SURFACE}`,
+  remove: `remove ${SURFACE}`,
+  turn: `turn ${SURFACE}`,
+  body: `body ${N} faces ${N} first ${SURFACE}`,
+  rim: `rim ${N} edges ${N}`,
   rule: `rule (?<record_rule>${RECORD_RULES}) faults 1|rule (?<rule>${SHELL_RULES}) `
     + `${named({ shell: N, faults: N })}(?: once ${N} same-way ${N} many ${N}| parts ${N})?`,
   item: `item (?<entity>-?${N}) (?<place>${N})`,
@@ -46,11 +50,14 @@ const HEADS = {
   entity: `entity (?<entity>${N}) (?<type>${T})(?: surface (?<surface>${N}) ${T})?`,
 };
 const FACTS = {
-  item: `value (?<value>${N}) found (?<found>.*)|due (?:${FORMS_DUE}|${VALUES_DUE})`
+  item: `value (?<value>${N}) found (?<found>.*)|line ${N} column ${N}|text .*|mark  *\\^+`
+    + `|due (?:${FORMS_DUE}|${VALUES_DUE})`
     + `|why (?:zero|negative|even|beyond|null)|entry ${N} ${T} form -?${N}|values ${N}`
     + `|first ${N} item ${N}|list ${N} ${T} items ${N}`
     + `|in (?:solid ${N}|(?:shell|face|loop) ${N} item ${N})`,
   line: `hex(?: [0-9a-f]{2})+|column ${N}|text .*|mark  *\\^+`,
+  remove: `same edges ${FACE}`,
+  rim: `at (?<vertex>${VERTEX})|edge ${N} ${N} ${FACE}|more ${N}`,
   gap: `${FACE}|(?<which>this|next) tuple (?<tuple>${N}) (?:${EDGE} flag (?<flag>[01]) ${CURVE}`
     + `|vertex ${N} ${N})|(?:ends|starts) (?<vertex>${VERTEX})`,
   edge: `${CURVE}|(?:start|end) (?<vertex>${VERTEX})`
@@ -58,7 +65,8 @@ const FACTS = {
   part: `(?:at|(?<touches>touches)) (?<vertex>${VERTEX})|${FACE}|more ${N}`,
   vertex: `fan (?<fan>${N}) ${USE} ${EDGE} to ${N} ${N} ${WORD} ${WORD} ${WORD}`
     + `|(?<point>point) ${FACE} loop ${N}|in shell (?<shell>${N}) ${FACE}|more ${N}`,
-  entity: `level -?${N}|colour -?${N}.*|matrix -?${N}|label .*|subscript -?${N}|name .*|more ${N}`,
+  entity: `lines directory ${N} record ${N} ${N}|level -?${N}|colour -?${N}.*|matrix -?${N}`
+    + `|label .*|subscript -?${N}|name .*|more ${N}`,
 };
 
 /** A shape of lines. A name may stand in several of its alternatives: each gets a number. */
@@ -85,7 +93,9 @@ class Shape {
 const shapesOf = lines =>
   Object.fromEntries(Object.entries(lines).map(([word, shape]) => [word, new Shape(shape)]));
 const HEAD_SHAPES = shapesOf(HEADS), FACT_SHAPES = shapesOf(FACTS);
-const SENTENCES = ["bad", "hint", "rule"], ITEMS = ["item", "gap", "edge", "part", "vertex"];
+const SENTENCES = ["bad", "hint", "rule"], ITEMS = [
+  "flag-0", "remove", "body", "rim", "turn", "item", "gap", "edge", "part", "vertex",
+];
 
 /** A line of the text that has none of the shapes. */
 export class NotUnderstood extends Error {}
@@ -125,15 +135,15 @@ function paragraphs(lines) {
   return found;
 }
 
-/** Puts a paragraph to its place in an answer. */
+/** Puts a paragraph to its place in an answer; an item to the rule or the hint before it. */
 function take(answer, it) {
-  const rule = answer.rules[answer.rules.length - 1];
+  const holder = answer.rules[answer.rules.length - 1] || answer.hints[answer.hints.length - 1];
   if (it.word === "units" || it.word === "shells") answer[it.word] = it;
   else if (it.word === "shell") answer.failing.push(it);
   else if (it.word === "hint") answer.hints.push(it);
   else if (it.word === "rule") answer.rules.push(it);
-  else if (ITEMS.includes(it.word) && rule) rule.items.push(it);
-  else if (it.word === "more" && rule) rule.more = Number(it.told.more);
+  else if (ITEMS.includes(it.word) && holder) holder.items.push(it);
+  else if (it.word === "more" && holder) holder.more = Number(it.told.more);
   else if (it.word === "entity") answer.entities.set(Number(it.told.entity), it);
 }
 
@@ -155,8 +165,8 @@ export function answerOf(text) {
   return answer;
 }
 
-/** What the text says of an entity: level, colour, label, names. */
+/** What the text says of an entity: level, colour, label, names; not its lines in the file. */
 export function factsOf(answer, entity) {
   const found = answer.entities.get(entity);
-  return found ? found.facts.map(it => it.text) : [];
+  return found ? found.facts.map(it => it.text).filter(it => !it.startsWith("lines ")) : [];
 }

@@ -344,23 +344,6 @@ function uprightCircle() {
 
 // ---- Drawn vertices, faults, hints, and geometry changed at random. ----
 
-/** The hints of each recorded text, those that it tells too. */
-const HINTS = {
-  "76_pinched_vertex": ["pinch shell 1 vertices 1"],
-  "77_pinched_edge": ["touching shell 1 edges 1"],
-  "fail_apart": ["touching-shells shell 2 vertices 1"],
-  "fail_join": ["turned-tuple shell 1 loop 11 tuple 1", "turned-tuple shell 1 loop 11 tuple 2"],
-  "fail_link": ["pinch shell 1 vertices 1"],
-  "fail_pair": ["open shell 1 edges 1 rims 1"],
-  "fail_pair_flag": ["face-flags faces 1"],
-  "fail_pair_unsewn": ["unsewn shell 1 edges 2 alike 0 parts 2"],
-  "fail_reach": ["bodies shell 1 parts 2"],
-  "no_solid": ["no-solid"],
-  "one_sided": ["one-sided shell 1 edges 1"],
-  "turned": ["face-flags faces 1"],
-  "two_solids": ["solids 1 11"],
-  "two_tetrahedra": ["bodies shell 1 parts 2"],
-};
 /** The text that is marked in the lines of a bad file or record. */
 const MARKED = { fail_index: "2", fail_entry: "17", fail_record: ";" };
 
@@ -397,8 +380,8 @@ export function* faults({ file, texts }) {
     } catch (fault) {
       isRefused = fault instanceof NotUnderstood;
     }
-    yield [`picture: the hints of ${name}`, scene.hints.map(it => it.head)
-      .join() === (HINTS[name] || []).join()];
+    const hints = [...text.matchAll(/^hint (.*)$/gm)].map(it => it[1]);
+    yield [`picture: the hints of ${name}`, scene.hints.map(it => it.head).join() === hints.join()];
     if (name in MARKED)
       yield [`picture: what is marked of ${name}`, markedIn(scene.excerpt) === MARKED[name]];
     yield [`picture: ${name} with a word more isn't understood`, isRefused
