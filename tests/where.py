@@ -1,18 +1,20 @@
 """`igesolid-where`: the second checker's text, the shapes of its lines (docs/WHERE.md), and `certify`'s verdict as its first line.
 
-Over the examples, the inputs of the tests, files that are made at random (tests/surfaces.py), some of solids that share shells, and
-files that are changed at random.
+Over the examples, the inputs of the tests, the harmed files of `layout`, files that are made at random (tests/surfaces.py, some of solids that
+share shells, and tests/lattices.py) and files that are changed at random.
 """
 import argparse
+import itertools
 import pathlib
 import random
-import re
 import sys
 import tempfile
 
 import programs
 from changes import changed_file
-from second_checker import answer, where
+from lattices import lattice_text
+from repair import harmed
+from second_checker import answer, bad_lines, where
 from second_checker.answering import file_of
 from spawned import Runner
 from surfaces import surface_text
@@ -22,66 +24,24 @@ PAGE = TOP / "docs" / "WHERE.md"
 LARGEST, RANDOM_CASES, MORE_CASES = 60_000, 200, 200
 USAGE = b"usage: igesolid-where FILE [N [all]]\n"
 
-N = r"(?:0|[1-9][0-9]*)"
-Z = f"-?{N}"
-T = r"(?:[a-z0-9-]+|-)"
-V = rf"{N} {N} \S+ \S+ \S+"
-F = f"{N} {T}"
-RECORD_RULES = "ENTRY|TYPE|RECORD|ONCE|INDEX|GEOMETRY"
-FIRST = f"closed {N}|fail (?:{RECORD_RULES}|JOIN|PAIR|REACH|LINK|APART) {N} {N}|bad file line {N} [a-z-]+|solids {N} failing {N}"
-RULE = (
-    f"rule (?:(?:{RECORD_RULES}) faults 1|JOIN shell {N} faults {N}|PAIR shell {N} faults {N} once {N} same-way {N} many {N}"
-    f"|REACH shell {N} faults {N} parts {N}|(?:LINK|APART) shell {N} faults {N})"
-)
-HEADS = {
-    "line": f"line {N} bytes {N} end (?:lf|crlf|cr|none)",
-    "units": r"units \S+ .+",
-    "shells": f"shells {N} failing {N}",
-    "shell": f"shell {N} entity {N} flag [01] faces {N} edges {N} vertices {N} JOIN {N} PAIR {N} REACH {N} LINK (?:{N}|-) APART {N}",
-    "more": f"more {N}",
-    "hint": f"hint (?:face-flags faces {N}|solids(?: {N})+(?: more {N})?|no-solid|other-form form {Z}|shell|empty-solid|looks-like [a-z0-9-]+|layout)",
-    "rule": RULE,
-    "item": f"item {N} {N}",
-    "gap": f"gap {N} {N}",
-    "edge": f"edge {N} {N} along {N} against {N}",
-    "part": f"part {N} faces {N} edges {N} vertices {N} unpaired {N} touching {N}",
-    "vertex": f"vertex {V}(?: fans {N} points {N})?",
-    "entities": f"entities {N}",
-    "entity": f"entity {N} {T}(?: surface {N} {T})?",
-    "solid": f"solid {N} (?:closed|fail [A-Z]+ {N} {N})",
-}
-OF_ENTITY = rf"level {Z}|colour {Z}.*|matrix {Z}|label .+|subscript {Z}|name .*|more {N}"
-FACTS = {
-    "item": f"value {N} found .*|due {T}(?: form [01](?: 1)?)?|why (?:zero|negative|even|beyond|null)|entry {N} {T} form {Z}|values {N}"
-    f"|first {N} item {N}|list {N} {T} items {N}|in (?:solid {N}|(?:shell|face|loop) {N} item {N})",
-    "line": rf"hex(?: [0-9a-f]{{2}})+|column {N}|text .*|mark  *\^+",
-    "gap": f"face {F}|(?:this|next) tuple {N} (?:edge {N} {N} flag [01] curve {N} {T}|vertex {N} {N})|(?:ends|starts) {V}",
-    "edge": f"curve {N} {T}|(?:start|end) {V}|(?:along|against) face {F} loop {N} tuple {N} flags [01] [01] [01]|more {N}",
-    "part": f"(?:at|touches) {V}|face {F}|more {N}",
-    "vertex": f"fan {N} face {F} loop {N} tuple {N} edge {N} {N} to {V}|point face {F} loop {N}|in shell {N} face {F}|more {N}",
-    "entity": OF_ENTITY,
-    "solid": OF_ENTITY,
-}
-SENTENCES = {"hint", "rule", "bad"}
+FIRST_WORDS = "closed", "fail", "bad", "solids"
 
 
 def has_shape(text, sentences):
-    """Whether each line of a text has one of the shapes, in its place."""
-    first, *lines = text.decode("latin-1").split("\n")
-    if not re.fullmatch(FIRST, first) or lines[-1:] != [""]:
+    """Whether each line of a text has one of the shapes of the package's table, in its place; the package is imported in this part's process alone."""
+    sys.path.insert(0, str(TOP / "python"))
+    from igesolid.where import paragraphs
+    from igesolid.where_lines import SENTENCES, UNSAID, NotUnderstood
+
+    try:
+        found = list(paragraphs(text.decode("latin-1").split("\n")))
+    except NotUnderstood:
         return False
-    head = first.split(" ")[0]
-    for line in lines[:-1]:
-        if line.startswith("  ") and head in SENTENCES:
-            held = line in sentences
-        elif line.startswith("  "):
-            held = re.fullmatch(FACTS.get(head, "(?!)"), line[2:])
-        else:
-            head = line.split(" ")[0]
-            held = line == "" or re.fullmatch(HEADS.get(head, "(?!)"), line)
-        if not held:
-            return False
-    return True
+    finally:
+        del sys.path[0]
+    said = [it.sentence for it in found if it.word in SENTENCES and it.shape.words != UNSAID]
+    is_whole = text.endswith(b"\n") and found[0].word in FIRST_WORDS and not any(it.word in FIRST_WORDS for it in found[1:])
+    return is_whole and sentences.issuperset(said)
 
 
 def numbers_of(data):
@@ -100,8 +60,7 @@ class Wheres:
         self.file = folder / "where.igs"
         self.runner, self.certifier = Runner(program), Runner(certifier)
         where.sentences(PAGE.read_text())
-        kept = (sentence for sentence in where.DOC.values() if isinstance(sentence, str))
-        self.sentences = {line for sentence in kept for line in where.cut(sentence)}
+        self.sentences = {sentence for sentence in where.DOC.values() if isinstance(sentence, str)}
 
     def checks(self, name, data):
         self.file.write_bytes(data)
@@ -131,12 +90,22 @@ def files():
             yield path.name, path.read_bytes()
 
 
+def bad_files():
+    """The harmed files of `layout`, and files of other kinds."""
+    for it in harmed():
+        yield it.name, it.data
+    for kind, starts in {**bad_lines.BEGINNINGS, **{kind: [b" \r\n" + start] for kind, start in bad_lines.WORDS.items()}}.items():
+        for start in starts:
+            yield f"a file of {kind}", start + b" and so on\n"
+
+
 def random_files(cases, seed):
     kept = [data for _, data in files() if data]
     for case in cases:
         rng = random.Random(f"where {seed} {case}")
-        data = surface_text(rng, rng.choice([0, 0, 6])) if rng.random() < 0.5 else rng.choice(kept)
-        yield f"case {case} of seed {seed}", data if rng.random() < 0.3 else changed_file(rng, data)
+        made = surface_text, surface_text, lattice_text, lambda rng: surface_text(rng, 6), lambda rng: rng.choice(kept)
+        data = rng.choice(made)(rng)
+        yield f"case {case} of seed {seed}", data if rng.random() < 0.4 else changed_file(rng, data)
 
 
 def words_checks(runner, file):
@@ -153,7 +122,7 @@ def random_checks(wheres, cases, seed=1):
 
 def checks(folder, certifier, program):
     wheres = Wheres(folder, program, certifier)
-    for name, data in files():
+    for name, data in itertools.chain(files(), bad_files()):
         yield from wheres.checks(name, data)
     yield from random_checks(wheres, range(RANDOM_CASES))
     yield from words_checks(wheres.runner, wheres.file)

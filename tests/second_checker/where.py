@@ -8,27 +8,18 @@ from .bad_lines import told
 from .certificates import certificate
 from .extraction import Layout, groups_of, topology_layout
 from .fields import Real
+from .file_places import Places
 from .reading import BadFile, File
 from .records import FITTING, FORMS, is_flag, is_integer
-from .shells import Rows, check_apart, check_join, corners_of, mates_of, reach_of
+from .shells import Rows
 from .walking import ANY_TOPOLOGY, Fail, Walk
+from .where_hints import put_shell_hints, unset_faces
+from .where_page import DOC, is_told, sentences, type_word
 
 LIMIT = 20
+# Of faces at a vertex of APART.
 FACE_LIMIT = 5
 WORD_LIMIT = 100
-DOC = {}
-
-
-def sentences(page):
-    """The sentences and the words for types, as the page has them."""
-    for name, sentence in re.findall(r"(?m)^\| ([A-Z]+|[a-z0-9-]+) \| (.*) \|$", page):
-        DOC[name] = sentence
-    words = page[page.index("## 7."):]
-    DOC["types"] = {int(kind): word for kind, word in re.findall(r"(\d+) ([a-z-]+)", words)}
-
-
-def type_word(kind):
-    return DOC["types"].get(kind, f"type-{kind}")
 
 
 def shown_bytes(text):
@@ -39,6 +30,11 @@ def spelled(value):
     if value is None:
         return "-"
     return str(value) if is_integer(value) else shown_word(value)
+
+
+def spelled_whole(value):
+    """The same, of any length, for comparing."""
+    return spelled(value) if value is None or is_integer(value) else bytes(value).hex()
 
 
 def shown_word(word):
@@ -71,18 +67,24 @@ class Item:
     more: int = 0
 
 
+# A face or a loop that an item or a fact names, but for the loops of gaps.
+NAMED = re.compile(r"(?:^| )(?:face|first|flag-0|remove|turn) (\d+)")
+
+
 class Text:
-    """The lines of an answer, the limit of its lists, and the faces that it names."""
+    """The lines of an answer, the limit of its lists, and the faces and loops that it names."""
 
     def __init__(self, limit):
-        self.limit, self.lines, self.faces = limit, [], set()
+        self.limit, self.lines, self.named = limit, [], set()
 
-    def shown(self, members):
-        count = len(members) if self.limit is None else min(self.limit, len(members))
+    def shown(self, members, always=None):
+        """The members that are written, and how many aren't; `always` is a limit under `all` too."""
+        limit = always or self.limit
+        count = len(members) if limit is None else min(limit, len(members))
         return members[:count], len(members) - count
 
-    def item(self, head, facts):
-        return Item(head, *self.shown(facts))
+    def item(self, head, facts, always=None):
+        return Item(head, *self.shown(facts, always))
 
     def put_more(self, more, indent=""):
         if more:
@@ -90,12 +92,21 @@ class Text:
 
     def paragraph(self, head, rule, items):
         self.lines += ["", head, *cut(DOC[rule])]
+        self.put_items(items)
+
+    def hint(self, words, items=()):
+        self.lines += [f"hint {words}", *cut(DOC[words.split(" ")[0]])]
+        self.put_items(items)
+
+    def put_items(self, items):
         shown, more = self.shown(items)
         for item in shown:
             self.lines.append(item.head)
             self.lines += ["  " + fact for fact in item.facts]
             self.put_more(item.more, "  ")
-            self.faces |= {int(face) for fact in item.facts for face in re.findall(r"(?:^| )face (\d+)", fact)}
+            self.named |= {int(number) for line in (item.head, *item.facts) for number in NAMED.findall(line)}
+            if item.head.startswith("gap ") and is_told("gap` items;"):
+                self.named.add(int(item.head.split(" ")[1]))
         self.put_more(more)
 
 
@@ -186,10 +197,10 @@ class View:
 
     # words
 
-    def vertex(self, number):
+    def vertex(self, number, whole=False):
         entity, index = self.solid.vertices[number]
         at = 3 * index - 2
-        return " ".join([str(entity), str(index), *map(spelled, self.file.entries[entity].values[at : at + 3])])
+        return " ".join([str(entity), str(index), *map(spelled_whole if whole else spelled, self.file.entries[entity].values[at : at + 3])])
 
     def curve(self, number):
         entity, index = self.solid.edges[number]
@@ -201,7 +212,7 @@ class View:
 
     def face(self, number):
         entity = self.shell.faces[number].entity
-        return f"{entity} {type_word(self.file.entries[self.file.entries[entity].values[0]].kind)}"
+        return f"{entity} {surface_word(self.file, entity)}"
 
     def at(self, row):
         return f"face {self.face(row.face)} loop {row.loop} tuple {row.tuple}"
@@ -278,7 +289,7 @@ class View:
         for vertex in self.shared:
             views = [view for view in (*self.earlier, self) if vertex in view.vertices]
             facts = [f"in shell {view.place} face {view.face(face)}" for view in views for face in view.faces_at(vertex)]
-            items.append(Item(f"vertex {self.vertex(vertex)}", facts[:FACE_LIMIT], max(0, len(facts) - FACE_LIMIT)))
+            items.append(text.item(f"vertex {self.vertex(vertex)}", facts, FACE_LIMIT))
         return items
 
     def put(self, text):
@@ -295,6 +306,10 @@ class View:
             if count:
                 head = f"rule {rule} shell {self.place} faults {count}{after.get(rule, '')}"
                 text.paragraph(head, rule, items[rule](text))
+
+
+def surface_word(file, face):
+    return type_word(file.entries[file.entries[face].values[0]].kind)
 
 
 def gaps_of(face, loop):
@@ -508,7 +523,7 @@ def first_naming(file, solid, number):
     raise AssertionError("a number that is named twice")
 
 
-def record_facts(file, fail, solid):
+def record_facts(file, fail, solid, places):
     if fail.place == 0 and fail.rule in ("ENTRY", "TYPE"):
         facts, due, number = [], DUE[186], fail.entity
     else:
@@ -516,6 +531,7 @@ def record_facts(file, fail, solid):
         k, due = value_of(file, fail)
         number = values[k - 1] if k <= len(values) else None
         facts = [f"value {k} found {spelled(number) if k <= len(values) else 'end'}"]
+        facts += places.of_value(fail.entity, k) if is_told("line <line> column") else []
     if fail.rule in ("ENTRY", "TYPE", "RECORD", "GEOMETRY"):
         facts.append(f"due {due}")
     named = file.named(number) if is_integer(number) else None
@@ -572,9 +588,10 @@ def names(file, entry):
     return [spelled(named.values[1]) for named in properties if len(named.values) > 1 and is_text(named.values[1])]
 
 
-def entity_facts(file, number):
+def entity_facts(file, number, places):
     entry = file.entries[number]
-    facts = [(f"level {entry.fields[5]}", entry.fields[5]), (f"colour {colour(file, entry)}", entry.fields[13])]
+    facts = [(places.of_entity(number), is_told("lines directory"))]
+    facts += [(f"level {entry.fields[5]}", entry.fields[5]), (f"colour {colour(file, entry)}", entry.fields[13])]
     facts.append((f"matrix {entry.fields[7]}", entry.fields[7]))
     label = shown_bytes(entry.label).strip(" ")
     facts += [(f"label {label}", label), (f"subscript {entry.fields[19]}", entry.fields[19])]
@@ -583,7 +600,7 @@ def entity_facts(file, number):
     return ["  " + fact for fact, holds in facts if holds] + [f"  name {name}" for name in told[:LIMIT]] + more
 
 
-def put_entities(text, file, numbers):
+def put_entities(text, file, numbers, places):
     numbers = sorted(number for number in numbers if file.named(number) is not None)
     if numbers:
         text.lines += ["", f"entities {len(numbers)}"]
@@ -593,69 +610,40 @@ def put_entities(text, file, numbers):
         if entry.kind == 510 and entry.values and is_integer(entry.values[0]):
             surface = file.named(entry.values[0])
             line += f" surface {entry.values[0]} {type_word(surface.kind)}" if surface is not None else ""
-        text.lines += [line, *entity_facts(file, number)]
-
-
-def put_hint(text, name, words=""):
-    text.lines += [f"hint {name}{words}", *cut(DOC[name])]
-
-
-def flagged_closed(file, number, solid):
-    """How many faces have flag 0, and whether the solid is closed with all face flags 1."""
-    faces = [face for shell in solid.shells for face in shell.faces]
-    count, flags = sum(face.flag == 0 for face in faces), [face.flag for face in faces]
-    for face in faces:
-        face.flag = 1
-    try:
-        for place, shell in enumerate(solid.shells, 1):
-            check_join(shell)
-            rows = Rows(shell)
-            mates = mates_of(solid, rows)
-            reach_of(shell, rows, mates)
-            corners_of(solid, rows, mates)
-            check_apart(solid, solid.shells[:place])
-        return count, True
-    except Fail:
-        return count, False
-    finally:
-        for face, flag in zip(faces, flags):
-            face.flag = flag
+        text.lines += [line, *entity_facts(file, number, places)]
 
 
 def put_kind_hint(text, named):
     """What an entity is that is no solid."""
     if named is not None and named.kind == 186:
-        put_hint(text, "other-form", f" form {named.form}")
+        text.hint(f"other-form form {named.form}")
     elif named is not None and named.kind == 514 and named.form in (1, 2):
-        put_hint(text, "shell")
+        text.hint("shell")
 
 
-def of_record(text, file, number, fail, path):
+def of_record(text, file, number, fail, path, places):
     text.lines.append(fail.text().decode().strip())
     named = file.named(number)
     is_solid = not (fail.place == 0 and fail.rule in ("ENTRY", "TYPE"))
     if is_solid:
         text.lines.append(units(file))
         if fail.rule == "ENTRY" and (fail.entity, fail.place) == (number, 1) and named.values[0] == 0:
-            put_hint(text, "empty-solid")
+            text.hint("empty-solid")
     else:
         put_kind_hint(text, named)
-        solids = [solid for solid in file.solids() if file.named(solid).form == 0]
-        if solids:
-            more = f" more {len(solids) - LIMIT}" if len(solids) > LIMIT else ""
-            put_hint(text, "solids", "".join(f" {solid}" for solid in solids[:LIMIT]) + more)
-        else:
-            put_hint(text, "no-solid")
-    facts = record_facts(file, fail, number)
+        solids = [str(solid) for solid in file.solids() if file.named(solid).form == 0]
+        shown, more = text.shown(solids, LIMIT)
+        text.hint(" ".join(["solids", *shown, *([f"more {more}"] if more else [])]) if solids else "no-solid")
+    facts = record_facts(file, fail, number, places)
     path = [("solid", number, None), *path] if is_solid else []
     facts += [f"in {word} {entity}" + ("" if item is None else f" item {item}") for word, entity, item in path]
     text.lines += ["", f"rule {fail.rule} faults 1", *cut(DOC[fail.rule]), f"item {fail.entity} {fail.place}"]
     text.lines += ["  " + fact for fact in facts]
-    put_entities(text, file, {number, fail.entity, *(entity for _, entity, _ in path)} if named else {fail.entity})
+    put_entities(text, file, {number, fail.entity, *(entity for _, entity, _ in path)} if named else {fail.entity}, places)
     return 1
 
 
-def of_solid(text, file, number, solid):
+def of_solid(text, file, number, solid, places):
     views = []
     for place in range(1, len(solid.shells) + 1):
         views.append(View(file, solid, place, list(views)))
@@ -669,26 +657,33 @@ def of_solid(text, file, number, solid):
     shown, more = text.shown(failing)
     text.lines += [view.line() for view in shown]
     text.put_more(more)
-    if any(view.unpaired for view in failing):
-        count, closed = flagged_closed(file, number, solid)
-        if count and closed:
-            put_hint(text, "face-flags", f" faces {count}")
+    put_hints(text, file, solid, failing)
     for view in shown:
         view.put(text)
-    put_entities(text, file, {number, *text.faces, *(view.shell.entity for view in shown)})
+    put_entities(text, file, {number, *text.named, *(view.shell.entity for view in shown)}, places)
     return 1 if failing else 0
 
 
-def whole(text, file, number):
+def put_hints(text, file, solid, failing):
+    unset = unset_faces(file, solid) if any(view.unpaired for view in failing) else []
+    if unset:
+        items = [text.item(f"flag-0 {face.entity} {surface_word(file, face.entity)}", []) for face in unset]
+        text.hint(f"face-flags faces {len(unset)}", items if is_told("flag-0") else [])
+        return
+    for view in text.shown(failing)[0]:
+        put_shell_hints(text, view)
+
+
+def whole(text, file, number, places):
     walk = PathWalk(file)
     try:
         solid = walk.solid(number)
     except Fail as fail:
-        return of_record(text, file, number, fail, walk.path)
-    return of_solid(text, file, number, solid)
+        return of_record(text, file, number, fail, walk.path, places)
+    return of_solid(text, file, number, solid, places)
 
 
-def overview(text, file):
+def overview(text, file, places):
     lines, failing = [], 0
     for number in file.solids():
         try:
@@ -696,13 +691,54 @@ def overview(text, file):
             verdict = "closed"
         except Fail as fail:
             verdict, failing = fail.text().decode().strip(), failing + 1
-        lines += [f"solid {number} {verdict}", *entity_facts(file, number)]
+        lines += [f"solid {number} {verdict}", *entity_facts(file, number, places)]
     count = len(file.solids())
-    text.lines.append(f"solids {count} failing {failing}")
+    text.lines += [f"solids {count} failing {failing}", *lines]
+    if is_told("unjudged"):
+        put_unjudged(text, file)
     if count == 0:
-        put_hint(text, "no-solid")
-    text.lines += lines
+        text.hint("no-solid")
     return 1 if failing or count == 0 else 0
+
+
+# The types of solids that are made of others.
+MADE = 150, 152, 154, 156, 158, 160, 162, 164, 168, 180, 184, 430
+
+
+def put_unjudged(text, file):
+    """What stands beside the solids, and its hints."""
+    entries = {number: entry for number, entry in file.entries.items() if entry.kind != 0}
+    named = {kind: set() for kind in (186, 514)}
+    for entry in entries.values():
+        if entry.kind == 514 or entry.kind == 186 and entry.form == 0:
+            named[entry.kind].update(number for number, _ in FITTING[entry.kind](entry.values) or ())
+    shells = [number for number, entry in entries.items() if entry.kind == 514 and number not in named[186]]
+    faces = [number for number, entry in entries.items() if entry.kind == 510 and number not in named[514]]
+    put_listed(text, f"unjudged {len(shells)} shell", [shell_fact(number, entries[number]) for number in shells])
+    put_listed(text, f"unjudged {len(faces)} face", [f"face {number}" for number in faces])
+    counts = {kind: sum(entry.kind == kind for entry in entries.values()) for kind in (143, 144, *MADE)}
+    text.lines += [f"unjudged {count} {type_word(kind)}" for kind, count in counts.items() if count]
+    hints = {
+        "loose-shells": any(entries[number].form in (1, 2) for number in shells),
+        "loose-faces": faces,
+        "trimmed": counts[143] + counts[144],
+        "other-solids": any(counts[kind] for kind in MADE),
+    }
+    for name, holds in hints.items():
+        if holds and name in DOC:
+            text.hint(name)
+
+
+def shell_fact(number, entry):
+    listed = FITTING[514](entry.values)
+    return f"shell {number} form {entry.form} faces {'-' if listed is None else len(listed)}"
+
+
+def put_listed(text, head, facts):
+    if facts:
+        shown, more = text.shown(facts)
+        text.lines += [head, *("  " + fact for fact in shown)]
+        text.put_more(more, "  ")
 
 
 def answer(words, data):
@@ -710,7 +746,8 @@ def answer(words, data):
     text = Text(None if words[1:] == ["all"] else LIMIT)
     try:
         file = File(data)
-        status = overview(text, file) if not words else whole(text, file, int(words[0]))
+        places = Places(data, file)
+        status = overview(text, file, places) if not words else whole(text, file, int(words[0]), places)
     except BadFile as bad:
         text.lines += [f"bad file line {bad.line} {bad.reason}", *cut(DOC[bad.reason])]
         lines, hints = told(data, bad.line, bad.reason)
