@@ -1,11 +1,12 @@
-"""bench/hostile --check on files whose records many solids share, and on files of odd lines. Needs valgrind."""
+"""bench/hostile --check on files whose records many solids share, on files of odd lines, and on those of which `where` could say too much. Needs
+valgrind."""
 import shutil
 import subprocess
 import sys
 
 from programs import TOP
 
-SHARED, LINES = "solids on", "lines"
+SHAPES, FEWEST = ("solids on", "lines", "copies of", "hints on"), 61
 
 
 def checks(context):
@@ -14,8 +15,9 @@ def checks(context):
         return
     programs = ["--program", context.programs.igesolid, "--where", context.programs.where, "--repair", context.programs.repair]
     words = [sys.executable, TOP / "bench" / "hostile", "--check", "--out", context.new_folder(), *programs, "--only"]
-    runs = [subprocess.run([*words, shapes], capture_output=True, text=True) for shapes in (SHARED, LINES)]
+    runs = [subprocess.run([*words, shapes], capture_output=True, text=True) for shapes in SHAPES]
     lines = [line for done in runs for line in done.stdout.splitlines()]
     for line in lines:
         yield f"costs: {line}", line.startswith("ok: ")
-    yield f"costs: the shapes are there: {runs[0].stderr}{runs[1].stderr}", len(lines) >= 36 and not any(done.returncode for done in runs)
+    said = "".join(done.stderr for done in runs)
+    yield f"costs: the shapes are there: {said}", len(lines) >= FEWEST and not any(done.returncode for done in runs)
