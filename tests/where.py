@@ -1,7 +1,7 @@
 """`igesolid-where`: the second checker's text, the shapes of its lines (docs/WHERE.md), and `certify`'s verdict as its first line.
 
-Over the examples, the inputs of the tests, the harmed files of `layout`, files that are made at random (tests/surfaces.py, tests/lattices.py),
-some of solids that share shells, and files that are changed at random.
+Over the examples, the inputs of the tests, the harmed files of `layout`, files that are made at random (tests/surfaces.py, some of solids that
+share shells, and tests/lattices.py) and files that are changed at random.
 """
 import argparse
 import itertools
@@ -103,8 +103,8 @@ def random_files(cases, seed):
     kept = [data for _, data in files() if data]
     for case in cases:
         rng = random.Random(f"where {seed} {case}")
-        sharing = lambda rng: surface_text(rng, rng.choice([0, 0, 6]))
-        data = rng.choice([surface_text, sharing, lattice_text, lambda rng: rng.choice(kept)])(rng)
+        made = surface_text, surface_text, lattice_text, lambda rng: surface_text(rng, 6), lambda rng: rng.choice(kept)
+        data = rng.choice(made)(rng)
         yield f"case {case} of seed {seed}", data if rng.random() < 0.4 else changed_file(rng, data)
 
 
