@@ -1,4 +1,0 @@
-pub mod FieldNumbers
-pub mod Pairs
-pub mod Put
-pub mod PlacedFiles
