@@ -43,7 +43,7 @@ fn hint_sentence(hint: Hint) -> &'static str
             "  Cut at the edges that aren't paired, the shell falls into pieces, and each\n  of these is closed by itself. Write each as a solid of its own, with edges\n  and vertices of its own; if one lies inside of another, write it as a void\n  of that solid.\n"
         }
         Hint::Turned => {
-            "  These faces are inside out against the others that edges join them to: with\n  their flags changed (their normals reversed) each edge there that is used\n  twice is used once each way. This is the smaller of the two sides.\n"
+            "  These faces are inside out against the others that edges join them to: with\n  their flags changed (their normals reversed) each edge there that is used\n  twice is used once each way. This is the smaller of the two sides; igesolid\n  reorient FILE N writes the file with these flags.\n"
         }
         Hint::Touching => {
             "  These edges are used more than twice, as often along as against: bodies, or\n  two sides of one, touch along the edge, and there is no thickness there.\n  Some systems accept this. Part the sides, or let them overlap; if the touch\n  is meant, give each two faces that bound the same side an edge of their own.\n"

@@ -16,7 +16,7 @@ use Rattle.where_text.specs.Spelled.{space_word}
 -- ---- face flags
 
 unfoldable pub flags_sentence : List ℕ
-flags_sentence = codes "  With every face flag read as 1 this solid is closed: no face is missing.\n  Either its writer lets a face's flag speak of the surface alone, as\n  Parasolid's translator does, and the part is sound; or just the faces with\n  flag 0 are turned. The receiver may turn them inside out: check their\n  normals there, or send STEP.\n"
+flags_sentence = codes "  With every face flag read as 1 this solid is closed: no face is missing.\n  Either its writer lets a face's flag speak of the surface alone, as\n  Parasolid's translator does, and the part is sound; or just the faces with\n  flag 0 are turned. The receiver may turn them inside out: check their\n  normals there, or send STEP; igesolid reorient FILE N writes the file with\n  these flags.\n"
 
 unfoldable pub flags_hint : ℕ → List ℕ
 flags_hint n = codes "hint face-flags faces" ++ space_word (decimal n) ++ codes "\n" ++ flags_sentence
@@ -45,7 +45,7 @@ unfoldable pub solids_sentence : List ℕ
 solids_sentence = codes "  The solids of this file are these. Take one of their numbers.\n"
 
 unfoldable pub no_solid_hint : List ℕ
-no_solid_hint = codes "hint no-solid\n  This file holds no solid (entity 186 of form 0); it may hold trimmed\n  surfaces or a shell alone.\n"
+no_solid_hint = codes "hint no-solid\n  This file holds no solid (entity 186 of form 0).\n"
 
 -- the first 20 of these solids, or that there is none
 unfoldable pub solids_hint : List EntryNo → List ℕ

@@ -18,7 +18,7 @@ use Rattle.where_records.specs.RecordText.{record_named, record_text}
 use Rattle.where_entities.specs.Entities.{entities_text}
 use Rattle.where_solids.specs.AllFaults.{AreAllFaults, failing_shells}
 use Rattle.where_solids.specs.Hints.{IsFlagsHint, pair_fails, solids_hint}
-use Rattle.where_solids.specs.KindHints.{hint_of, shells_hint}
+use Rattle.where_unjudged.specs.KindHints.{hint_of, shells_hint}
 use Rattle.where_solids.specs.Lines.{units_line, verdict_line}
 use Rattle.where_solids.specs.Listed.{true_solids}
 use Rattle.where_solids.specs.ShellTexts.{shell_lines, shell_texts}

@@ -19,12 +19,12 @@ use std::alloc::Global;
 use where_text::{EntryNumbers, Listing, put_more_words, put_number, shown_members};
 
 const FLAGS: &str =
-    "  With every face flag read as 1 this solid is closed: no face is missing.\n  Either its writer lets a face's flag speak of the surface alone, as\n  Parasolid's translator does, and the part is sound; or just the faces with\n  flag 0 are turned. The receiver may turn them inside out: check their\n  normals there, or send STEP.\n";
+    "  With every face flag read as 1 this solid is closed: no face is missing.\n  Either its writer lets a face's flag speak of the surface alone, as\n  Parasolid's translator does, and the part is sound; or just the faces with\n  flag 0 are turned. The receiver may turn them inside out: check their\n  normals there, or send STEP; igesolid reorient FILE N writes the file with\n  these flags.\n";
 
 const SOLIDS: &str = "  The solids of this file are these. Take one of their numbers.\n";
 
 const NO_SOLID: &str =
-    "hint no-solid\n  This file holds no solid (entity 186 of form 0); it may hold trimmed\n  surfaces or a shell alone.\n";
+    "hint no-solid\n  This file holds no solid (entity 186 of form 0).\n";
 
 // How many of the faces have the flag 0.
 fn unset_in(faces: &[FaceUse]) -> usize

@@ -4,7 +4,6 @@
 mod all_faults;
 mod fault_paragraphs;
 mod hints;
-mod kind_hints;
 mod lines;
 mod listed;
 mod overview;

@@ -4,7 +4,6 @@ ghost use Rattle.std.specs.Prelude.{◌≡◌, ◌++◌, OnOk};
 ghost use Rattle.where_solids.specs.Told.{record_rest, record_start};
 
 use crate::hints::put_solids_hint;
-use crate::kind_hints::{put_kind_hint, put_shells_hint};
 use crate::lines::put_units;
 use crate::listed::true_solids;
 use iges_fields::{EntryNo, ItemList, NoMemory, Out};
@@ -14,6 +13,7 @@ use solid_data::Failing;
 use std::alloc::Global;
 use where_entities::put_entities;
 use where_records::put_record;
+use where_unjudged::{put_kind_hint, put_shells_hint};
 
 /// A rule on records that fails: the number that a solid was looked for at, what fails, and the path to it where the number
 /// names a solid.

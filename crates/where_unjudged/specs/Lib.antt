@@ -4,3 +4,4 @@ pub mod Counts
 pub mod Lines
 pub mod Hints
 pub mod Unjudged
+pub mod KindHints

@@ -4,7 +4,7 @@ ghost use Rattle.iges_params.specs.Named.{named, values_of};
 ghost use Rattle.brep_lists.specs.Record.{int_at};
 ghost use Rattle.std.specs.Ordering.{int_eq};
 ghost use Rattle.std.specs.Prelude.{◌≡◌, ◌++◌, OnOk, pos};
-ghost use Rattle.where_solids.specs.KindHints.{empty_hint, form_hint, form_sentence, hint_of, is_empty_solid, is_no_entry, is_shell, kind_hint, shell_hint, shells_hint};
+ghost use Rattle.where_unjudged.specs.KindHints.{empty_hint, form_hint, form_sentence, hint_of, is_empty_solid, is_no_entry, is_shell, kind_hint, shell_hint, shells_hint};
 
 use brep_lists::int_at;
 use iges_fields::{EntryNo, NoMemory, Out};
