@@ -112,7 +112,7 @@ no_flags s unpaired b unset out is none told =
 
 pub all_told : (f : Contents) (ns listed : List EntryNo) (vs judged : List Verdict) (m n : ℕ) (b : Bool) (text : List ℕ) → ns ≡ solids_of f → listed ≡ ns
     → AreVerdicts f listed vs → judged ≡ vs → m ≡ length ns
-    → n ≡ count_by fails judged → b ≡ (nat_lt 0 m && n == 0) → text ≡ overview_start vs ++ flat_map (solid_paragraph f) (zip ns vs) ++ unjudged_text f ++ overview_end vs
+    → n ≡ count_by fails judged → b ≡ (nat_lt 0 m && n == 0) → text ≡ overview_start vs ++ flat_map (solid_paragraph f) (zip ns vs) ++ unjudged_text f ++ overview_end (length ns)
     → (ws : List Verdict) × IsOverview f ws text × (b ≡ all_close ws)
 unfolding overview_text
 all_told f ns listed vs judged m n b text solids same verdicts is many failing closed told =
@@ -120,7 +120,7 @@ all_told f ns listed vs judged m n b text solids same verdicts is many failing c
       vs,
       record {
         judged = subst (λ xs. AreVerdicts f xs vs) (same ∙ solids) verdicts;
-        text_is = told ∙ ap (λ xs. overview_start vs ++ flat_map (solid_paragraph f) (zip xs vs) ++ unjudged_text f ++ overview_end vs) solids;
+        text_is = told ∙ ap (λ xs. overview_start vs ++ flat_map (solid_paragraph f) (zip xs vs) ++ unjudged_text f ++ overview_end (length xs)) solids;
       },
       closed ∙ (ap (λ k. nat_lt 0 k && n == 0) each ∙ ap (λ k. nat_lt 0 (length vs) && k == 0) (failing ∙ ap (count_by fails) is)),
     )

@@ -34,13 +34,13 @@ solid_paragraph f p = codes "solid" ++ space_word (decimal p.0.0) ++ space_word 
 unfoldable pub overview_start : List Verdict → List ℕ
 overview_start vs = codes "solids" ++ space_word (decimal (length vs)) ++ counted (codes "failing") (count_by fails vs) ++ codes "\n"
 
--- that there is none
-unfoldable pub overview_end : List Verdict → List ℕ
-overview_end vs = if length vs == 0 then no_solid_hint else []
+-- that there is no solid, where there are so many
+unfoldable pub overview_end : ℕ → List ℕ
+overview_end solids = if solids == 0 then no_solid_hint else []
 
 -- the solids, then what stands beside them
 unfoldable pub overview_text : Contents → List Verdict → List ℕ
-overview_text f vs = overview_start vs ++ flat_map (solid_paragraph f) (zip (solids_of f) vs) ++ unjudged_text f ++ overview_end vs
+overview_text f vs = overview_start vs ++ flat_map (solid_paragraph f) (zip (solids_of f) vs) ++ unjudged_text f ++ overview_end (length (solids_of f))
 
 -- there are solids, and all are closed
 abbrev pub all_close : List Verdict → Bool

@@ -130,13 +130,20 @@ fn put_start(out: &mut Out, solids: usize, failing: usize) -> Result<(), NoMemor
 // That there is no solid, where there is none.
 #[tactic(auto, unfolding(crate::specs::Overview::overview_end))]
 fn put_end(out: &mut Out, solids: usize) -> Result<(), NoMemory>
-    ensures { (vs : List AnyVerdict) → length vs ≡ solids
-        → OnOk result (out.new ≡ out.old ++ overview_end vs) }
+    ensures { OnOk result (out.new ≡ out.old ++ overview_end solids) }
 {
     if solids == 0 {
         return put_no_solid(out);
     }
     Ok(())
+}
+
+// What follows the solids, of which there are so many.
+fn put_rest(alloc: Global, out: &mut Out, file: &File, solids: usize) -> Result<(), NoMemory>
+    ensures { OnOk result (out.new ≡ out.old ++ (unjudged_text file.now ++ overview_end solids)) }
+{
+    put_unjudged(alloc, out, file)?;
+    put_end(out, solids)
 }
 
 fn put_verdict_words(out: &mut Out, verdict: Verdict) -> Result<(), NoMemory>
@@ -194,7 +201,7 @@ fn text_of(
     requires failing { failing ≡ count_by fails verdicts.now }
     ensures { IfOk result (λ text. text ≡ overview_start verdicts.now
         ++ flat_map (solid_paragraph file.now) (zip solids.now verdicts.now)
-        ++ unjudged_text file.now ++ overview_end verdicts.now) }
+        ++ (unjudged_text file.now ++ overview_end (length solids.now))) }
 {
     let mut out = Out::new(alloc);
     put_start(&mut out, solids.len(), failing)?;
@@ -205,8 +212,7 @@ fn text_of(
         solids.as_slice(),
         verdicts.as_slice(),
     )?;
-    put_unjudged(alloc, &mut out, file)?;
-    put_end(&mut out, solids.len())?;
+    put_rest(alloc, &mut out, file, solids.len())?;
     Ok(out.into_bytes())
 }
 
@@ -217,7 +223,8 @@ fn all_closed(solids: usize, failing: usize) -> bool
 }
 
 /// Says of each solid of a file, in directory order, whether it is closed, or the first rule that fails. It errs only
-/// where memory runs out. What stands beside the solids is told too. Each solid's records are walked once, and not at all where an earlier solid names the same shell alone.
+/// where memory runs out. What stands beside the solids is told too. Each solid's records are walked once, and not at all
+/// where an earlier solid names the same shell alone.
 pub fn tell_all(alloc: Global, file: &File) -> Result<Overview, NoMemory>
     ensures { IfOk result (λ told. (vs : List AnyVerdict) × IsOverview file.now vs told.text
         × (told.all_closed ≡ all_close vs)) }
