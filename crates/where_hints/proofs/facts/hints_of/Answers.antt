@@ -16,6 +16,6 @@ returns c h at =
       turns = subst (λ d. IsExactly (AreTurns d) c.in_ok-turns.turns) rows c.in_ok-turns.ensures;
       touching = c.touching.ensures (shell_rows s h) (c.unpaired-unpaired.ensures ∙ f.unpaired);
       crowded = c.crowded.ensures (shell_rows s h) (c.unpaired-unpaired.ensures ∙ f.unpaired);
-      pinched = c.pinch.ensures s c.args.shell.0 h c.recall_numbering.ensures has f;
-      shared = c.touching_shells.ensures s c.args.shell.0 h c.recall_numbering.ensures has f;
+      pinched = c.pinch.ensures s c.args.shell.0 h c.recall_numbering.ensures.numbered has f;
+      shared = c.touching_shells.ensures s c.args.shell.0 h c.recall_numbering.ensures.numbered has f;
     }
