@@ -52,9 +52,11 @@ pub fn hints_of(
 {
     solid.recall_numbering();
     let unpaired = faults.unpaired();
+    let bodies = bodies_of(alloc, solid, shell, rows)?;
+    let turns = turns_of(alloc, rows)?;
     Ok(Hints {
-        bodies: bodies_of(alloc, solid, shell, rows)?,
-        turns: turns_of(alloc, rows)?,
+        bodies,
+        turns,
         touching: touching(unpaired),
         crowded: crowded(unpaired),
         pinched: pinch(faults),

@@ -6,7 +6,7 @@ use Rattle.where_hints.proofs.bodies.put_each_body.Given as goal
 
 abbrev pub invariant-pieces : goal.invariant-pieces
 invariant-pieces l = record {
-  text : l.out ++ found_left (body_of l.on.file l.on.shell l.found.firsts) l.pieces l.i
-      ≡ l.fn.out ++ flat_map (body_of l.on.file l.on.shell l.found.firsts) (enumerate_from 0 l.pieces);
-  named : l.named ++ flat_map (face_named l.on.shell) (drop l.i l.pieces) ≡ l.fn.named ++ flat_map (face_named l.on.shell) l.pieces;
+  text : l.out ++ found_left (body_of l.on.file.now l.on.shell.now l.found.firsts) l.pieces l.i
+      ≡ l.fn.out ++ flat_map (body_of l.on.file.now l.on.shell.now l.found.firsts) (enumerate_from 0 l.pieces);
+  named : l.named ++ flat_map (face_named l.on.shell.now) (drop l.i l.pieces) ≡ l.fn.named ++ flat_map (face_named l.on.shell.now) l.pieces;
 }
