@@ -1,2 +1,0 @@
-pub mod LoneLemmas
-pub mod RimLemmas

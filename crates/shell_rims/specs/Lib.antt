@@ -1,3 +1,0 @@
-pub mod LoneRows
-pub mod Only
-pub mod Rims
