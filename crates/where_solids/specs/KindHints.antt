@@ -15,9 +15,12 @@ use Rattle.where_text.specs.Spelled.{signed, space_word}
 unfoldable pub form_sentence : List ℕ
 form_sentence = codes "  This entity is a 186, but of another form than 0: no solid that is known.\n"
 
+unfoldable pub form_line : ℤ → List ℕ
+form_line form = codes "hint other-form form" ++ space_word (signed form) ++ codes "\n"
+
 -- a 186 of another form than that of a solid
 unfoldable pub form_hint : ℤ → List ℕ
-form_hint form = codes "hint other-form form" ++ space_word (signed form) ++ codes "\n" ++ form_sentence
+form_hint form = form_line form ++ form_sentence
 
 unfoldable pub shell_hint : List ℕ
 shell_hint = codes "hint shell\n  This is a shell. To judge it by itself, as an open or a closed one, run\n  igesolid open with this number.\n"

@@ -4,7 +4,7 @@ ghost use Rattle.iges_params.specs.Named.{named, values_of};
 ghost use Rattle.brep_lists.specs.Record.{int_at};
 ghost use Rattle.std.specs.Ordering.{int_eq};
 ghost use Rattle.std.specs.Prelude.{◌≡◌, ◌++◌, OnOk, pos};
-ghost use Rattle.where_solids.specs.KindHints.{empty_hint, form_hint, form_sentence, hint_of, is_empty_solid, is_no_entry, is_shell, kind_hint, shell_hint, shells_hint};
+ghost use Rattle.where_solids.specs.KindHints.{empty_hint, form_hint, form_line, form_sentence, hint_of, is_empty_solid, is_no_entry, is_shell, kind_hint, shell_hint, shells_hint};
 
 use brep_lists::int_at;
 use iges_fields::{EntryNo, NoMemory, Out};
@@ -27,13 +27,20 @@ fn put_form_sentence(out: &mut Out) -> Result<(), NoMemory>
     out.put(FORM.as_bytes())
 }
 
+#[tactic(auto, unfolding(crate::specs::KindHints::form_line))]
+fn put_form_line(out: &mut Out, form: i64) -> Result<(), NoMemory>
+    ensures { OnOk result (out.new ≡ out.old ++ form_line form) }
+{
+    out.put(b"hint other-form form")?;
+    put_signed(out, form)?;
+    out.put(b"\n")
+}
+
 #[tactic(auto, unfolding(crate::specs::KindHints::form_hint))]
 fn put_form_hint(out: &mut Out, form: i64) -> Result<(), NoMemory>
     ensures { OnOk result (out.new ≡ out.old ++ form_hint form) }
 {
-    out.put(b"hint other-form form")?;
-    put_signed(out, form)?;
-    out.put(b"\n")?;
+    put_form_line(out, form)?;
     put_form_sentence(out)
 }
 

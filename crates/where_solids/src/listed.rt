@@ -37,6 +37,16 @@ fn push_if(list: &mut EntryNumbers, file: &File, no: EntryNo) -> Result<(), NoMe
     Ok(())
 }
 
+fn push_true(list: &mut EntryNumbers, file: &File, all: &[EntryNo]) -> Result<(), NoMemory>
+    ensures { OnOk result (list.new ≡ list.old
+        ++ filter (λ (n : AnyEntryNo). is_form_0 (named file.now (pos n.0))) all.now) }
+{
+    'solids: for i in 0..all.len() {
+        push_if(list, file, all[i])?;
+    }
+    Ok(())
+}
+
 /// The numbers of the solids of a file: the entries of type 186 and form 0, in directory order.
 #[tactic(auto, unfolding(crate::specs::Listed::true_solids))]
 pub fn true_solids(alloc: Global, file: &File) -> Result<EntryNumbers, NoMemory>
@@ -44,8 +54,6 @@ pub fn true_solids(alloc: Global, file: &File) -> Result<EntryNumbers, NoMemory>
 {
     let all = solids(alloc, file)?;
     let mut list = ItemList::new(alloc);
-    'solids: for no in all.as_slice() {
-        push_if(&mut list, file, *no)?;
-    }
+    push_true(&mut list, file, all.as_slice())?;
     Ok(list)
 }

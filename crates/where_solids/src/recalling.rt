@@ -100,22 +100,29 @@ fn is_same_shell(one: (i64, bool), other: (i64, bool)) -> bool
     one.0 == other.0 && one.1 == other.1
 }
 
+fn solid_at(solids: &[EntryNo], place: u32) -> Option<EntryNo>
+    ensures { result ≡ slice_get solids.now place }
+{
+    solids.get(place as usize).copied()
+}
+
+fn verdict_at(verdicts: &[Verdict], place: u32) -> Option<Verdict>
+    ensures { result ≡ slice_get verdicts.now place }
+{
+    verdicts.get(place as usize).copied()
+}
+
 /// The verdict on a solid with this only shell, if the solid at a place has the same one, and its verdict is there and isn't
 /// of its own entry.
-pub fn recalled(
-    judged: &Judged<'_>,
-    place: u32,
-    no: EntryNo,
-    shell: (i64, bool),
-) -> Option<Verdict>
+pub fn recalled(judged: &Judged<'_>, place: u32, no: EntryNo, shell: (i64, bool)) -> Option<Verdict>
     requires shell { IsSolidOf judged.now.file.now no.0 (shell ∷ []) }
     requires judged { (j : ℕ) (n : AnyEntryNo) (v : AnyVerdict)
         → slice_get judged.now.solids.now j ≡ Some n → slice_get judged.now.verdicts.now j ≡ Some v
         → IsVerdictOn judged.now.file.now n.0 v }
     ensures { IfSome result (IsVerdictOn judged.now.file.now no.0) }
 {
-    let other = *judged.solids.get(place as usize)?;
-    let verdict = *judged.verdicts.get(place as usize)?;
+    let other = solid_at(judged.solids, place)?;
+    let verdict = verdict_at(judged.verdicts, place)?;
     let seen = lone_shell(judged.file, other)?;
     if !is_same_shell(seen, shell) || !is_of_other(verdict, other) {
         return None;

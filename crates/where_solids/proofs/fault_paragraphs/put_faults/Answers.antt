@@ -27,4 +27,4 @@ put_apart-requires-clause-shared c =
     let here = some_at c.args.view.now.solid.now.shells c.args.view.now.at.0 c.requires.shell in
     let found = c.requires.faults here.0 here.1 in
     c.shared.ensures ∙ found.shared ∙ ap (λ (o : Option Shell). shared_of c.args.view.now.solid.now c.args.view.now.at.0 (rows_of
-        c.args.view.now.solid.now o)) (sym here.1)
+    c.args.view.now.solid.now o)) (sym here.1)

@@ -17,18 +17,18 @@ get_pushed (z ∷ zs) x y (suc i) h = elim (get_pushed zs x y i h) [ inl old ↦
 pub solids-preserved : goal.solids-preserved
 solids-preserved c = record {
   file = c.next_verdict.ensures.file ∙ c.solids.invariant.file;
-  each = omega (arith, ap length c.in_ok-push.ensures.ok, length-append c.solids.verdicts (c.in_ok-next_verdict.field-0 ∷ []), c.solids.invariant.each);
+  each = omega (arith, ap length c.in_ok-push.ensures.ok, length-append c.solids.verdicts (c.in_ok-verdict.verdict ∷ []), c.solids.invariant.each);
   verdict = λ j n v a b.
-      elim (get_pushed c.solids.verdicts c.in_ok-next_verdict.field-0 v j (subst (λ (xs : List Verdict). slice_get xs j ≡ Some v) c.in_ok-push.ensures.ok b)) [
+      elim (get_pushed c.solids.verdicts c.in_ok-verdict.verdict v j (subst (λ (xs : List Verdict). slice_get xs j ≡ Some v) c.in_ok-push.ensures.ok b)) [
         | inl old ↦ c.solids.invariant.verdict j n v a old
         | inr last ↦
             let here : slice_get c.args.solids.now c.solids.i ≡ Some n =
             subst (λ (k : ℕ). slice_get c.args.solids.now k ≡ Some n) (last.0 ∙ c.solids.invariant.each) a in
             let same : get_or c.args.solids.now c.solids.i (record { 0 = 0 }) ≡ n = get_or_from_slice_get c.args.solids.now c.solids.i n (record { 0 = 0 })
             here in
-            let judged = subst (λ (f : Contents). IsVerdictOn f (get_or c.args.solids.now c.solids.i (record { 0 = 0 })).0 c.in_ok-next_verdict.field-0)
-            c.solids.invariant.file c.in_ok-next_verdict.ensures.verdict in
+            let judged = subst (λ (f : Contents). IsVerdictOn f (get_or c.args.solids.now c.solids.i (record { 0 = 0 })).0 c.in_ok-verdict.verdict)
+            c.solids.invariant.file c.in_ok-verdict.ensures.verdict in
             subst (λ (w : Verdict). IsVerdictOn c.args.file.now n.0 w) last.1
-            (subst (λ (m : EntryNo). IsVerdictOn c.args.file.now m.0 c.in_ok-next_verdict.field-0) same judged)
+            (subst (λ (m : EntryNo). IsVerdictOn c.args.file.now m.0 c.in_ok-verdict.verdict) same judged)
       ];
 }

@@ -1,4 +1,4 @@
-use Rattle.std.proofs.Common.{◌∷◌, [], refl, subst}
+use Rattle.std.proofs.Common.{◌∷◌, [], refl, subst, sym}
 use Rattle.where_solids.specs.Recalled.{IsSolidOf}
 use Rattle.where_solids.proofs.SameShells.{same_verdict}
 use Rattle.where_solids.proofs.recalling.recalled.Goals as goal
@@ -6,8 +6,8 @@ use Rattle.where_solids.proofs.recalling.recalled.Goals as goal
 pub returns : goal.returns
 returns c =
     let f = c.args.judged.now.file.now in
-    let other = c.in_ok-other.field-0.now in
+    let other = c.in_ok-other.other in
     let one : IsSolidOf f other.0 (c.args.shell ∷ []) =
     subst (λ s. IsSolidOf f other.0 (s ∷ [])) (c.if-not-is_same_shell.ensures refl) c.in_ok-seen.ensures in
-    same_verdict f other.0 c.args.no.0 (c.args.shell ∷ []) one c.requires.shell c.in_ok-verdict.field-0.now (c.if-not-is_of_other.ensures refl)
-    (c.requires.judged c.args.place other c.in_ok-verdict.field-0.now c.in_ok-other.ensures.lookup c.in_ok-verdict.ensures.lookup)
+    same_verdict f other.0 c.args.no.0 (c.args.shell ∷ []) one c.requires.shell c.in_ok-verdict.verdict (c.if-not-is_of_other.ensures refl)
+    (c.requires.judged c.args.place other c.in_ok-verdict.verdict (sym c.in_ok-other.ensures) (sym c.in_ok-verdict.ensures))

@@ -2,8 +2,9 @@ use Rattle.std.proofs.Common.{◌≡◌, ◌++◌, drop, filter, pos}
 use Rattle.iges_base.specs.declared.entry_no.EntryNo.{EntryNo}
 use Rattle.iges_params.specs.Named.{named}
 use Rattle.where_solids.specs.Listed.{is_form_0}
-use Rattle.where_solids.proofs.listed.true_solids.Given as goal
+use Rattle.where_solids.proofs.listed.push_true.Given as goal
 
 abbrev pub invariant-solids : goal.invariant-solids
 invariant-solids l =
-    l.list ++ filter (λ (n : EntryNo). is_form_0 (named l.file (pos n.0))) (drop l.no-index l.all) ≡ filter (λ (n : EntryNo). is_form_0 (named l.file (pos n.0))) l.all
+    l.list ++ filter (λ (n : EntryNo). is_form_0 (named l.file (pos n.0))) (drop l.i l.all) ≡ l.fn.list
+    ++ filter (λ (n : EntryNo). is_form_0 (named l.file (pos n.0))) l.all
