@@ -114,12 +114,7 @@ fn verdict_at(verdicts: &[Verdict], place: u32) -> Option<Verdict>
 
 /// The verdict on a solid with this only shell, if the solid at a place has the same one, and its verdict is there and isn't
 /// of its own entry.
-pub fn recalled(
-    judged: &Judged<'_>,
-    place: u32,
-    no: EntryNo,
-    shell: (i64, bool),
-) -> Option<Verdict>
+pub fn recalled(judged: &Judged<'_>, place: u32, no: EntryNo, shell: (i64, bool)) -> Option<Verdict>
     requires shell { IsSolidOf judged.now.file.now no.0 (shell ∷ []) }
     requires judged { (j : ℕ) (n : AnyEntryNo) (v : AnyVerdict)
         → slice_get judged.now.solids.now j ≡ Some n → slice_get judged.now.verdicts.now j ≡ Some v
