@@ -9,6 +9,7 @@ mod listed;
 mod overview;
 mod recalling;
 mod record_texts;
+mod shell_hints;
 mod shell_texts;
 mod telling;
 mod verdicts;
