@@ -1,17 +1,19 @@
-"""What the checker of `where` takes from docs/WHERE.md and the table beside it: sentences, words for types, and which lines there are. Hints and
+"""What the checker of `where` takes from docs/WHERE.md and the tables beside it: sentences, words for types, and which lines there are. Hints and
 lines that the page doesn't have aren't due."""
-import re
 
 DOC = {}
 
 
+def table(path):
+    return [line.split("\t") for line in path.read_text().splitlines()]
+
+
 def sentences(docs):
-    """Takes the sentences and the words for types, as the page and the table in this folder have them."""
+    """Takes the sentences, the words for types and the page of this folder."""
     DOC.clear()
-    DOC.update(line.split("\t") for line in (docs / "where_sentences.tsv").read_text().splitlines())
-    page = DOC["page"] = (docs / "WHERE.md").read_text()
-    words = page[page.index("## 7.") : page.index("## 8.")]
-    DOC["types"] = {int(kind): word for kind, word in re.findall(r"(\d+) ([a-z-]+)", words)}
+    DOC.update(table(docs / "where_sentences.tsv"))
+    DOC["types"] = {int(kind): word for kind, word in table(docs / "where_types.tsv")}
+    DOC["page"] = (docs / "WHERE.md").read_text()
 
 
 def is_told(words):
