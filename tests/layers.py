@@ -61,10 +61,11 @@ def sources(top, crate):
 
 
 def rows_checks(crates, page):
-    rows = ROW.findall(page)
+    rows, unknown = ROW.findall(page), []
     yield "docs/ARCHITECTURE.md: a row for each crate", sorted(name for name, _ in rows) == sorted(crates)
     for name, others in rows:
-        for other in re.findall(r"`(\w+)`", others):
+        unknown = unknown if others.strip() == "the same" else re.findall(r"`(\w+)`", others)
+        for other in unknown:
             yield f"docs/ARCHITECTURE.md: {name} doesn't know {other}", other in crates and other not in below(crates, name)
 
 

@@ -31,6 +31,8 @@ EDITION = re.compile(r"(?m)^\| (\d+) \| .* \| `([0-9a-f]{16})` \|$")
 # A crate with its edits in the table of wrong bodies in docs/DECISIONS.md.
 PLANTED = re.compile(r"`(\w+)`: ([^;|]+)")
 MOST_EDITS = 120
+# A sentence of `where` in a definition, alone or after the line of its hint.
+SAID = re.compile(r'codes "(?:hint [^"\\]*\\n)?((?:  [^" \\][^"\\]*\\n)+)"')
 # What stands for the launcher: it runs the program, or the one of a command, or the command that asks two. `-` is standard input.
 LAUNCHED = """#!/bin/sh
 [ "$1" != check ] || {{ shift; exec python3 -B '{top}/companion/check' --program '{program}' --where-program '{where}' "$@"; }}
@@ -135,6 +137,16 @@ def editions(top):
     yield "docs/WHERE.md: the edition", f"edition {edition} of" in (top / "docs" / "WHERE.md").read_text()
 
 
+def sentences(top):
+    """The sentences of docs/where_sentences.tsv are those in the definitions of `where`."""
+    table = [line.split("\t") for line in (top / "docs" / "where_sentences.tsv").read_text().splitlines()]
+    said = {" ".join(it.replace("\\n", " ").split()) for path in top.glob("crates/where_*/specs/*.antt") for it in SAID.findall(path.read_text())}
+    for name, sentence in table:
+        yield f"docs/where_sentences.tsv: {name}", sentence in said
+    for sentence in sorted(said - {sentence for _, sentence in table}):
+        yield f"docs/where_sentences.tsv lacks a sentence: {sentence}", False
+
+
 def changed_lines(lines, change):
     """The lines with a change that is spelled out, as far as its reason; None of another change."""
     spelled = re.split(r": |, an ", change)[0]
@@ -205,4 +217,5 @@ def checks(folder, top, program, where, repair, forms):
     yield from indexes(top)
     yield from edits(top)
     yield from editions(top)
+    yield from sentences(top)
     yield from changed_certificates(folder, top, program)

@@ -20,7 +20,7 @@ from spawned import Runner
 from surfaces import surface_text
 
 TOP = pathlib.Path(__file__).resolve().parent.parent
-PAGE = TOP / "docs" / "WHERE.md"
+DOCS = TOP / "docs"
 LARGEST, RANDOM_CASES, MORE_CASES = 60_000, 200, 200
 USAGE = b"usage: igesolid-where FILE [N [all]]\n"
 
@@ -59,7 +59,7 @@ class Wheres:
     def __init__(self, folder, program, certifier):
         self.file = folder / "where.igs"
         self.runner, self.certifier = Runner(program), Runner(certifier)
-        where.sentences(PAGE.read_text())
+        where.sentences(DOCS)
         self.sentences = {sentence for sentence in where.DOC.values() if isinstance(sentence, str)}
 
     def checks(self, name, data):

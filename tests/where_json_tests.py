@@ -11,6 +11,7 @@ import sys
 
 import clone
 import where
+from no_examples import printed_words
 from spawned import Runner
 
 TOP = pathlib.Path(__file__).resolve().parent.parent
@@ -126,10 +127,21 @@ def in_table(lines):
     return {head: has_sentence(lines, lines.Shape(head).words) for head in heads}, facts
 
 
+def odd_names(lines):
+    """The rules, hints and kinds of docs/WHERE.md without a sentence in the table beside it, and names there that are neither these nor reasons."""
+    page, heads = (TOP / "docs" / "WHERE.md").read_text(), on_page()[0]
+    named = {*lines.RECORD_RULES, *lines.SHELL_RULES, *(quoted(first)[0] for first, *_ in rows(page, "Kind"))}
+    named |= {head.split()[1] for head, is_said in heads.items() if is_said and head.startswith("hint ")} - {"looks-like"}
+    names = {line.split("\t")[0] for line in (TOP / "docs" / "where_sentences.tsv").read_text().splitlines()}
+    return sorted(named - names | names - named - printed_words(TOP))
+
+
 def tables(where_json, lines):
     for name, told, wanted in zip(("head lines", "facts"), on_page(), in_table(lines)):
         odd = [it for it in {**told, **wanted} if told.get(it) != wanted.get(it)]
         yield f"docs/WHERE.md: the shapes of {name} are those of python/igesolid/where_lines.py, but for {odd}", not odd
+    odd = odd_names(lines)
+    yield f"docs/where_sentences.tsv: the names are those of docs/WHERE.md, but for {odd}", not odd
     wanted = written(schema(where_json, lines))
     yield "docs/where.schema.json: tests/where_json_tests.py --mend writes it anew", SCHEMA.exists() and SCHEMA.read_text() == wanted
 

@@ -10,7 +10,7 @@ import { answerOf, factsOf, ruleName } from "./where_text.js";
 /** At most so many faults of a rule are listed, facts of a fault, lines of the text. */
 const MOST_LISTED = 300, MOST_FACTS = 100, MOST_LINES = 3000, MOST_FACES = 20;
 /** The items of hints that name the faces to look at. */
-const OF_FACES = ["flag-0", "remove", "turn"];
+const OF_FACES = ["remove", "turn"];
 const AROUND = 6, LONGEST = 200;
 const COUNTED = {
   JOIN: ["gap in a loop", "gaps in loops"],

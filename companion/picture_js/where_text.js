@@ -33,7 +33,6 @@ const HEADS = {
   shells: named({ shells: N, failing: N }),
   shell: named({ shell: N, ...COUNTS }),
   hint: `hint (?<hint>[a-z-]+)(?: [a-z0-9-]+)*`,
-  "flag-0": `flag-0 ${SURFACE}`,
   remove: `remove ${SURFACE}`,
   turn: `turn ${SURFACE}`,
   body: `body ${N} faces ${N} first ${SURFACE}`,
@@ -50,8 +49,7 @@ const HEADS = {
   entity: `entity (?<entity>${N}) (?<type>${T})(?: surface (?<surface>${N}) ${T})?`,
 };
 const FACTS = {
-  item: `value (?<value>${N}) found (?<found>.*)|line ${N} column ${N}|text .*|mark  *\\^+`
-    + `|due (?:${FORMS_DUE}|${VALUES_DUE})`
+  item: `value (?<value>${N}) found (?<found>.*)|due (?:${FORMS_DUE}|${VALUES_DUE})`
     + `|why (?:zero|negative|even|beyond|null)|entry ${N} ${T} form -?${N}|values ${N}`
     + `|first ${N} item ${N}|list ${N} ${T} items ${N}`
     + `|in (?:solid ${N}|(?:shell|face|loop) ${N} item ${N})`,
@@ -65,7 +63,7 @@ const FACTS = {
   part: `(?:at|(?<touches>touches)) (?<vertex>${VERTEX})|${FACE}|more ${N}`,
   vertex: `fan (?<fan>${N}) ${USE} ${EDGE} to ${N} ${N} ${WORD} ${WORD} ${WORD}`
     + `|(?<point>point) ${FACE} loop ${N}|in shell (?<shell>${N}) ${FACE}|more ${N}`,
-  entity: `lines directory ${N} record ${N} ${N}|level -?${N}|colour -?${N}.*|matrix -?${N}`
+  entity: `level -?${N}|colour -?${N}.*|matrix -?${N}`
     + `|label .*|subscript -?${N}|name .*|more ${N}`,
 };
 
@@ -94,7 +92,7 @@ const shapesOf = lines =>
   Object.fromEntries(Object.entries(lines).map(([word, shape]) => [word, new Shape(shape)]));
 const HEAD_SHAPES = shapesOf(HEADS), FACT_SHAPES = shapesOf(FACTS);
 const SENTENCES = ["bad", "hint", "rule"], ITEMS = [
-  "flag-0", "remove", "body", "rim", "turn", "item", "gap", "edge", "part", "vertex",
+  "remove", "body", "rim", "turn", "item", "gap", "edge", "part", "vertex",
 ];
 
 /** A line of the text that has none of the shapes. */

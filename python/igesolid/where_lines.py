@@ -1,6 +1,6 @@
 """The lines of the text of `where`: one table of their shapes, by which they are read and written.
 
-It is the tables of docs/WHERE.md, sections 6 and 8. A further edition of the text is further lines here, and their values in `KINDS`."""
+It is the tables of docs/WHERE.md, sections 2 to 6. A further edition of the text is further lines here, and their values in `KINDS`."""
 import re
 from typing import Dict, List, NamedTuple, Optional, Tuple, Union
 
@@ -28,11 +28,8 @@ hint face-flags faces <faces>
 hint stray-faces shell <shell> faces <faces> of <of>
 hint bodies shell <shell> pieces <pieces>
 hint doubled-faces shell <shell> faces <faces>
-hint extra-faces shell <shell> faces <faces> of <of>
-hint unsewn shell <shell> edges <edges> alike <alike> gaps <gaps>
 hint missing-faces shell <shell> edges <edges> rims <rims>
 hint turned shell <shell> faces <faces> of <of>
-hint one-sided shell <shell> faces <faces> edges <edges>
 hint touching shell <shell> edges <edges>
 hint crowded shell <shell> edges <edges>
 hint pinch shell <shell> vertices <vertices>
@@ -50,7 +47,6 @@ hint no-solid
 hint looks-like <kind>
 hint layout
 hint more <more>
-flag-0 <F>
 remove <F>
   same edges face <F>
 body <body> faces <faces> first <F>
@@ -91,9 +87,6 @@ vertex <V> fans <fans> points <points>
   more <more>
 item <entity> <place>
   value <value> found <found>
-  line <line> column <column>
-  text <text>
-  mark <mark>
   due <due>
   why <why>
   entry <entry> <type> form <form>
@@ -110,7 +103,6 @@ solid <solid> closed
 solid <solid> fail <rule> <entity> <place>
 entity <entity> <type>
 entity <entity> <type> surface <surface> <surface_type>
-  lines directory <directory> record <first> <last>
   level <level>
   colour <colour> <red> <green> <blue> <name>
   colour <colour> <red> <green> <blue>
@@ -126,7 +118,7 @@ SHORT = {"<V>": "<list> <index> <x> <y> <z>", "<F>": "<face> <surface_type>"}
 # Heads whose facts are a sentence, for people, but for one; heads that are items of the rule or the hint before them, and so may `more` be; heads
 # with the same facts.
 SENTENCES, UNSAID, HOLDERS, ALIKE = ("bad", "hint", "rule"), "hint more", ("hint", "rule"), {"solid": "entity"}
-ITEMS = ("flag-0", "remove", "body", "rim", "turn", "gap", "edge", "part", "vertex", "item")
+ITEMS = ("remove", "body", "rim", "turn", "gap", "edge", "part", "vertex", "item")
 
 RECORD_RULES, SHELL_RULES = ("ENTRY", "TYPE", "RECORD", "ONCE", "INDEX", "GEOMETRY"), ("JOIN", "PAIR", "REACH", "LINK", "APART")
 FORMS_DUE = "solid form 0|shell form 1|(?:face|loop|edge-list|vertex-list) form 0 1"

@@ -1,25 +1,19 @@
-"""What the checker of `where` takes from docs/WHERE.md: sentences, words for types, and which lines there are. Hints and lines that the page doesn't
-have aren't due."""
-import re
+"""What the checker of `where` takes from docs/WHERE.md and the tables beside it: sentences, words for types, and which lines there are. Hints and
+lines that the page doesn't have aren't due."""
 
 DOC = {}
 
-# The tables of the page whose last cells are sentences, by their titles; the first name in a row's first or second cell is that of the sentence.
-TABLES = "Rule | Sentence", "Reason | Sentence", "Kind", "Hint", "Row"
-NAME = re.compile(r"(?:^|`)(?:hint )?([A-Z]+|[a-z0-9-]{2,})")
+
+def table(path):
+    return [line.split("\t") for line in path.read_text().splitlines()]
 
 
-def sentences(page):
-    """Takes the sentences and the words for types, as the page has them."""
+def sentences(docs):
+    """Takes the sentences, the words for types and the page of this folder."""
     DOC.clear()
-    for title in TABLES:
-        for table in re.findall(rf"(?m)^\| {re.escape(title)} \|?.*\n\|[-|]+\n((?:\|.*\n)+)", page):
-            for row in table.splitlines():
-                first, *cells = row[2:-2].split(" | ")
-                DOC[NAME.search(cells[0] if title == "Row" else first)[1]] = cells[-1]
-    DOC["page"] = page
-    words = page[page.index("## 7.") : page.index("## 8.")]
-    DOC["types"] = {int(kind): word for kind, word in re.findall(r"(\d+) ([a-z-]+)", words)}
+    DOC.update(table(docs / "where_sentences.tsv"))
+    DOC["types"] = {int(kind): word for kind, word in table(docs / "where_types.tsv")}
+    DOC["page"] = (docs / "WHERE.md").read_text()
 
 
 def is_told(words):
