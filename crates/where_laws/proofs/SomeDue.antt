@@ -12,7 +12,7 @@ use Rattle.command_replies.specs.declared.answer.Answer.{Answer}
 use Rattle.command_replies.specs.declared.answer.Answer.TheVariants as answer
 use Rattle.command_replies.specs.Due.{Exactly}
 use Rattle.command_replies.proofs.SomeDue.{IsSome, longer}
-use Rattle.where_solids.specs.Listed.{solids_of}
+use Rattle.where_unjudged.specs.Listed.{solids_of}
 use Rattle.where_solids.specs.Overview.{all_close, overview_text}
 use Rattle.where_command.specs.declared.asked.Asked.{Asked}
 use Rattle.where_command.specs.declared.asked.Asked.TheVariants as asked

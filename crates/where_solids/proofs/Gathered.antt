@@ -2,16 +2,12 @@
 use Rattle.std.specs.Prelude.{◌≡◌, ℕ, zero, suc, ◌+◌, ◌<◌, Bool, List, [], ◌∷◌, ◌++◌, length, map, Some, slice_get, if◌then◌else◌}
 use Rattle.std.proofs.Common.{refl, sym, ap, ◌∙◌, subst, arith, drop, length-append}
 use Rattle.std.proofs.lemmas.Option.{same_Some, slice_get_within}
-use Rattle.iges_base.specs.declared.entry_no.EntryNo.{EntryNo}
-use Rattle.iges_params.specs.Contents.{Contents}
-use Rattle.iges_params.specs.Solids.{numbers_of, solids_of as solid_numbers}
 use Rattle.solid_data.specs.SolidData.{SolidData}
 use Rattle.solid_data.specs.declared.solid.Shell.{Shell}
 use Rattle.solid_faults.specs.Faults.{Faults, AreFaults}
 use Rattle.solid_data.proofs.Members.{split_at}
 use Rattle.where_text.proofs.Steps.{piece_more}
 use Rattle.where_solids.specs.AllFaults.{failing_from, is_failing}
-use Rattle.where_solids.specs.Listed.{numbered, solids_of}
 
 -- what holds of each item of a list, and of one more, holds of each item of the longer list
 pub one_more : {A : Type 0} (P : ℕ → A → Type 0) (xs : List A) (x : A) → ((k : ℕ) (y : A) → slice_get xs k ≡ Some y → P k y) → P (length xs) x
@@ -40,12 +36,3 @@ failing_more xs x k b old new all at is e h =
     piece_more old new (if b then k ∷ [] else []) (failing_from (k + 1) (drop (k + 1) xs)) all
     (ap (λ t. old ++ ((if t then k ∷ [] else []) ++ failing_from (k + 1) (drop (k + 1) xs))) is
     ∙ (ap (λ ys. old ++ failing_from k ys) (sym (split_at xs k x at)) ∙ h)) e
-
--- the solids by their numbers
-numbered_again : (list : List EntryNo) → map numbered (numbers_of list) ≡ list
-numbered_again [] = refl
-numbered_again (n ∷ ns) = ap (λ (ms : List EntryNo). n ∷ ms) (numbered_again ns)
-
-pub solids_are : (f : Contents) (list : List EntryNo) → numbers_of list ≡ solid_numbers f → list ≡ solids_of f
-unfolding solids_of
-solids_are f list is = sym (numbered_again list) ∙ ap (map numbered) is

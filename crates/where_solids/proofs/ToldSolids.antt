@@ -23,7 +23,7 @@ use Rattle.where_text.proofs.Steps.{shown_length}
 use Rattle.where_solids.specs.AllFaults.{AreAllFaults, failing_shells}
 use Rattle.where_entities.specs.Entities.{entities_text}
 use Rattle.where_solids.specs.Hints.{no_solid_hint}
-use Rattle.where_solids.specs.Listed.{solids_of}
+use Rattle.where_unjudged.specs.Listed.{solids_of}
 use Rattle.where_unjudged.specs.Unjudged.{unjudged_text}
 use Rattle.where_solids.specs.Overview.{AreVerdicts, IsOverview, all_close, fails, overview_end, overview_start, overview_text, solid_paragraph}
 use Rattle.where_solids.specs.Lines.{line_at, shells_line, units_line, verdict_line}

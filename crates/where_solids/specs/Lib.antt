@@ -2,7 +2,6 @@ pub mod AllFaults
 pub mod Lines
 pub mod Hints
 pub mod ShellHints
-pub mod Listed
 pub mod ShellTexts
 pub mod Told
 pub mod Overview

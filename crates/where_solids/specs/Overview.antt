@@ -11,7 +11,7 @@ use Rattle.where_text.specs.Spelled.{space_word}
 use Rattle.where_unjudged.specs.Unjudged.{unjudged_text}
 use Rattle.where_solids.specs.Hints.{no_solid_hint}
 use Rattle.where_solids.specs.Lines.{counted, failing_words}
-use Rattle.where_solids.specs.Listed.{solids_of}
+use Rattle.where_unjudged.specs.Listed.{solids_of}
 
 -- at each place the verdict on the solid at that place
 pub record AreVerdicts (f : Contents) (ns : List EntryNo) (vs : List Verdict) : Type 0 where

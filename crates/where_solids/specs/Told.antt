@@ -20,7 +20,7 @@ use Rattle.where_solids.specs.AllFaults.{AreAllFaults, failing_shells}
 use Rattle.where_solids.specs.Hints.{solids_hint}
 use Rattle.where_unjudged.specs.KindHints.{hint_of, shells_hint}
 use Rattle.where_solids.specs.Lines.{units_line, verdict_line}
-use Rattle.where_solids.specs.Listed.{true_solids}
+use Rattle.where_unjudged.specs.Listed.{true_solids}
 use Rattle.where_solids.specs.ShellHints.{IsHint}
 use Rattle.where_solids.specs.ShellTexts.{shell_lines, shell_texts}
 

@@ -23,8 +23,7 @@ const FLAGS: &str =
 
 const SOLIDS: &str = "  The solids of this file are these. Take one of their numbers.\n";
 
-const NO_SOLID: &str =
-    "hint no-solid\n  This file holds no solid (entity 186 of form 0).\n";
+const NO_SOLID: &str = "hint no-solid\n  This file holds no solid (entity 186 of form 0).\n";
 
 // How many of the faces have the flag 0.
 fn unset_in(faces: &[FaceUse]) -> usize
@@ -84,7 +83,12 @@ pub fn pair_fails(all: &AllFaults, shells: &[u32]) -> bool
 
 /// Whether the hint on face flags is given, where an edge of a shell isn't paired or not, and so many faces have the flag 0. It
 /// copies the solid.
-pub fn tells_flags(alloc: Global, solid: &Solid, unpaired: bool, unset: usize) -> Result<bool, NoMemory>
+pub fn tells_flags(
+    alloc: Global,
+    solid: &Solid,
+    unpaired: bool,
+    unset: usize,
+) -> Result<bool, NoMemory>
     ensures { IfOk result (λ b. IsTrue b ↔ (IsTrue unpaired × (0 < unset)
         × IsClosedFlagged solid.now)) }
 {

@@ -5,7 +5,6 @@ mod all_faults;
 mod fault_paragraphs;
 mod hints;
 mod lines;
-mod listed;
 mod overview;
 mod recalling;
 mod record_texts;

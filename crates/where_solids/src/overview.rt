@@ -11,7 +11,6 @@ ghost use Rattle.where_text.specs.Spelled.{space_word};
 use crate::all_faults::all_faults;
 use crate::hints::put_no_solid;
 use crate::lines::{put_count, put_failing};
-use crate::listed::solids;
 use crate::recalling::{Judged, LastNaming, lone_shell, recalled};
 use crate::verdicts::verdict;
 use brep_walk::{WalkFault, Walker};
@@ -21,7 +20,7 @@ use solid_data::Verdict;
 use std::alloc::Global;
 use where_entities::put_entity_facts;
 use where_text::{EntryNumbers, put_number};
-use where_unjudged::put_unjudged;
+use where_unjudged::{put_unjudged, solids};
 
 /// Whether there are solids and all are closed, and a text that speaks of each.
 #[derive(Drop)]

@@ -5,7 +5,6 @@ ghost use Rattle.where_solids.specs.Told.{record_rest, record_start};
 
 use crate::hints::put_solids_hint;
 use crate::lines::put_units;
-use crate::listed::true_solids;
 use iges_fields::{EntryNo, ItemList, NoMemory, Out};
 use iges_params::File;
 use record_paths::Path;
@@ -13,7 +12,7 @@ use solid_data::Failing;
 use std::alloc::Global;
 use where_entities::put_entities;
 use where_records::put_record;
-use where_unjudged::{put_kind_hint, put_shells_hint};
+use where_unjudged::{put_kind_hint, put_shells_hint, true_solids};
 
 /// A rule on records that fails: the number that a solid was looked for at, what fails, and the path to it where the number
 /// names a solid.

@@ -5,3 +5,4 @@ pub mod Lines
 pub mod Hints
 pub mod Unjudged
 pub mod KindHints
+pub mod Listed

@@ -6,10 +6,12 @@ mod counting;
 mod hints;
 mod kind_hints;
 mod lines;
+mod listed;
 mod loose;
 mod marking;
 mod member;
 mod telling;
 
 pub use kind_hints::{put_kind_hint, put_shells_hint};
+pub use listed::{solids, true_solids};
 pub use telling::put_unjudged;

@@ -2,7 +2,7 @@
 
 ghost use Rattle.iges_params.specs.Solids.{numbers_of, solids_of as solid_numbers};
 ghost use Rattle.std.specs.Prelude.{◌≡◌, ◌++◌, ◌∷◌, [], pos, filter, IfOk, OnOk};
-ghost use Rattle.where_solids.specs.Listed.{is_form_0, solids_of, true_solids};
+ghost use Rattle.where_unjudged.specs.Listed.{is_form_0, solids_of, true_solids};
 ghost use Rattle.iges_params.specs.Named.{named};
 ghost use Rattle.iges_base.specs.declared.entry_no.EntryNo.{EntryNo as AnyEntryNo};
 

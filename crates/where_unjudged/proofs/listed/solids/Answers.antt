@@ -2,9 +2,9 @@ use Rattle.std.proofs.Common.{◌≡◌, List}
 use Rattle.std.proofs.lemmas.Result.{IfOk-weaker}
 use Rattle.iges_base.specs.declared.entry_no.EntryNo.{EntryNo}
 use Rattle.iges_params.specs.Solids.{numbers_of, solids_of as solid_numbers}
-use Rattle.where_solids.specs.Listed.{solids_of}
-use Rattle.where_solids.proofs.Gathered.{solids_are}
-use Rattle.where_solids.proofs.listed.solids.Goals as goal
+use Rattle.where_unjudged.specs.Listed.{solids_of}
+use Rattle.where_unjudged.proofs.Numbers.{solids_are}
+use Rattle.where_unjudged.proofs.listed.solids.Goals as goal
 
 pub returns : goal.returns
 returns c =

@@ -1,8 +1,8 @@
 use Rattle.std.proofs.Common.{◌≡◌, ◌++◌, drop, filter, pos}
 use Rattle.iges_base.specs.declared.entry_no.EntryNo.{EntryNo}
 use Rattle.iges_params.specs.Named.{named}
-use Rattle.where_solids.specs.Listed.{is_form_0}
-use Rattle.where_solids.proofs.listed.push_true.Given as goal
+use Rattle.where_unjudged.specs.Listed.{is_form_0}
+use Rattle.where_unjudged.proofs.listed.push_true.Given as goal
 
 abbrev pub invariant-solids : goal.invariant-solids
 invariant-solids l =
