@@ -28,11 +28,11 @@ CHANGED = {"docs/CERTIFICATE.md": 14, "docs/OPEN.md": 7, "docs/ORIENT.md": 7}
 SECTION = re.compile(r"\]\((\w+\.md)\), sections? (\d+(?: and \d+)?)")
 # An edition of where's text, with the checksum of the recorded texts.
 EDITION = re.compile(r"(?m)^\| (\d+) \| .* \| `([0-9a-f]{16})` \|$")
-# A crate with its edits in the table of wrong bodies in docs/DECISIONS.md.
-PLANTED = re.compile(r"`(\w+)`: ([^;|]+)")
 MOST_EDITS = 120
 # A sentence of `where` in a definition, alone or after the line of its hint.
 SAID = re.compile(r'codes "(?:hint [^"\\]*\\n)?((?:  [^" \\][^"\\]*\\n)+)"')
+# A type and its word in a definition.
+TYPE = re.compile(r'\(pos (\d+), codes "([a-z-]+)"\)')
 # What stands for the launcher: it runs the program, or the one of a command, or the command that asks two. `-` is standard input.
 LAUNCHED = """#!/bin/sh
 [ "$1" != check ] || {{ shift; exec python3 -B '{top}/companion/check' --program '{program}' --where-program '{where}' "$@"; }}
@@ -119,13 +119,11 @@ def indexes(top):
 
 
 def edits(top):
-    """Each edit that the table of wrong bodies names is there, and there are no more than the page says."""
-    page = (top / "docs" / "DECISIONS.md").read_text()
-    table = re.search(r"\| Wrong body \| Edits \|\n\|[-|]+\n((?:\|.*\n)+)", page)[1]
-    for crate, names in PLANTED.findall(table):
-        for name in names.strip().split(", "):
-            path = top / "crates" / crate / "must-fail" / f"{name.replace(' ', '_')}.edit"
-            yield f"docs/DECISIONS.md: {crate}: {name}", path.exists()
+    """Each edit of a wrong body that must stay refused is there, and there are no more than the page says."""
+    for line in (top / "docs" / "kept_edits.tsv").read_text().splitlines()[1:]:
+        crate, name, _ = line.split("\t")
+        path = top / "crates" / crate / "must-fail" / f"{name.replace(' ', '_')}.edit"
+        yield f"docs/kept_edits.tsv: {crate}: {name}", path.exists()
     yield "docs/DECISIONS.md: how many edits", len(list(top.glob("crates/*/must-fail/*.edit"))) <= MOST_EDITS
 
 
@@ -138,13 +136,14 @@ def editions(top):
 
 
 def sentences(top):
-    """The sentences of docs/where_sentences.tsv are those in the definitions of `where`."""
-    table = [line.split("\t") for line in (top / "docs" / "where_sentences.tsv").read_text().splitlines()]
+    """The sentences and the words for types in the tables beside docs/WHERE.md are those in the definitions of `where`."""
+    table, types = ([tuple(line.split("\t")) for line in (top / "docs" / f"where_{name}.tsv").read_text().splitlines()] for name in ("sentences", "types"))
     said = {" ".join(it.replace("\\n", " ").split()) for path in top.glob("crates/where_*/specs/*.antt") for it in SAID.findall(path.read_text())}
     for name, sentence in table:
         yield f"docs/where_sentences.tsv: {name}", sentence in said
     for sentence in sorted(said - {sentence for _, sentence in table}):
         yield f"docs/where_sentences.tsv lacks a sentence: {sentence}", False
+    yield "docs/where_types.tsv", types == TYPE.findall((top / "crates" / "where_text" / "specs" / "Types.antt").read_text())
 
 
 def changed_lines(lines, change):

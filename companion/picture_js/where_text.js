@@ -36,7 +36,6 @@ const HEADS = {
   remove: `remove ${SURFACE}`,
   turn: `turn ${SURFACE}`,
   body: `body ${N} faces ${N} first ${SURFACE}`,
-  rim: `rim ${N} edges ${N}`,
   rule: `rule (?<record_rule>${RECORD_RULES}) faults 1|rule (?<rule>${SHELL_RULES}) `
     + `${named({ shell: N, faults: N })}(?: once ${N} same-way ${N} many ${N}| parts ${N})?`,
   item: `item (?<entity>-?${N}) (?<place>${N})`,
@@ -54,8 +53,6 @@ const FACTS = {
     + `|first ${N} item ${N}|list ${N} ${T} items ${N}`
     + `|in (?:solid ${N}|(?:shell|face|loop) ${N} item ${N})`,
   line: `hex(?: [0-9a-f]{2})+|column ${N}|text .*|mark  *\\^+`,
-  remove: `same edges ${FACE}`,
-  rim: `at (?<vertex>${VERTEX})|edge ${N} ${N} ${FACE}|more ${N}`,
   gap: `${FACE}|(?<which>this|next) tuple (?<tuple>${N}) (?:${EDGE} flag (?<flag>[01]) ${CURVE}`
     + `|vertex ${N} ${N})|(?:ends|starts) (?<vertex>${VERTEX})`,
   edge: `${CURVE}|(?:start|end) (?<vertex>${VERTEX})`
@@ -92,7 +89,7 @@ const shapesOf = lines =>
   Object.fromEntries(Object.entries(lines).map(([word, shape]) => [word, new Shape(shape)]));
 const HEAD_SHAPES = shapesOf(HEADS), FACT_SHAPES = shapesOf(FACTS);
 const SENTENCES = ["bad", "hint", "rule"], ITEMS = [
-  "remove", "body", "rim", "turn", "item", "gap", "edge", "part", "vertex",
+  "remove", "body", "turn", "item", "gap", "edge", "part", "vertex",
 ];
 
 /** A line of the text that has none of the shapes. */
