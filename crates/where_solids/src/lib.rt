@@ -3,12 +3,12 @@
 
 mod all_faults;
 mod fault_paragraphs;
+mod hinted_shells;
 mod hints;
 mod lines;
 mod overview;
 mod recalling;
 mod record_texts;
-mod shell_hints;
 mod shell_texts;
 mod telling;
 mod verdicts;
