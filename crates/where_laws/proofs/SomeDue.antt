@@ -34,7 +34,7 @@ due_of q bytes = by_limit (decided_within (length bytes) FILE_LIMIT) (one_readin
     by_limit : Decided (length bytes ≤ FILE_LIMIT) → HasOneReading bytes → IsSome (DueOf q bytes)
     by_limit (inr more) reading = (answer.TooLarge, [], inl (file_too_large (longer (length bytes) FILE_LIMIT more)))
     by_limit (inl few) (inl (f, only, never)) = let due = contents_due q f bytes few only.0 in (due.0, due.1, inr (few, f, only.0, due.2))
-    by_limit (inl few) (inr (fault, only, never)) = (answer.BadFile, bad_file_text fault, inl (bad_file few fault only.0))
+    by_limit (inl few) (inr (fault, only, never)) = (answer.BadFile, bad_file_text bytes fault, inl (bad_file few fault only.0))
 
 pub some_answer : SomeAnswerIsOwed
 some_answer words bytes = by_asked (asked_of words)
