@@ -39,7 +39,7 @@ use Rattle.where_command.specs.declared.asked.Asked.TheVariants as asked
 use Rattle.where_command.specs.Asked.{asked_of, usage_line}
 use Rattle.where_command.specs.Due.{DueOf, OfContents, OfNoFile, OfOverview, OfSolid, answer_to, answer_where, bad_file, bad_file_text, file_too_large}
 use Rattle.where_command.specs.Laws.{OneAnswerIsOwed}
-use Rattle.where_solids.proofs.HintedShells.{all_inside}
+use Rattle.where_solids.proofs.ToldHints.{all_inside}
 use Rattle.where_command.proofs.OneFaults.{one_of_all, same_list}
 use Rattle.where_command.proofs.OneHints.{one_hint}
 

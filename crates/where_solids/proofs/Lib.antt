@@ -4,6 +4,6 @@ pub mod FirstFailing
 pub mod VerdictSteps
 pub mod Counts
 pub mod ToldSolids
-pub mod HintedShells
+pub mod ToldHints
 pub mod SameShells
 pub mod LoneShells

@@ -82,8 +82,7 @@ pub fn pair_fails(all: &AllFaults, shells: &[u32]) -> bool
     false
 }
 
-/// Whether the hint on face flags is given, where an edge of a shell isn't paired or not, and so many faces have the flag 0. It
-/// copies the solid.
+/// Whether the hint on face flags is given, where so many faces have the flag 0. It copies the solid.
 pub fn tells_flags(alloc: Global, solid: &Solid, unpaired: bool, unset: usize) -> Result<bool, NoMemory>
     ensures { IfOk result (λ b. IsTrue b ↔ (IsTrue unpaired × (0 < unset)
         × IsClosedFlagged solid.now)) }

@@ -3,13 +3,13 @@
 
 mod all_faults;
 mod fault_paragraphs;
+mod hinted_shells;
 mod hints;
 mod lines;
 mod listed;
 mod overview;
 mod recalling;
 mod record_texts;
-mod shell_hints;
 mod shell_texts;
 mod telling;
 mod verdicts;

@@ -16,7 +16,7 @@ ghost use Rattle.where_text.specs.Listing.{left_line, shown};
 use crate::all_faults::{AllFaults, all_faults, failing_shells};
 use crate::lines::{put_shells, put_units, put_verdict};
 use crate::record_texts::{FailingRecord, put_record_rest};
-use crate::shell_hints::{HintedSolid, put_hint};
+use crate::hinted_shells::{HintedSolid, put_hint};
 use crate::shell_texts::{ShellTexts, shell_texts};
 use crate::verdicts::verdict;
 use brep_walk::{WalkFault, walk};

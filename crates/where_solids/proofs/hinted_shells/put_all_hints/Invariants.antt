@@ -1,7 +1,7 @@
 use Rattle.std.proofs.Common.{◌≡◌, ◌++◌, drop, flat_map}
 use Rattle.std.specs.Prelude.{zip}
 use Rattle.where_solids.specs.ShellHints.{hint_faces_at, hints_at}
-use Rattle.where_solids.proofs.shell_hints.put_all_hints.Given as goal
+use Rattle.where_solids.proofs.hinted_shells.put_all_hints.Given as goal
 
 abbrev pub invariant-shells : goal.invariant-shells
 invariant-shells l = record {

@@ -1,7 +1,7 @@
 use Rattle.std.proofs.Common.{◌≡◌, ℕ, Some, length, slice_get}
 use Rattle.solid_data.specs.declared.solid.Shell.{Shell}
 use Rattle.where_hints.specs.Facts.{AreHints, Hints}
-use Rattle.where_solids.proofs.shell_hints.all_hints.Given as goal
+use Rattle.where_solids.proofs.hinted_shells.all_hints.Given as goal
 
 abbrev pub invariant-shells : goal.invariant-shells
 invariant-shells l = record {

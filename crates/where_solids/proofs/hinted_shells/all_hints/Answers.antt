@@ -1,8 +1,8 @@
 use Rattle.std.proofs.Common.{get_or}
 use Rattle.std.proofs.lemmas.Option.{slice_get-get_or}
 use Rattle.where_solids.proofs.Gathered.{longer}
-use Rattle.where_solids.proofs.HintedShells.{hints_more}
-use Rattle.where_solids.proofs.shell_hints.all_hints.Goals as goal
+use Rattle.where_solids.proofs.ToldHints.{hints_more}
+use Rattle.where_solids.proofs.hinted_shells.all_hints.Goals as goal
 
 pub shells-preserved : goal.shells-preserved
 shells-preserved c = record {

@@ -103,9 +103,8 @@ fn put_all_hints(
     Ok(())
 }
 
-/// Appends the hint on face flags where edges aren't paired in one of these shells, a face has the flag 0, and with all face
-/// flags 1 the solid is closed; else the hints on each of these shells. The faces that they name join the others that
-/// are named. It copies the solid.
+/// Appends the hint on face flags where it's given, or else the hints on each of these shells. The faces that they name join
+/// the others that are named. It copies the solid.
 pub fn put_hint(
     alloc: Global,
     out: &mut Out,
