@@ -30,7 +30,7 @@ use Rattle.where_text.specs.Listing.{shown}
 use Rattle.where_solids.specs.AllFaults.{AreAllFaults, failing_shells}
 use Rattle.where_solids.specs.Hints.{IsFlagsHint, pair_fails}
 use Rattle.where_solids.specs.Lines.{verdict_line}
-use Rattle.where_solids.specs.Listed.{solids_of}
+use Rattle.where_unjudged.specs.Listed.{solids_of}
 use Rattle.where_solids.specs.Overview.{AreVerdicts, all_close, overview_text}
 use Rattle.where_solids.specs.ShellTexts.{shell_lines, shell_texts}
 use Rattle.where_solids.specs.Told.{IsOfRecords, IsOfShells, IsToldOf, record_rest}
