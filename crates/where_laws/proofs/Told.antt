@@ -4,7 +4,7 @@ use Rattle.std.proofs.Common.{refl, ap, subst, arith, inl, inr}
 use Rattle.std.proofs.lemmas.Option.{same_Some}
 use Rattle.iges_base.specs.declared.entry_no.EntryNo.{EntryNo}
 use Rattle.iges_params.specs.Contents.{Contents}
-use Rattle.iges_params.specs.Made.{FitsLimits}
+use Rattle.iges_params.specs.Limits.{FitsLimits}
 use Rattle.brep_walk.specs.Places.{places}
 use Rattle.brep_walk.specs.SolidOf.{solid_of}
 use Rattle.brep_walk.proofs.Decided.{places_decided}
