@@ -104,7 +104,7 @@ class File:
 
 def _verdicts(text: bytes) -> List[Tuple[int, Verdict]]:
     """The number of each solid and the verdict on it, from the answer of `where FILE`; a fact begins with a space and is left out."""
-    lines = [line for line in text.decode("utf-8", "replace").split("\n") if line and not line.startswith((" ", "hint "))]
+    lines = [line for line in text.decode("utf-8", "replace").split("\n") if line and not line.startswith((" ", "hint ", "unjudged "))]
     found = [VERDICT.fullmatch(line) for line in lines[1:]]
     if not lines or lines[0].split()[:2] != ["solids", str(len(found))] or None in found:
         raise NoProgram("igesolid-where answered what this package doesn't know")
