@@ -3,10 +3,11 @@ use Rattle.std.specs.Prelude.{ℕ, ◌-◌, ◌==◌, ◌&&◌, not, Bool, true,
 use Rattle.iges_lines.specs.declared.fault.LineFault.{LineFault}
 use Rattle.iges_lines.specs.declared.reason.Reason.{Reason}
 use Rattle.iges_lines.specs.declared.reason.Reason.TheVariants as reason
-use Rattle.where_file.specs.declared.look.Look.{Look}
+use Rattle.where_file.specs.declared.look.FileKind.{FileKind}
+use Rattle.where_file.specs.declared.look.LineKind.{LineKind}
 use Rattle.where_file.specs.FileLine.{from_line, has_lf, line_of}
 use Rattle.where_file.specs.LineFacts.{field_of, line_facts, line_head}
-use Rattle.where_file.specs.Looks.{is_of_whole, line_kind, look_text, or_else, whole_kind}
+use Rattle.where_file.specs.Looks.{file_kind_text, is_of_whole, kind_of_file, kind_of_line, line_kind_text}
 
 -- the line that fails, with its facts; nothing where the file ends before it
 unfoldable pub line_text : LineFault → List ℕ → List ℕ
@@ -14,17 +15,19 @@ line_text fault [] = []
 line_text fault (b ∷ bytes) = line_head fault.line (b ∷ bytes) ++ line_facts (field_of fault.reason) (line_of (b ∷ bytes))
 
 -- what the whole file looks like, where its first line fails
-unfoldable pub look_of_whole : LineFault → List ℕ → Option Look
-look_of_whole fault bytes = if fault.line == 1 && is_of_whole fault.reason then whole_kind bytes else None
+unfoldable pub file_kind_of : LineFault → List ℕ → Option FileKind
+file_kind_of fault bytes = if fault.line == 1 && is_of_whole fault.reason then kind_of_file bytes else None
 
 -- what the line looks like that fails, where these are the bytes from it on
-unfoldable pub look_of_line : LineFault → List ℕ → Option Look
-look_of_line fault [] = None
-look_of_line fault (b ∷ bytes) = line_kind fault.reason (not (has_lf (b ∷ bytes))) (line_of (b ∷ bytes))
+unfoldable pub line_kind_of : LineFault → List ℕ → Option LineKind
+line_kind_of fault [] = None
+line_kind_of fault (b ∷ bytes) = kind_of_line fault.reason (not (has_lf (b ∷ bytes))) (line_of (b ∷ bytes))
 
-unfoldable pub look_hint : Option Look → List ℕ
-look_hint None = []
-look_hint (Some look) = look_text look
+-- of the line, where there is none of the file
+unfoldable pub look_hint : Option FileKind → Option LineKind → List ℕ
+look_hint (Some file) line = file_kind_text file
+look_hint None (Some line) = line_kind_text line
+look_hint None None = []
 
 -- a reason of the pass over the lines
 abbrev pub is_of_lines : Reason → Bool
@@ -44,7 +47,7 @@ layout_hint r =
 
 -- the hints, where these are the bytes of the file, and those from the line on
 unfoldable pub bad_hints : LineFault → List ℕ → List ℕ → List ℕ
-bad_hints fault bytes rest = look_hint (or_else (look_of_whole fault bytes) (look_of_line fault rest)) ++ layout_hint fault.reason
+bad_hints fault bytes rest = look_hint (file_kind_of fault bytes) (line_kind_of fault rest) ++ layout_hint fault.reason
 
 -- all
 unfoldable pub bad_file_facts : LineFault → List ℕ → List ℕ

@@ -1,16 +1,16 @@
 //! What is said of a bad file after the sentence of its reason.
 
 ghost use Rattle.std.specs.Prelude.{◌≡◌, ◌++◌, OnOk};
-ghost use Rattle.where_file.specs.BadFile.{bad_file_facts, bad_hints, is_of_lines, layout_hint, line_text, look_hint, look_of_line, look_of_whole};
+ghost use Rattle.where_file.specs.BadFile.{bad_file_facts, bad_hints, is_of_lines, layout_hint, line_text, line_kind_of, look_hint, file_kind_of};
 ghost use Rattle.where_file.specs.Looks.{is_of_whole};
 
 use crate::facts::{put_line_facts, put_line_head};
 use crate::fields::field_of;
 use crate::file_line::{from_line, has_lf, line_of};
-use crate::line_kinds::line_kind;
-use crate::look::Look;
-use crate::texts::put_look;
-use crate::whole::{or_else, whole_kind};
+use crate::line_kinds::kind_of_line;
+use crate::look::{FileKind, LineKind};
+use crate::texts::{put_file_kind, put_line_kind};
+use crate::whole::kind_of_file;
 use iges_fields::{NoMemory, Out};
 use iges_lines::{LineFault, Reason};
 
@@ -34,33 +34,39 @@ fn is_of_whole(reason: Reason) -> bool
     }
 }
 
-#[tactic(auto, unfolding(crate::specs::BadFile::look_of_whole))]
-fn look_of_whole(fault: LineFault, bytes: &[u8]) -> Option<Look>
-    ensures { result ≡ look_of_whole fault bytes.now }
+#[tactic(auto, unfolding(crate::specs::BadFile::file_kind_of))]
+fn file_kind_of(fault: LineFault, bytes: &[u8]) -> Option<FileKind>
+    ensures { result ≡ file_kind_of fault bytes.now }
 {
     if fault.line == 1 && is_of_whole(fault.reason) {
-        return whole_kind(bytes);
+        return kind_of_file(bytes);
     }
     None
 }
 
-#[tactic(auto, unfolding(crate::specs::BadFile::look_of_line))]
-fn look_of_line(fault: LineFault, rest: &[u8]) -> Option<Look>
-    ensures { result ≡ look_of_line fault rest.now }
+#[tactic(auto, unfolding(crate::specs::BadFile::line_kind_of))]
+fn line_kind_of(fault: LineFault, rest: &[u8]) -> Option<LineKind>
+    ensures { result ≡ line_kind_of fault rest.now }
 {
     if rest.is_empty() {
         return None;
     }
-    line_kind(fault.reason, line_of(rest), !has_lf(rest))
+    kind_of_line(fault.reason, line_of(rest), !has_lf(rest))
 }
 
+// The hint on the line, where there is none on the file.
 #[tactic(auto, unfolding(crate::specs::BadFile::look_hint))]
-fn put_look_hint(out: &mut Out, look: Option<Look>) -> Result<(), NoMemory>
-    ensures { OnOk result (out.new ≡ out.old ++ look_hint look) }
+fn put_look_hint(
+    out: &mut Out,
+    file: Option<FileKind>,
+    line: Option<LineKind>,
+) -> Result<(), NoMemory>
+    ensures { OnOk result (out.new ≡ out.old ++ look_hint file line) }
 {
-    match look {
-        Some(look) => put_look(out, look),
-        None => Ok(()),
+    match (file, line) {
+        (Some(kind), _) => put_file_kind(out, kind),
+        (None, Some(kind)) => put_line_kind(out, kind),
+        (None, None) => Ok(()),
     }
 }
 
@@ -92,8 +98,7 @@ fn put_layout_hint(out: &mut Out, reason: Reason) -> Result<(), NoMemory>
 fn put_hints(out: &mut Out, fault: LineFault, bytes: &[u8], rest: &[u8]) -> Result<(), NoMemory>
     ensures { OnOk result (out.new ≡ out.old ++ bad_hints fault bytes.now rest.now) }
 {
-    let look = or_else(look_of_whole(fault, bytes), look_of_line(fault, rest));
-    put_look_hint(out, look)?;
+    put_look_hint(out, file_kind_of(fault, bytes), line_kind_of(fault, rest))?;
     put_layout_hint(out, fault.reason)
 }
 

@@ -12,4 +12,4 @@ mod whole;
 
 pub use bad_file::put_bad_file;
 pub use fields::Field;
-pub use look::Look;
+pub use look::{FileKind, LineKind};

@@ -1,10 +1,9 @@
 //! What was done to a line that fails, by its bytes.
 
 ghost use Rattle.std.specs.Prelude.{◌≡◌, ◌≤◌, count_by, length, slice_index};
-ghost use Rattle.where_file.specs.Looks.{are_end_marks, are_spaces, are_zeros, begins_character, behind_end, first_holding, has_carriage_return, has_other_byte, has_tab, in_bytes, in_length, in_letters, is_long_in_utf_8, is_lower, is_unbroken, line_kind};
+ghost use Rattle.where_file.specs.Looks.{are_end_marks, are_spaces, are_zeros, begins_character, behind_end, first_holding, has_carriage_return, has_other_byte, has_tab, in_bytes, in_length, in_letters, is_long_in_utf_8, is_lower, is_unbroken, kind_of_line};
 
-use crate::look::Look;
-use crate::whole::or_else;
+use crate::look::LineKind;
 use iges_lines::Reason;
 
 fn byte_at(line: &[u8], i: usize) -> u8
@@ -94,70 +93,70 @@ fn is_lower(b: u8) -> bool
     b == b's' || b == b'g' || b == b'd' || b == b'p' || b == b't'
 }
 
-fn behind_end(line: &[u8]) -> Option<Look>
+fn behind_end(line: &[u8]) -> Option<LineKind>
     ensures { result ≡ first_holding (behind_end line.now) }
 {
     if are_end_marks(line) {
-        Some(Look::ControlZ)
+        Some(LineKind::ControlZ)
     } else if are_zeros(line) {
-        Some(Look::Nuls)
+        Some(LineKind::Nuls)
     } else if line.len() == 80 && byte_at(line, 72) == b'S' {
-        Some(Look::SecondFile)
+        Some(LineKind::SecondFile)
     } else {
         None
     }
 }
 
-fn in_letters(line: &[u8]) -> Option<Look>
+fn in_letters(line: &[u8]) -> Option<LineKind>
     ensures { result ≡ first_holding (in_letters line.now) }
 {
     if is_lower(byte_at(line, 72)) {
-        return Some(Look::LowerCase);
+        return Some(LineKind::LowerCase);
     }
     None
 }
 
-fn in_bytes(line: &[u8]) -> Option<Look>
+fn in_bytes(line: &[u8]) -> Option<LineKind>
     ensures { result ≡ first_holding (in_bytes line.now) }
 {
     if is_unbroken(line) {
-        Some(Look::NoLineEnds)
+        Some(LineKind::NoLineEnds)
     } else if line.len() == 81 && byte_at(line, 80) == b'\r' {
-        Some(Look::TwoCrs)
+        Some(LineKind::TwoCrs)
     } else if has_carriage_return(line) {
-        Some(Look::CrAlone)
+        Some(LineKind::CrAlone)
     } else if has_tab(line) {
-        Some(Look::Tabs)
+        Some(LineKind::Tabs)
     } else if is_long_in_utf_8(line) {
-        Some(Look::Utf8)
+        Some(LineKind::Utf8)
     } else {
         None
     }
 }
 
-fn in_length(line: &[u8], is_last: bool) -> Option<Look>
+fn in_length(line: &[u8], is_last: bool) -> Option<LineKind>
     ensures { result ≡ first_holding (in_length is_last line.now) }
 {
     if line.len() == 72 {
-        Some(Look::NoNumbers)
+        Some(LineKind::NoNumbers)
     } else if are_spaces(line) {
-        Some(Look::Blank)
+        Some(LineKind::Blank)
     } else if is_last && line.len() < 80 {
-        Some(Look::CutOff)
+        Some(LineKind::CutOff)
     } else {
         None
     }
 }
 
 /// What was done to a line, without its end, by the reason for which it fails. It is the last where LF doesn't end it.
-#[tactic(auto, unfolding(crate::specs::Looks::line_kind))]
-pub fn line_kind(reason: Reason, line: &[u8], is_last: bool) -> Option<Look>
-    ensures { result ≡ line_kind reason is_last line.now }
+#[tactic(auto, unfolding(crate::specs::Looks::kind_of_line))]
+pub fn kind_of_line(reason: Reason, line: &[u8], is_last: bool) -> Option<LineKind>
+    ensures { result ≡ kind_of_line reason is_last line.now }
 {
     match reason {
         Reason::After => behind_end(line),
         Reason::Letter => in_letters(line),
-        Reason::Length => or_else(in_bytes(line), in_length(line, is_last)),
+        Reason::Length => in_bytes(line).or(in_length(line, is_last)),
         _ => None,
     }
 }

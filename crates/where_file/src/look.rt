@@ -1,8 +1,8 @@
 //! What a bad file, or the line of it that fails, looks like.
 
-/// A kind of file that isn't one of IGES, or what was done to the line that fails.
+/// A kind of file that isn't one of IGES, told by its first bytes.
 #[derive(Clone, Copy, Debug, PartialEq, Eq)]
-pub enum Look {
+pub enum FileKind {
     Empty,
     Gzip,
     Zip,
@@ -16,6 +16,11 @@ pub enum Look {
     Stl,
     Step,
     Markup,
+}
+
+/// What was done to the line that fails.
+#[derive(Clone, Copy, Debug, PartialEq, Eq)]
+pub enum LineKind {
     ControlZ,
     Nuls,
     SecondFile,

@@ -2,9 +2,9 @@
 
 ghost use Rattle.std.specs.List.{prefix_len};
 ghost use Rattle.std.specs.Prelude.{◌≡◌, ◌≤◌, length, take};
-ghost use Rattle.where_file.specs.Looks.{begins, first_holding, first_word, is_blank_byte, is_brep, is_certificate, of_nothing, of_systems, of_words, or_else, packed, whole_kind};
+ghost use Rattle.where_file.specs.Looks.{begins, first_holding, first_word, is_blank_byte, is_brep, is_certificate, of_nothing, of_systems, of_words, packed, kind_of_file};
 
-use crate::look::Look;
+use crate::look::FileKind;
 
 fn begins(bytes: &[u8], start: &[u8]) -> bool
     ensures { result ≡ begins bytes.now start.now }
@@ -47,29 +47,29 @@ fn first_word(bytes: &[u8], count: usize) -> &[u8]
     &front[blank_len(front)..]
 }
 
-fn of_nothing(bytes: &[u8]) -> Option<Look>
+fn of_nothing(bytes: &[u8]) -> Option<FileKind>
     ensures { result ≡ first_holding (of_nothing bytes.now) }
 {
     if bytes.is_empty() {
-        Some(Look::Empty)
+        Some(FileKind::Empty)
     } else {
         None
     }
 }
 
-fn packed(bytes: &[u8]) -> Option<Look>
+fn packed(bytes: &[u8]) -> Option<FileKind>
     ensures { result ≡ first_holding (packed bytes.now) }
 {
     if begins(bytes, &[31, 139]) {
-        Some(Look::Gzip)
+        Some(FileKind::Gzip)
     } else if begins(bytes, &[80, 75, 3, 4]) {
-        Some(Look::Zip)
+        Some(FileKind::Zip)
     } else if begins(bytes, b"%PDF") {
-        Some(Look::Pdf)
+        Some(FileKind::Pdf)
     } else if begins(bytes, &[255, 254]) || begins(bytes, &[254, 255]) {
-        Some(Look::Utf16)
+        Some(FileKind::Utf16)
     } else if begins(bytes, &[239, 187, 191]) {
-        Some(Look::ByteOrderMark)
+        Some(FileKind::ByteOrderMark)
     } else {
         None
     }
@@ -87,52 +87,42 @@ fn is_brep(bytes: &[u8]) -> bool
     begins(bytes, b"DBRep_DrawableShape") || begins(bytes, b"CASCADE Topology")
 }
 
-fn of_systems(bytes: &[u8]) -> Option<Look>
+fn of_systems(bytes: &[u8]) -> Option<FileKind>
     ensures { result ≡ first_holding (of_systems bytes.now) }
 {
     if is_certificate(bytes) {
-        Some(Look::Certificate)
+        Some(FileKind::Certificate)
     } else if is_brep(bytes) {
-        Some(Look::Brep)
+        Some(FileKind::Brep)
     } else if begins(bytes, b"**ABCDEFGHIJ") {
-        Some(Look::Parasolid)
+        Some(FileKind::Parasolid)
     } else if begins(bytes, b"AC10") {
-        Some(Look::Dwg)
+        Some(FileKind::Dwg)
     } else if begins(bytes, b"solid ") {
-        Some(Look::Stl)
+        Some(FileKind::Stl)
     } else {
         None
     }
 }
 
-fn of_words(word: &[u8]) -> Option<Look>
+fn of_words(word: &[u8]) -> Option<FileKind>
     ensures { result ≡ first_holding (of_words word.now) }
 {
     if begins(word, b"ISO-10303-21") {
-        Some(Look::Step)
+        Some(FileKind::Step)
     } else if begins(word, b"<") {
-        Some(Look::Markup)
+        Some(FileKind::Markup)
     } else {
         None
-    }
-}
-
-/// The first of two that is there.
-pub fn or_else(one: Option<Look>, other: Option<Look>) -> Option<Look>
-    ensures { result ≡ or_else one other }
-{
-    match one {
-        Some(look) => Some(look),
-        None => other,
     }
 }
 
 /// The kind of a file that isn't one of IGES, by its first bytes.
-#[tactic(auto, unfolding(crate::specs::Looks::whole_kind))]
-pub fn whole_kind(bytes: &[u8]) -> Option<Look>
-    ensures { result ≡ whole_kind bytes.now }
+#[tactic(auto, unfolding(crate::specs::Looks::kind_of_file))]
+pub fn kind_of_file(bytes: &[u8]) -> Option<FileKind>
+    ensures { result ≡ kind_of_file bytes.now }
 {
     let by_word = of_words(first_word(bytes, 4096));
-    let by_start = or_else(packed(bytes), or_else(of_systems(bytes), by_word));
-    or_else(of_nothing(bytes), by_start)
+    let by_start = packed(bytes).or(of_systems(bytes).or(by_word));
+    of_nothing(bytes).or(by_start)
 }
