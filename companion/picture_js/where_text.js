@@ -36,6 +36,7 @@ const HEADS = {
   remove: `remove ${SURFACE}`,
   turn: `turn ${SURFACE}`,
   body: `body ${N} faces ${N} first ${SURFACE}`,
+  rim: `rim ${N} edges ${N}`,
   rule: `rule (?<record_rule>${RECORD_RULES}) faults 1|rule (?<rule>${SHELL_RULES}) `
     + `${named({ shell: N, faults: N })}(?: once ${N} same-way ${N} many ${N}| parts ${N})?`,
   item: `item (?<entity>-?${N}) (?<place>${N})`,
@@ -48,6 +49,8 @@ const HEADS = {
   entity: `entity (?<entity>${N}) (?<type>${T})(?: surface (?<surface>${N}) ${T})?`,
 };
 const FACTS = {
+  remove: `same edges ${FACE}`,
+  rim: `at (?<vertex>${VERTEX})|${EDGE} ${FACE}|more ${N}`,
   item: `value (?<value>${N}) found (?<found>.*)|due (?:${FORMS_DUE}|${VALUES_DUE})`
     + `|why (?:zero|negative|even|beyond|null)|entry ${N} ${T} form -?${N}|values ${N}`
     + `|first ${N} item ${N}|list ${N} ${T} items ${N}`
@@ -89,7 +92,7 @@ const shapesOf = lines =>
   Object.fromEntries(Object.entries(lines).map(([word, shape]) => [word, new Shape(shape)]));
 const HEAD_SHAPES = shapesOf(HEADS), FACT_SHAPES = shapesOf(FACTS);
 const SENTENCES = ["bad", "hint", "rule"], ITEMS = [
-  "remove", "body", "turn", "item", "gap", "edge", "part", "vertex",
+  "remove", "body", "rim", "turn", "item", "gap", "edge", "part", "vertex",
 ];
 
 /** A line of the text that has none of the shapes. */

@@ -27,6 +27,8 @@ shell <shell> entity <entity> flag <flag> faces <faces> edges <edges> vertices <
 hint face-flags faces <faces>
 hint stray-faces shell <shell> faces <faces> of <of>
 hint bodies shell <shell> pieces <pieces>
+hint doubled-faces shell <shell> faces <faces>
+hint missing-faces shell <shell> edges <edges> rims <rims>
 hint turned shell <shell> faces <faces> of <of>
 hint touching shell <shell> edges <edges>
 hint crowded shell <shell> edges <edges>
@@ -46,6 +48,11 @@ hint looks-like <kind>
 hint layout
 hint more <more>
 remove <F>
+  same edges face <F>
+rim <rim> edges <edges>
+  at <V>
+  edge <list> <index> face <F>
+  more <more>
 body <body> faces <faces> first <F>
 turn <F>
 rule <rule> shell <shell> faults <faults> once <once> same-way <same_way> many <many>
@@ -111,7 +118,7 @@ SHORT = {"<V>": "<list> <index> <x> <y> <z>", "<F>": "<face> <surface_type>"}
 # Heads whose facts are a sentence, for people, but for one; heads that are items of the rule or the hint before them, and so may `more` be; heads
 # with the same facts.
 SENTENCES, UNSAID, HOLDERS, ALIKE = ("bad", "hint", "rule"), "hint more", ("hint", "rule"), {"solid": "entity"}
-ITEMS = ("remove", "body", "turn", "gap", "edge", "part", "vertex", "item")
+ITEMS = ("remove", "rim", "body", "turn", "gap", "edge", "part", "vertex", "item")
 
 RECORD_RULES, SHELL_RULES = ("ENTRY", "TYPE", "RECORD", "ONCE", "INDEX", "GEOMETRY"), ("JOIN", "PAIR", "REACH", "LINK", "APART")
 FORMS_DUE = "solid form 0|shell form 1|(?:face|loop|edge-list|vertex-list) form 0 1"

@@ -212,8 +212,7 @@ def missing_hints(view, text):
     if edges and passes_open(view.solid, view.shell):
         rims = rims_of(view)
         items = [rim_item(view, text, place, rim) for place, rim in enumerate(rims, 1)]
-        has_rims = is_told("rim <rim>")
-        yield Hint("missing-faces", f" edges {len(edges)}" + f" rims {len(rims)}" * has_rims, items * has_rims)
+        yield Hint("missing-faces", f" edges {len(edges)} rims {len(rims)}", items if is_told("rim <rim>") else [])
 
 
 def rim_item(view, text, place, rim):
