@@ -1,5 +1,5 @@
 """Random files of one solid of unit squares on a lattice, harmed as CAD files are: squares left out, doubled or turned, walls inside, bodies
-that touch, faces that aren't sewn. So most faults of shells are in many of them."""
+that touch, faces that aren't sewn. So most hints of `where` are due in many of them."""
 import itertools
 
 from surfaces import LINE, PLANE, Entries

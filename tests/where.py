@@ -31,7 +31,7 @@ def has_shape(text, sentences):
     """Whether each line of a text has one of the shapes of the package's table, in its place; the package is imported in this part's process alone."""
     sys.path.insert(0, str(TOP / "python"))
     from igesolid.where import paragraphs
-    from igesolid.where_lines import SENTENCES, NotUnderstood
+    from igesolid.where_lines import SENTENCES, UNSAID, NotUnderstood
 
     try:
         found = list(paragraphs(text.decode("latin-1").split("\n")))
@@ -39,7 +39,7 @@ def has_shape(text, sentences):
         return False
     finally:
         del sys.path[0]
-    said = [it.sentence for it in found if it.word in SENTENCES]
+    said = [it.sentence for it in found if it.word in SENTENCES and it.shape.words != UNSAID]
     is_whole = text.endswith(b"\n") and found[0].word in FIRST_WORDS and not any(it.word in FIRST_WORDS for it in found[1:])
     return is_whole and sentences.issuperset(said)
 

@@ -49,13 +49,13 @@ def of_shape(lines, shape, more, required=()):
 
 def of_head(lines, shape, more):
     if not has_sentence(lines, shape.words):
-        return of_shape(lines, shape, more)
+        return of_shape(lines, shape, {name: it for name, it in more.items() if name != "items" or shape.words != lines.UNSAID})
     return of_shape(lines, shape, {**more, "sentence": {"type": "string"}}, ["sentence"])
 
 
 def has_sentence(lines, words):
     """Whether a head line of these fixed words has a sentence."""
-    return words.split(" ")[0] in lines.SENTENCES
+    return words.split(" ")[0] in lines.SENTENCES and words != lines.UNSAID
 
 
 def list_of(name):
@@ -69,11 +69,11 @@ def schema(where_json, lines):
         definitions[f"fact of {word}"] = {"anyOf": [of_shape(lines, shape, {}) for shape in shapes]}
     for word, shapes in lines.HEADS.items():
         more = {"facts": list_of(f"fact of {word}")} if word in lines.FACTS else {}
-        if word == lines.HOLDER:
-            more["items"] = list_of("item of a rule")
+        if word in lines.HOLDERS:
+            more["items"] = list_of("item of a rule or a hint")
         definitions[word] = {"anyOf": [of_head(lines, shape, more) for shape in shapes]}
     named = lambda words: {"anyOf": [{"$ref": f"#/$defs/{word}"} for word in words]}
-    definitions["item of a rule"] = named((*lines.ITEMS, "more"))
+    definitions["item of a rule or a hint"] = named((*lines.ITEMS, "more"))
     definitions["head line"] = named(word for word in lines.HEADS if word not in lines.ITEMS)
     whole = {"schema": {"const": where_json.SCHEMA}, "lines": list_of("head line")}
     about = {"$schema": "https://json-schema.org/draft/2020-12/schema", "title": "What igesolid where --json prints"}
@@ -100,6 +100,12 @@ def on_page():
     page, heads, facts = (TOP / "docs" / "WHERE.md").read_text(), {}, {}
     for first, *_ in rows(page, "Hint"):
         heads.update((hint, True) for hint in quoted(first))
+    for _, told, *_ in rows(page, "Row"):
+        hint, *items = told.split("; ")
+        heads.update((it, True) for it in quoted(hint))
+        for head, *own in map(quoted, items):
+            heads[head] = False
+            facts.setdefault(head.split()[0], []).extend(own)
     for first, own, *_ in (*rows(page, "Item"), *rows(page, "Head line")):
         for head in quoted(first):
             heads[head] = own == "a sentence"

@@ -38,9 +38,10 @@ function showChosen(faults, fault) {
     it.box.classList.toggle("chosen", it === fault);
     it.button.setAttribute("aria-expanded", String(it === fault));
   }
-  if (fault) fault.box.scrollIntoView({ block: "nearest" });
+  if (fault && fault.box) fault.box.scrollIntoView({ block: "nearest" });
+  const name = fault && fault.number ? `Fault ${fault.number}: ` : "";
   const meaning = fault && fault.says ? `, ${fault.says}` : "";
-  find("spoken").textContent = fault ? `Fault ${fault.number}: ${fault.head}${meaning}` : "";
+  find("spoken").textContent = fault ? name + fault.head + meaning : "";
 }
 
 /** Before paper and after it: light colours, and the whole picture at once. */

@@ -8,7 +8,9 @@ import { Solid } from "./solid.js";
 import { answerOf, factsOf, ruleName } from "./where_text.js";
 
 /** At most so many faults of a rule are listed, facts of a fault, lines of the text. */
-const MOST_LISTED = 300, MOST_FACTS = 100, MOST_LINES = 3000;
+const MOST_LISTED = 300, MOST_FACTS = 100, MOST_LINES = 3000, MOST_FACES = 20;
+/** The items of hints that name the faces to look at. */
+const OF_FACES = ["remove", "turn"];
 const AROUND = 6, LONGEST = 200;
 const COUNTED = {
   JOIN: ["gap in a loop", "gaps in loops"],
@@ -146,10 +148,15 @@ function ruleOf(rule, first, picture, answer) {
   return { name, head: rule.text, sentence: rule.sentence, faults, more };
 }
 
-/** The hints of the text. */
-function hintsOf(answer) {
-  return answer.hints
-    .map(it => ({ head: it.text.slice(it.text.indexOf(" ") + 1), sentence: it.sentence }));
+/** The hints of the text, with the faces that they name, if these aren't too many to be shown. */
+function hintsOf(answer, picture) {
+  return answer.hints.map(it => {
+    const named = it.items.filter(item => OF_FACES.includes(item.word));
+    const shown = picture && named.length <= MOST_FACES ? named : [];
+    const faces = shown.map((item, k) => [picture.faces.get(Number(item.told.face)), k]);
+    for (const [face] of faces) face.facts = factsOf(answer, face.entity);
+    return { head: it.text.slice(it.text.indexOf(" ") + 1), sentence: it.sentence, faces };
+  });
 }
 
 function fewLines(text) {
@@ -197,7 +204,7 @@ export function sceneOf(title, number, text, bytes) {
   const { flag, unit } = answer.units ? answer.units.told : { flag: "-", unit: "-" };
   return {
     title, verdict: answer.verdict.text, kind: answer.verdict.word, says: summaryOf(answer), notes,
-    rules: rulesOf(answer, picture), hints: hintsOf(answer), excerpt, picture,
+    rules: rulesOf(answer, picture), hints: hintsOf(answer, picture), excerpt, picture,
     shells: shellsOf(answer, solid), text: fewLines(text), unit: UNITS[flag] || (unit === "-" ? "" : unit),
   };
 }

@@ -46,9 +46,16 @@ function faultBox(fault, choose) {
   return box;
 }
 
-function hintBox(hint) {
+function hintBox(hint, choose) {
   const box = make("div", "hint");
   box.append(make("code", "", hint.head), hint.sentence);
+  if (hint.faces.length) {
+    const shown =
+      { ...hint, facts: [], edges: [], vertices: [], arrows: [], spokes: [], rule: "", number: 0 };
+    const button = make("button", "", "Show these faces");
+    button.onclick = () => choose(shown);
+    box.append(make("br"), button);
+  }
   return box;
 }
 
@@ -78,7 +85,7 @@ export function fillSide(scene, choose) {
   if (scene.shells.length > 20)
     find("shells").append(make("li", "", `and ${scene.shells.length - 20} shells more`));
   scene.notes.forEach(addNote);
-  for (const hint of scene.hints) find("hints").append(hintBox(hint));
+  for (const hint of scene.hints) find("hints").append(hintBox(hint, choose));
   for (const rule of scene.rules) addRule(rule, choose);
 }
 

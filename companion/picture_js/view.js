@@ -333,7 +333,7 @@ export class View {
       const at = this.picture.points[vertex] && camera.project(this.picture.points[vertex]);
       if (at) labels.cover(at[0] - 8, at[1] - 8, 16, 16);
     }
-    if (spot) {
+    if (spot && chosen.number) {
       const at = camera.project(spot);
       labels.add(at, `${chosen.number}  ${shortHead(chosen)}`, colours().red,
         this.awayFrom(at, chosen), chosen);

@@ -33,6 +33,10 @@ const HEADS = {
   shells: named({ shells: N, failing: N }),
   shell: named({ shell: N, ...COUNTS }),
   hint: `hint (?<hint>[a-z-]+)(?: [a-z0-9-]+)*`,
+  remove: `remove ${SURFACE}`,
+  turn: `turn ${SURFACE}`,
+  body: `body ${N} faces ${N} first ${SURFACE}`,
+  rim: `rim ${N} edges ${N}`,
   rule: `rule (?<record_rule>${RECORD_RULES}) faults 1|rule (?<rule>${SHELL_RULES}) `
     + `${named({ shell: N, faults: N })}(?: once ${N} same-way ${N} many ${N}| parts ${N})?`,
   item: `item (?<entity>-?${N}) (?<place>${N})`,
@@ -45,6 +49,8 @@ const HEADS = {
   entity: `entity (?<entity>${N}) (?<type>${T})(?: surface (?<surface>${N}) ${T})?`,
 };
 const FACTS = {
+  remove: `same edges ${FACE}`,
+  rim: `at (?<vertex>${VERTEX})|${EDGE} ${FACE}|more ${N}`,
   item: `value (?<value>${N}) found (?<found>.*)|due (?:${FORMS_DUE}|${VALUES_DUE})`
     + `|why (?:zero|negative|even|beyond|null)|entry ${N} ${T} form -?${N}|values ${N}`
     + `|first ${N} item ${N}|list ${N} ${T} items ${N}`
@@ -85,7 +91,9 @@ class Shape {
 const shapesOf = lines =>
   Object.fromEntries(Object.entries(lines).map(([word, shape]) => [word, new Shape(shape)]));
 const HEAD_SHAPES = shapesOf(HEADS), FACT_SHAPES = shapesOf(FACTS);
-const SENTENCES = ["bad", "hint", "rule"], ITEMS = ["item", "gap", "edge", "part", "vertex"];
+const SENTENCES = ["bad", "hint", "rule"], ITEMS = [
+  "remove", "body", "rim", "turn", "item", "gap", "edge", "part", "vertex",
+];
 
 /** A line of the text that has none of the shapes. */
 export class NotUnderstood extends Error {}
@@ -125,15 +133,15 @@ function paragraphs(lines) {
   return found;
 }
 
-/** Puts a paragraph to its place in an answer; an item to the rule before it. */
+/** Puts a paragraph to its place in an answer; an item to the rule or the hint before it. */
 function take(answer, it) {
-  const rule = answer.rules[answer.rules.length - 1];
+  const holder = answer.rules[answer.rules.length - 1] || answer.hints[answer.hints.length - 1];
   if (it.word === "units" || it.word === "shells") answer[it.word] = it;
   else if (it.word === "shell") answer.failing.push(it);
   else if (it.word === "hint") answer.hints.push(it);
   else if (it.word === "rule") answer.rules.push(it);
-  else if (ITEMS.includes(it.word) && rule) rule.items.push(it);
-  else if (it.word === "more" && rule) rule.more = Number(it.told.more);
+  else if (ITEMS.includes(it.word) && holder) holder.items.push(it);
+  else if (it.word === "more" && holder) holder.more = Number(it.told.more);
   else if (it.word === "entity") answer.entities.set(Number(it.told.entity), it);
 }
 

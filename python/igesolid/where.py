@@ -2,7 +2,7 @@
 from dataclasses import dataclass, field
 from typing import Dict, Iterable, Iterator, List, Optional, Tuple
 
-from .where_lines import FACTS, HEADS, HOLDER, ITEMS, SENTENCES, NotUnderstood, Shape, read_line
+from .where_lines import FACTS, HEADS, HOLDERS, ITEMS, SENTENCES, UNSAID, NotUnderstood, Shape, read_line
 
 
 @dataclass
@@ -35,15 +35,11 @@ class Paragraph(Line):
 
 
 @dataclass
-class Rule(Paragraph):
-    """A rule that fails, of a shell or of a record, with its items; `more` is how many further ones there are."""
+class Holder(Paragraph):
+    """A paragraph with items; `more` is how many further ones there are."""
 
     items: List[Paragraph] = field(default_factory=list)
     more: int = 0
-
-    @property
-    def name(self) -> str:
-        return self.told["rule"]
 
     @property
     def shell(self) -> Optional[int]:
@@ -51,15 +47,24 @@ class Rule(Paragraph):
 
 
 @dataclass
-class Hint(Paragraph):
-    """A hint on the solid or the file."""
+class Rule(Holder):
+    """A rule that fails, of a shell or of a record, with its items."""
+
+    @property
+    def name(self) -> str:
+        return self.told["rule"]
+
+
+@dataclass
+class Hint(Holder):
+    """A hint, of a shell or of the file; its items are what it names."""
 
     @property
     def name(self) -> str:
         return self.text.split(" ")[1]
 
 
-KINDS = {"rule": Rule, "hint": Hint}
+KINDS_OF_HOLDERS = {"rule": Rule, "hint": Hint}
 
 
 @dataclass
@@ -77,7 +82,7 @@ class Parts:
 
 
 class Where(str):
-    """The text of `where`, and what it tells: `rules`, each with its items and their facts; `hints`; the shells that fail; entities.
+    """The text of `where`, and what it tells: `rules` and `hints`, each with its items and their facts; the shells that fail; entities.
 
     It is read when the first of these is asked for, and a text of another shape raises `NotUnderstood` then."""
 
@@ -135,7 +140,7 @@ def paragraphs(lines: Iterable[str]) -> Iterator[Paragraph]:
     for line in lines:
         if line.startswith("  ") and last is not None:
             text = line[2:]
-            if last.word in SENTENCES:
+            if last.word in SENTENCES and last.shape.words != UNSAID:
                 last.sentence += f" {text}" if last.sentence else text
             else:
                 last.facts.append(Line(text, *read_line(FACTS, last.word, text)))
@@ -143,14 +148,14 @@ def paragraphs(lines: Iterable[str]) -> Iterator[Paragraph]:
             if last is not None:
                 yield last
             word = line.split(" ", 1)[0]
-            last = KINDS.get(word, Paragraph)(line, *read_line(HEADS, word, line))
+            last = KINDS_OF_HOLDERS.get(word, Paragraph)(line, *read_line(HEADS, word, line))
     if last is not None:
         yield last
 
 
 def is_item(it: Paragraph, holder: Optional[str]) -> bool:
-    """Whether a paragraph belongs to the rule before it: `holder` is the first word of the last head line that is no item."""
-    return it.word in ITEMS or it.word == "more" and holder == HOLDER
+    """Whether a paragraph belongs to the rule or the hint before it: `holder` is the first word of the last head line that is no item."""
+    return it.word in ITEMS or it.word == "more" and holder in HOLDERS
 
 
 def _put(parts: Parts, it: Paragraph) -> None:
@@ -172,7 +177,7 @@ def _put(parts: Parts, it: Paragraph) -> None:
 
 
 def _put_item(holder: Paragraph, it: Paragraph) -> None:
-    if not isinstance(holder, Rule):
+    if not isinstance(holder, Holder):
         raise NotUnderstood(f"the text of igesolid-where has an item of nothing: {it.text}")
     if it.word == "more":
         holder.more = it.number("more")

@@ -41,7 +41,7 @@ def _object(line: Line) -> Object:
 
 
 def told_by(text: str) -> Object:
-    """What a text tells: an object for each head line, with its facts or its sentence; items are in the rule before them."""
+    """What a text tells: an object for each head line, with its facts or its sentence; items are in the rule or the hint before them."""
     lines: List[Object] = []
     last: Optional[str] = None
     for it in paragraphs(text.split("\n")):

@@ -25,6 +25,17 @@ units <unit_flag> <unit>
 shells <shells> failing <failing>
 shell <shell> entity <entity> flag <flag> faces <faces> edges <edges> vertices <vertices> JOIN <JOIN> PAIR <PAIR> REACH <REACH> LINK <LINK> APART <APART>
 hint face-flags faces <faces>
+hint stray-faces shell <shell> faces <faces> of <of>
+hint bodies shell <shell> pieces <pieces>
+hint doubled-faces shell <shell> faces <faces>
+hint extra-faces shell <shell> faces <faces> of <of>
+hint unsewn shell <shell> edges <edges> alike <alike> gaps <gaps>
+hint missing-faces shell <shell> edges <edges> rims <rims>
+hint turned shell <shell> faces <faces> of <of>
+hint touching shell <shell> edges <edges>
+hint crowded shell <shell> edges <edges>
+hint pinch shell <shell> vertices <vertices>
+hint touching-shells shell <shell> vertices <vertices>
 hint other-form form <form>
 hint shell
 hint solids <numbers> more <more>
@@ -37,6 +48,15 @@ hint other-solids
 hint no-solid
 hint looks-like <kind>
 hint layout
+hint more <more>
+remove <F>
+  same edges face <F>
+rim <rim> edges <edges>
+  at <V>
+  edge <list> <index> face <F>
+  more <more>
+body <body> faces <faces> first <F>
+turn <F>
 rule <rule> shell <shell> faults <faults> once <once> same-way <same_way> many <many>
 rule <rule> shell <shell> faults <faults> parts <parts>
 rule <rule> shell <shell> faults <faults>
@@ -97,9 +117,10 @@ entity <entity> <type> surface <surface> <surface_type>
   more <more>
 """
 SHORT = {"<V>": "<list> <index> <x> <y> <z>", "<F>": "<face> <surface_type>"}
-# Heads whose facts are a sentence, for people; the head whose items, and `more` of them, are heads after it; heads with the same facts.
-SENTENCES, HOLDER, ALIKE = ("bad", "hint", "rule"), "rule", {"solid": "entity"}
-ITEMS = ("gap", "edge", "part", "vertex", "item")
+# Heads whose facts are a sentence, for people, but for one; heads that are items of the rule or the hint before them, and so may `more` be; heads
+# with the same facts.
+SENTENCES, UNSAID, HOLDERS, ALIKE = ("bad", "hint", "rule"), "hint more", ("hint", "rule"), {"solid": "entity"}
+ITEMS = ("remove", "rim", "body", "turn", "gap", "edge", "part", "vertex", "item")
 
 RECORD_RULES, SHELL_RULES = ("ENTRY", "TYPE", "RECORD", "ONCE", "INDEX", "GEOMETRY"), ("JOIN", "PAIR", "REACH", "LINK", "APART")
 FORMS_DUE = "solid form 0|shell form 1|(?:face|loop|edge-list|vertex-list) form 0 1"

@@ -32,11 +32,6 @@ def spelled(value):
     return str(value) if is_integer(value) else shown_word(value)
 
 
-def spelled_whole(value):
-    """The same, of any length, for comparing."""
-    return spelled(value) if value is None or is_integer(value) else bytes(value).hex()
-
-
 def shown_word(word):
     """A copied word; of a long one the first bytes, up to the first of these places where no character of UTF-8 is cut in two."""
     if len(word) <= WORD_LIMIT:
@@ -197,10 +192,14 @@ class View:
 
     # words
 
-    def vertex(self, number, whole=False):
+    def coordinates(self, number):
+        """The values of a vertex as they stand in its list."""
         entity, index = self.solid.vertices[number]
-        at = 3 * index - 2
-        return " ".join([str(entity), str(index), *map(spelled_whole if whole else spelled, self.file.entries[entity].values[at : at + 3])])
+        return tuple(self.file.entries[entity].values[3 * index - 2 : 3 * index + 1])
+
+    def vertex(self, number):
+        entity, index = self.solid.vertices[number]
+        return " ".join([str(entity), str(index), *map(spelled, self.coordinates(number))])
 
     def curve(self, number):
         entity, index = self.solid.edges[number]

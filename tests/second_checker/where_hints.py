@@ -74,8 +74,7 @@ class Sewing:
 
     def __init__(self, view):
         self.view = view
-        self.place = {vertex: view.vertex(vertex, whole=True).split(" ")[2:] for vertex in view.vertices}
-        self.place = {vertex: tuple(words) for vertex, words in self.place.items()}
+        self.place = {vertex: view.coordinates(vertex) for vertex in view.vertices}
         self.between, self.seams = {}, {}
         for edge in once(view):
             self.between.setdefault(self.spellings(edge), []).append(edge)
@@ -88,7 +87,7 @@ class Sewing:
 
     def spellings(self, edge):
         row = self.row(edge)
-        return tuple(sorted((self.place[row.start], self.place[row.end])))
+        return frozenset((self.place[row.start], self.place[row.end]))
 
     def is_seam(self, one, other):
         one, other = self.row(one), self.row(other)
@@ -213,8 +212,7 @@ def missing_hints(view, text):
     if edges and passes_open(view.solid, view.shell):
         rims = rims_of(view)
         items = [rim_item(view, text, place, rim) for place, rim in enumerate(rims, 1)]
-        has_rims = is_told("rim <rim>")
-        yield Hint("missing-faces", f" edges {len(edges)}" + f" rims {len(rims)}" * has_rims, items * has_rims)
+        yield Hint("missing-faces", f" edges {len(edges)} rims {len(rims)}", items if is_told("rim <rim>") else [])
 
 
 def rim_item(view, text, place, rim):
