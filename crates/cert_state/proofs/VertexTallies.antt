@@ -1,6 +1,6 @@
 -- Counting up by vertex, item by item.
 use Rattle.std.specs.Prelude.{◌≡◌, ◌≢◌, ℕ, ◌+◌, ◌-◌, ◌<◌, ◌≤◌, ◌==◌, ◌⊎◌, true, false, List, [], ◌∷◌, ◌++◌, length, map, Contains, Some, slice_get, slice_set}
-use Rattle.std.specs.Prelude.{replicate}
+use Rattle.std.specs.Prelude.{replicate, count_by, if◌then◌else◌}
 use Rattle.std.proofs.Common.{sym, ◌∙◌, ap, subst, arith, inl, inr, get_or, drop, append_assoc}
 use Rattle.std.proofs.lemmas.Bool.Decides.{eqb_tells}
 use Rattle.std.proofs.lemmas.List.{get_or-replicate, length-replicate, append-nil, drop_all, length-set}
@@ -13,6 +13,8 @@ use Rattle.edge_uses.specs.Ranges.{IsWithin, IsSpanOf}
 use Rattle.edge_uses.specs.ShellRows.{ShellRows, AreRows}
 use Rattle.edge_uses.proofs.Tallies.{one_if, set_same, set_other}
 use Rattle.edge_uses.proofs.Counting.{times, times_few}
+use Rattle.cert_state.specs.Progress.{start_count}
+use Rattle.cert_state.specs.CheckState.{corner_size}
 use Rattle.cert_state.specs.Tallied.{AreStarts, ArePoints}
 
 -- counts that are 0 but for vertices of the shell
@@ -117,6 +119,10 @@ points_counted d i c past h =
       each = λ v w. counts_done (LoopAt × ℕ) lies_of d.points i d c v past h w
           ∙ sym (count_by-total (λ (p : LoopAt × ℕ). p.1 == v) d.points);
     }
+
+-- where each loop has an edge
+pub starts_alone : (d : ShellRows) (v : ℕ) → d.points ≡ [] → start_count d v ≡ corner_size d v
+starts_alone d v e = sym (ap (λ (n : ℕ). if n == 0 then start_count d v else 0) (ap (count_by (λ (p : LoopAt × ℕ). p.1 == v)) e))
 
 row_occurs : (d : ShellRows) (i : ℕ) (r : Row) → AreRows d → slice_get d.rows i ≡ Some r → Contains d.vertices r.from.0
 row_occurs d i r rows at =

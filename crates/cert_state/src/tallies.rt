@@ -1,6 +1,6 @@
 //! How many rows start at each vertex of a shell, and how many loops without an edge lie there.
 
-ghost use Rattle.std.specs.Prelude.{◌≡◌, ℕ, ◌+◌, ◌<◌, Contains, Some, length, map, slice_get, IfOk};
+ghost use Rattle.std.specs.Prelude.{◌≡◌, ℕ, ◌+◌, ◌<◌, [], Contains, Some, length, map, slice_get, IfOk};
 ghost use Rattle.solid_data.specs.declared.solid.LoopAt.{LoopAt as LoopPlace};
 ghost use Rattle.edge_uses.specs.declared.row.Row.{Row as AnyRow};
 ghost use Rattle.edge_uses.specs.Cells.{cell_of, with_cell};
@@ -99,6 +99,20 @@ fn corner_sizes(
     Ok(sizes)
 }
 
+/// The same where each loop has an edge: all rows that start where it does.
+fn start_sizes(alloc: Global, rows: &Rows, starts: &Cells<'_, u32>) -> Result<Vec<u32>, NoMemory>
+    requires starts { AreStarts rows.now starts.now }
+    requires edges { rows.now.points ≡ [] }
+    ensures { IfOk result (λ sizes. sizes.items
+        ≡ map (λ (r : AnyRow). corner_size rows.now r.from.0) rows.now.rows) }
+{
+    let mut sizes = Vec::with_capacity(alloc, rows.len())?;
+    'rows: for i in 0..rows.len() {
+        sizes.push(count_at(starts, row_at(rows, i).from.0))?;
+    }
+    Ok(sizes)
+}
+
 /// For each loop without an edge whether it is alone at its vertex.
 fn alone_points(
     alloc: Global,
@@ -136,6 +150,12 @@ pub fn sizes_of(alloc: Global, rows: &Rows) -> Result<Sizes, NoMemory>
         ≡ map (λ (p : LoopPlace × ℕ). is_alone rows.now p.1) rows.now.points) }
 {
     let starts = starts_of(alloc, rows)?;
+    if rows.isolated_count() == 0 {
+        return Ok(Sizes {
+            rows: start_sizes(alloc, rows, &starts)?,
+            alone: Vec::new(alloc),
+        });
+    }
     let points = points_of(alloc, rows)?;
     let sizes = corner_sizes(alloc, rows, &starts, &points)?;
     let alone = alone_points(alloc, rows, &starts, &points)?;

@@ -1,5 +1,5 @@
 -- What a front of some digits is worth, and the texts of numbers.
-use Rattle.std.proofs.Common.{rules, ◌≡◌, ℕ, zero, suc, ◌+◌, ◌-◌, ◌*◌, ◌<◌, ◌≤◌, ◌^◌, List, [], ◌∷◌, ◌++◌, length, take, drop, get_or, arith, length-take}
+use Rattle.std.proofs.Common.{rules, ◌≡◌, ℕ, zero, suc, ◌+◌, ◌-◌, ◌*◌, ◌%◌, ◌<◌, ◌≤◌, ◌^◌, List, [], ◌∷◌, ◌++◌, length, take, drop, get_or, arith, length-take}
 use Rattle.std.proofs.Common.{lit<, refl, sym, ◌∙◌, ap, subst, take-append-drop}
 use Rattle.std.proofs.Math.Nat.{pow-le-pow_right}
 use Rattle.std.specs.Prelude.{decimal, ◌↔◌}
@@ -22,6 +22,10 @@ few_digits bs i digits within few =
 
 pub worth : (d : ℕ) → IsInRange 48 57 d → digit_value d ≡ d - 48
 worth d inside = omega (arith, digit_value_digit d inside)
+
+-- The number of bits in which 48 is taken from a byte is at most nine for a digit alone.
+pub digit_above : (b w d : ℕ) → w ≡ b → b < 256 → d ≡ (w + (2 ^ 32 - 48)) % 2 ^ 32 → d ≤ 9 → IsInRange 48 57 b × (d ≡ b - 48)
+digit_above b w d same byte taken few = omega arith
 
 -- a front of digits, and one more
 pub more_digits : (bs : List ℕ) (i v d : ℕ) → i < length bs → v ≡ digits_value 10 (take i bs) → d ≡ get_or bs i 0 - 48 → IsInRange 48 57 (get_or bs i 0)

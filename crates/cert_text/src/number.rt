@@ -5,7 +5,33 @@ ghost use Rattle.std.specs.Int.{IsInRange};
 ghost use Rattle.std.specs.Str.Parse.{AllDigits, digits_value};
 ghost use Rattle.cert_text.specs.Text.{IsPlain, Stops, Begins, AreNumbers, IsSpaced};
 
+/// The most digits that a number has.
+const MOST: usize = 9;
+
+/// The number of the digits at the start of a text, of whose first bytes so many are looked at, and how many they are.
+#[inline(always)]
+fn digits_among(text: &[u8], most: usize) -> (u32, usize)
+    requires within { most ≤ length text.now }
+    requires few { most ≤ 9 }
+    ensures within { result.1 ≤ most }
+    ensures digits { AllDigits 10 (take result.1 text.now) }
+    ensures value { result.0 ≡ digits_value 10 (take result.1 text.now) }
+    ensures ends { result.1 < most → ¬ IsInRange 48 57 (slice_index text.now result.1) }
+{
+    let mut value = 0;
+    'digits: for i in 0..most {
+        // Any byte that is no digit is above nine then.
+        let digit = u32::from(text[i]).wrapping_sub(48);
+        if digit > 9 {
+            return (value, i);
+        }
+        value = value * 10 + digit;
+    }
+    (value, most)
+}
+
 /// The number of the digits at the start of a text, and how many they are: nine at most.
+#[inline(always)]
 fn leading_digits(text: &[u8]) -> (u32, usize)
     ensures within { result.1 ≤ length text.now }
     ensures few { result.1 ≤ 9 }
@@ -14,15 +40,11 @@ fn leading_digits(text: &[u8]) -> (u32, usize)
     ensures ends { result.1 < 9 → result.1 < length text.now
         → ¬ IsInRange 48 57 (slice_index text.now result.1) }
 {
-    let most = text.len().min(9);
-    let mut value = 0;
-    'digits: for i in 0..most {
-        if !text[i].is_ascii_digit() {
-            return (value, i);
-        }
-        value = value * 10 + u32::from(text[i] - b'0');
+    if text.len() < MOST {
+        return digits_among(text, text.len());
     }
-    (value, most)
+    // Nearly every text is longer than a number, so that no byte has to be counted.
+    digits_among(text, MOST)
 }
 
 /// Whether no digit and nothing else that may be in a word goes on with a number here.
@@ -47,6 +69,7 @@ fn is_plain(digits: &[u8]) -> bool
 
 /// The number at the start of a text, after a space, and what follows it; None where none of one to nine digits stands
 /// there.
+#[inline(always)]
 pub fn next_number(text: &[u8]) -> Option<(u32, &[u8])>
     ensures { MatchOption result ((n : ℕ) (rest : List ℕ) → ¬ Begins text.now n rest)
         (λ p. Begins text.now p.0 p.1.now) }

@@ -159,6 +159,13 @@ impl<'a> LineChecker<'a> {
         })
     }
 
+    /// The most bytes that a line may have, with its LF.
+    pub(crate) fn limit(&self) -> usize
+        ensures { result ≡ line_limit self.now.solid }
+    {
+        self.limit
+    }
+
     /// Keeps that the lines are not legal.
     fn fail(&mut self, illegal: Illegal) -> Result<(), Illegal>
         ensures fault { result ≡ Err illegal }
