@@ -4,5 +4,6 @@ pub mod FirstFailing
 pub mod VerdictSteps
 pub mod Counts
 pub mod ToldSolids
+pub mod ToldHints
 pub mod SameShells
 pub mod LoneShells

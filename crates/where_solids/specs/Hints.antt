@@ -1,5 +1,5 @@
 -- The hints, each with its sentence in lines of at most 78 columns.
-use Rattle.std.specs.Prelude.{◌≡◌, ◌⊎◌, ℕ, ◌<◌, Bool, false, not, List, [], ◌∷◌, ◌++◌, flat_map, Option, Some, None, IsTrue, count_by, length, slice_get, codes}
+use Rattle.std.specs.Prelude.{ℕ, Bool, false, not, List, [], ◌∷◌, ◌++◌, flat_map, Option, Some, None, count_by, length, slice_get, codes}
 use Rattle.std.specs.Prelude.{decimal}
 use Rattle.std.specs.List.{list_any}
 use Rattle.iges_base.specs.declared.entry_no.EntryNo.{EntryNo}
@@ -7,7 +7,6 @@ use Rattle.iges_base.specs.Word.{is_empty}
 use Rattle.solid_data.specs.SolidData.{SolidData}
 use Rattle.solid_data.specs.declared.solid.FaceUse.{FaceUse}
 use Rattle.solid_data.specs.declared.solid.Shell.{Shell}
-use Rattle.solid_faults.specs.FaceFlags.{IsClosedFlagged}
 use Rattle.solid_faults.specs.Faults.{Faults}
 use Rattle.where_text.specs.declared.listing.Listing.TheVariants.{Few}
 use Rattle.where_text.specs.Listing.{more_words, shown}
@@ -32,12 +31,6 @@ has_unpaired (Some x) = not (is_empty x.unpaired)
 -- an edge isn't paired in one of these shells
 abbrev pub pair_fails : List Faults → List ℕ → Bool
 pair_fails xs ks = list_any (λ k. has_unpaired (slice_get xs k)) ks
-
--- Edges aren't paired, a face has the flag 0, and with all flags of faces 1 the solid is closed: then this is said, and else nothing.
-abbrev pub IsFlagsHint : SolidData → Bool → List ℕ → Type 0
-IsFlagsHint s unpaired hint =
-    (IsTrue unpaired × (0 < unset_flags s) × IsClosedFlagged s × (hint ≡ flags_hint (unset_flags s)))
-    ⊎ ((IsTrue unpaired → 0 < unset_flags s → ¬ IsClosedFlagged s) × (hint ≡ []))
 
 -- ---- solids
 

@@ -1,6 +1,7 @@
 pub mod AllFaults
 pub mod Lines
 pub mod Hints
+pub mod ShellHints
 pub mod ShellTexts
 pub mod Told
 pub mod Overview

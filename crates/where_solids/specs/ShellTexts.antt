@@ -60,8 +60,8 @@ shell_lines listing f s xs =
     units_line f ++ shells_line (length s.shells) (length (failing_shells xs)) ++ flat_map (line_at s xs) (shown listing (failing_shells xs))
     ++ more_items listing (length (failing_shells xs))
 
--- their paragraphs, and then those of the solid, of these shells and of the faces that they name
-unfoldable pub shell_texts : Listing → Contents → SolidData → List Faults → List ℕ
-shell_texts listing f s xs =
+-- their paragraphs, and then those of the solid, of these shells and of the faces that they and the hints name
+unfoldable pub shell_texts : Listing → Contents → SolidData → List Faults → List EntryNo → List ℕ
+shell_texts listing f s xs hinted =
     flat_map (paragraphs_at listing f s xs) (shown listing (failing_shells xs))
-    ++ entities_text f (s.entity ∷ flat_map (named_at listing s xs) (shown listing (failing_shells xs)))
+    ++ entities_text f (s.entity ∷ flat_map (named_at listing s xs) (shown listing (failing_shells xs)) ++ hinted)

@@ -5,7 +5,7 @@ ghost use Rattle.iges_base.specs.declared.entry_no.EntryNo.{EntryNo as AnyEntryN
 ghost use Rattle.solid_data.specs.declared.solid.FaceUse.{FaceUse as AnyFace};
 ghost use Rattle.solid_data.specs.declared.solid.Shell.{Shell as AnyShell};
 ghost use Rattle.std.specs.Prelude.{◌≡◌, ◌++◌, ◌<◌, ◌↔◌, IfOk, IfSome, IsTrue, List, OnOk, count_by, decimal, flat_map, length, not, option_copied, slice_get, ℕ};
-ghost use Rattle.where_solids.specs.Hints.{IsFlagsHint, flags_hint, flags_sentence, has_unpaired, no_solid_hint, pair_fails, solids_hint, solids_sentence, unset_flags};
+ghost use Rattle.where_solids.specs.Hints.{flags_hint, flags_sentence, has_unpaired, no_solid_hint, pair_fails, solids_hint, solids_sentence, unset_flags};
 ghost use Rattle.where_text.specs.declared.listing.Listing.TheVariants.{Few};
 ghost use Rattle.where_text.specs.Listing.{more_words, shown};
 ghost use Rattle.where_text.specs.Spelled.{space_word};
@@ -48,9 +48,9 @@ fn unset_at(solid: &Solid, k: usize) -> usize
     unset_in(shell_at(solid, k).faces.as_slice())
 }
 
-// How many faces of a solid have the flag 0.
+/// How many faces of a solid have the flag 0.
 #[tactic(auto, unfolding(crate::specs::Hints::unset_flags))]
-fn unset_flags(solid: &Solid) -> usize
+pub fn unset_flags(solid: &Solid) -> usize
     ensures { result ≡ unset_flags solid.now }
 {
     let mut count = 0;
@@ -81,8 +81,14 @@ pub fn pair_fails(all: &AllFaults, shells: &[u32]) -> bool
     false
 }
 
-// Whether the hint on face flags is given.
-fn tells_flags(alloc: Global, solid: &Solid, unpaired: bool, unset: usize) -> Result<bool, NoMemory>
+/// Whether the hint on face flags is given, where an edge of a shell isn't paired or not, and so many faces have the flag 0. It
+/// copies the solid.
+pub fn tells_flags(
+    alloc: Global,
+    solid: &Solid,
+    unpaired: bool,
+    unset: usize,
+) -> Result<bool, NoMemory>
     ensures { IfOk result (λ b. IsTrue b ↔ (IsTrue unpaired × (0 < unset)
         × IsClosedFlagged solid.now)) }
 {
@@ -99,32 +105,15 @@ fn put_flags_sentence(out: &mut Out) -> Result<(), NoMemory>
     out.put(FLAGS.as_bytes())
 }
 
+/// Appends the hint on face flags, of which so many are 0.
 #[tactic(auto, unfolding(crate::specs::Hints::flags_hint))]
-fn put_flags(out: &mut Out, unset: usize) -> Result<(), NoMemory>
+pub fn put_flags(out: &mut Out, unset: usize) -> Result<(), NoMemory>
     ensures { OnOk result (out.new ≡ out.old ++ flags_hint unset) }
 {
     out.put(b"hint face-flags faces")?;
     put_number(out, unset as u64)?;
     out.put(b"\n")?;
     put_flags_sentence(out)
-}
-
-/// Appends the hint on face flags where edges aren't paired in a shell that is described, a face has the flag 0, and with all
-/// face flags 1 the solid is closed. It copies the solid.
-pub fn put_flags_hint(
-    alloc: Global,
-    out: &mut Out,
-    solid: &Solid,
-    unpaired: bool,
-) -> Result<(), NoMemory>
-    ensures { IfOk result (λ _. (hint : List ℕ) × IsFlagsHint solid.now unpaired hint
-        × (out.new ≡ out.old ++ hint)) }
-{
-    let unset = unset_flags(solid);
-    if !tells_flags(alloc, solid, unpaired, unset)? {
-        return Ok(());
-    }
-    put_flags(out, unset)
 }
 
 fn put_numbers(out: &mut Out, numbers: &[EntryNo]) -> Result<(), NoMemory>

@@ -3,6 +3,7 @@
 
 mod all_faults;
 mod fault_paragraphs;
+mod hinted_shells;
 mod hints;
 mod lines;
 mod overview;
