@@ -1,6 +1,6 @@
 -- The hints on failing shells, put together.
 use Rattle.std.specs.Prelude.{◌≡◌, ◌⊎◌, ◌↔◌, ◌<◌, ◌+◌, min, ℕ, zero, suc, Bool, true, false, IsTrue, List, [], ◌∷◌, ◌++◌, All, Some, length, flat_map, slice_get, zip}
-use Rattle.std.specs.Prelude.{if◌then◌else◌}
+use Rattle.std.specs.Prelude.{if◌then◌else◌, IfOk, Result, Ok, Err}
 use Rattle.std.proofs.Common.{refl, sym, ap, ◌∙◌, subst, arith, inl, inr, get_or, take}
 use Rattle.std.proofs.lemmas.List.{append-nil, get_or-take}
 use Rattle.iges_base.specs.declared.entry_no.EntryNo.{EntryNo}
@@ -96,3 +96,8 @@ hints_told listing f s xs ks unpaired b unset hs items old new named more is fai
   text ∙ ap (λ ys. old ++ flat_map (hints_at listing f s xs) (zip ks ys)) same,
   faces ∙ ap (λ ys. named ++ flat_map (hint_faces_at listing s xs) (zip ks ys)) same,
 )
+
+-- two facts of one result
+pub both_ok : {A E : Type 0} (r : Result A E) (P Q : A → Type 0) → IfOk r P → IfOk r Q → IfOk r (λ x. P x × Q x)
+both_ok (Ok x) P Q p q = (p, q)
+both_ok (Err e) P Q p q = tt

@@ -103,6 +103,17 @@ lines_are listing f s xs lines ks m j is text count few =
 pub three_more : (old one two new a b c : List ℕ) → one ≡ old ++ a → two ≡ one ++ b → new ≡ two ++ c → new ≡ old ++ (a ++ b ++ c)
 three_more old one two new a b c e f g = g ∙ (ap (λ xs. xs ++ c) (f ∙ (ap (λ xs. xs ++ b) e ∙ append_assoc old a b)) ∙ append_assoc old (a ++ b) c)
 
+-- the text on all solids, once the line of the counts, the solids and the rest are written
+pub text_told : (f : Contents) (ns items : List EntryNo) (vs judged : List Verdict) (m : ℕ) (start one two three text : List ℕ) → start ≡ []
+    → one ≡ start ++ overview_start vs → items ≡ ns → judged ≡ vs → two ≡ one ++ flat_map (solid_paragraph f) (zip items judged) → m ≡ length ns
+    → three ≡ two ++ (unjudged_text f ++ overview_end m) → text ≡ three
+    → text ≡ overview_start vs ++ flat_map (solid_paragraph f) (zip ns vs) ++ (unjudged_text f ++ overview_end (length ns))
+text_told f ns items vs judged m start one two three text none head same is told count tail last =
+    last ∙ (three_more start one two three (overview_start vs) (flat_map (solid_paragraph f) (zip ns vs)) (unjudged_text f ++ overview_end (length ns))
+    head (told ∙ ap (λ xs. one ++ flat_map (solid_paragraph f) xs) (ap (λ xs. zip xs judged) same ∙ ap (zip ns) is))
+    (tail ∙ ap (λ n. two ++ (unjudged_text f ++ overview_end n)) count)
+    ∙ ap (λ xs. xs ++ (overview_start vs ++ flat_map (solid_paragraph f) (zip ns vs) ++ (unjudged_text f ++ overview_end (length ns)))) none)
+
 pub all_told : (f : Contents) (ns listed : List EntryNo) (vs judged : List Verdict) (m n : ℕ) (b : Bool) (text : List ℕ) → ns ≡ solids_of f → listed ≡ ns
     → AreVerdicts f listed vs → judged ≡ vs → m ≡ length ns
     → n ≡ count_by fails judged → b ≡ (nat_lt 0 m && n == 0) → text ≡ overview_start vs ++ flat_map (solid_paragraph f) (zip ns vs) ++ (unjudged_text f ++ overview_end (length ns))
