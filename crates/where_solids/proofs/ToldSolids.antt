@@ -20,14 +20,14 @@ use Rattle.record_paths.specs.Paths.{IsPathTo, sited}
 use Rattle.where_text.specs.declared.listing.Listing.{Listing}
 use Rattle.where_text.specs.Listing.{left_line, shown, shown_count}
 use Rattle.where_text.proofs.Steps.{shown_length}
-use Rattle.where_solids.specs.AllFaults.{AreAllFaults, failing_shells}
+use Rattle.solid_hints.specs.AllFaults.{AreAllFaults, failing_shells}
 use Rattle.where_entities.specs.Entities.{entities_text}
 use Rattle.where_solids.specs.Hints.{no_solid_hint}
 use Rattle.where_unjudged.specs.Listed.{solids_of}
 use Rattle.where_unjudged.specs.Unjudged.{unjudged_text}
 use Rattle.where_solids.specs.Overview.{AreVerdicts, IsOverview, all_close, fails, overview_end, overview_start, overview_text, solid_paragraph}
 use Rattle.where_solids.specs.Lines.{line_at, shells_line, units_line, verdict_line}
-use Rattle.where_solids.specs.ShellHints.{IsHint}
+use Rattle.solid_hints.specs.ShellHints.{IsHint}
 use Rattle.where_solids.specs.ShellTexts.{named_at, paragraphs_at, shell_lines, shell_texts}
 use Rattle.where_solids.specs.Told.{IsToldOf, record_rest}
 use Rattle.where_solids.proofs.VerdictSteps.{verdict_rest}
