@@ -27,8 +27,8 @@ use Rattle.command_replies.specs.Outcome.{IsNoFile}
 use Rattle.command_replies.proofs.One.{IsOne, no_file}
 use Rattle.where_text.specs.declared.listing.Listing.{Listing}
 use Rattle.where_text.specs.Listing.{shown}
-use Rattle.where_solids.specs.AllFaults.{AreAllFaults, failing_shells}
-use Rattle.where_solids.specs.Hints.{IsFlagsHint, pair_fails}
+use Rattle.solid_hints.specs.AllFaults.{AreAllFaults, failing_shells}
+use Rattle.solid_hints.specs.ShellHints.{IsHint}
 use Rattle.where_solids.specs.Lines.{verdict_line}
 use Rattle.where_unjudged.specs.Listed.{solids_of}
 use Rattle.where_solids.specs.Overview.{AreVerdicts, all_close, overview_text}
@@ -39,7 +39,9 @@ use Rattle.where_command.specs.declared.asked.Asked.TheVariants as asked
 use Rattle.where_command.specs.Asked.{asked_of, usage_line}
 use Rattle.where_command.specs.Due.{DueOf, OfContents, OfNoFile, OfOverview, OfSolid, answer_to, answer_where, bad_file, bad_file_text, file_too_large}
 use Rattle.where_command.specs.Laws.{OneAnswerIsOwed}
+use Rattle.solid_hints.proofs.ToldHints.{all_inside}
 use Rattle.where_command.proofs.OneFaults.{one_of_all, same_list}
+use Rattle.where_command.proofs.OneHints.{one_hint}
 
 one_verdict : (os : List Obligation) (v w : Verdict) → IsVerdict os v → IsVerdict os w → v ≡ w
 one_verdict os Closed Closed a b = refl
@@ -57,12 +59,6 @@ one_path name (s ∷ ss) p q a b = by_front (one_path name ss p q) a.1 b.1
     by_front later (inr h) (inl e) = a.0 e ∙ sym (b.0 e)
     by_front later (inr h) (inr k) = later h k
 
-one_hint : (s : SolidData) (b : Bool) (h k : List ℕ) → IsFlagsHint s b h → IsFlagsHint s b k → h ≡ k
-one_hint s b h k (inl p) (inl q) = p.3 ∙ sym q.3
-one_hint s b h k (inl p) (inr q) = absurd (q.0 p.0 p.1 p.2)
-one_hint s b h k (inr p) (inl q) = absurd (p.0 q.0 q.1 q.2)
-one_hint s b h k (inr p) (inr q) = p.1 ∙ sym q.1
-
 module _ (listing : Listing) (f : Contents) (n : EntryNo) where
   one_records : (r t : List ℕ) → IsOfRecords f n r → IsOfRecords f n t → r ≡ t
   one_records r t a b =
@@ -74,10 +70,12 @@ module _ (listing : Listing) (f : Contents) (n : EntryNo) where
   one_shells r t a b =
       let s : SolidData = solid_of f n.0 in
       let xs : a.faults ≡ b.faults = one_of_all s a.faults b.faults a.all b.all in
-      let hint : a.hint ≡ b.hint = one_hint s (pair_fails b.faults (shown listing (failing_shells b.faults))) a.hint b.hint
-      (subst (λ ys. IsFlagsHint s (pair_fails ys (shown listing (failing_shells ys))) a.hint) xs a.is_hint) b.is_hint in
-      a.rest_is ∙ (ap (λ ys. shell_lines listing f s ys ++ a.hint ++ shell_texts listing f s ys) xs
-      ∙ (ap (λ h. shell_lines listing f s b.faults ++ h ++ shell_texts listing f s b.faults) hint ∙ sym b.rest_is))
+      let ks : List ℕ = shown listing (failing_shells b.faults) in
+      let hint = one_hint listing f s b.faults ks a.hint b.hint a.faces b.faces (all_inside s listing b.faults (failing_shells b.faults) ks b.all.each refl refl)
+      (subst (λ ys. IsHint listing f s ys (shown listing (failing_shells ys)) a.hint a.faces) xs a.is_hint) b.is_hint in
+      a.rest_is ∙ (ap (λ ys. shell_lines listing f s ys ++ a.hint ++ shell_texts listing f s ys a.faces) xs
+      ∙ (ap (λ h. shell_lines listing f s b.faults ++ h ++ shell_texts listing f s b.faults a.faces) hint.0
+      ∙ (ap (λ ns. shell_lines listing f s b.faults ++ b.hint ++ shell_texts listing f s b.faults ns) hint.1 ∙ sym b.rest_is)))
 
   one_rest : (r t : List ℕ) → IsOfRecords f n r ⊎ IsOfShells listing f n r → IsOfRecords f n t ⊎ IsOfShells listing f n t → r ≡ t
   one_rest r t (inl a) (inl b) = one_records r t a b

@@ -16,11 +16,12 @@ use Rattle.where_text.specs.declared.listing.Listing.{Listing}
 use Rattle.where_text.specs.Listing.{shown}
 use Rattle.where_records.specs.RecordText.{record_named, record_text}
 use Rattle.where_entities.specs.Entities.{entities_text}
-use Rattle.where_solids.specs.AllFaults.{AreAllFaults, failing_shells}
-use Rattle.where_solids.specs.Hints.{IsFlagsHint, pair_fails, solids_hint}
+use Rattle.solid_hints.specs.AllFaults.{AreAllFaults, failing_shells}
+use Rattle.where_solids.specs.Hints.{solids_hint}
 use Rattle.where_unjudged.specs.KindHints.{hint_of, shells_hint}
 use Rattle.where_solids.specs.Lines.{units_line, verdict_line}
 use Rattle.where_unjudged.specs.Listed.{true_solids}
+use Rattle.solid_hints.specs.ShellHints.{IsHint}
 use Rattle.where_solids.specs.ShellTexts.{shell_lines, shell_texts}
 
 -- the units, where the number names a solid, and whether it has a shell; else what it names, and the solids
@@ -46,8 +47,9 @@ pub record IsOfShells (listing : Listing) (f : Contents) (n : EntryNo) (rest : L
   pub faults : List Faults
   pub all : AreAllFaults (solid_of f n.0) faults
   pub hint : List ℕ
-  pub is_hint : IsFlagsHint (solid_of f n.0) (pair_fails faults (shown listing (failing_shells faults))) hint
-  pub rest_is : rest ≡ shell_lines listing f (solid_of f n.0) faults ++ hint ++ shell_texts listing f (solid_of f n.0) faults
+  pub faces : List EntryNo
+  pub is_hint : IsHint listing f (solid_of f n.0) faults (shown listing (failing_shells faults)) hint faces
+  pub rest_is : rest ≡ shell_lines listing f (solid_of f n.0) faults ++ hint ++ shell_texts listing f (solid_of f n.0) faults faces
 
 -- The text speaks of solid n, which has this verdict.
 pub record IsToldOf (listing : Listing) (f : Contents) (n : EntryNo) (verdict : Verdict) (text : List ℕ) : Type 0 where

@@ -2,18 +2,17 @@
 
 ghost use Rattle.brep_walk.specs.Places.{places};
 ghost use Rattle.brep_walk.specs.SolidOf.{solid_of};
+ghost use Rattle.iges_base.specs.declared.entry_no.EntryNo.{EntryNo as AnyEntryNo};
 ghost use Rattle.solid_data.specs.Obligations.{AllHold, FirstFalse};
 ghost use Rattle.std.specs.Prelude.{◌≡◌, ◌++◌, ◌≤◌, ◌-◌, ℕ, [], List, IfOk, OnOk, length};
 ghost use Rattle.where_entities.specs.Entities.{entities_text};
-ghost use Rattle.where_solids.specs.AllFaults.{AreAllFaults, failing_shells};
-ghost use Rattle.where_solids.specs.Hints.{IsFlagsHint, pair_fails};
+ghost use Rattle.solid_hints.specs.AllFaults.{AreAllFaults, failing_shells};
+ghost use Rattle.solid_hints.specs.ShellHints.{IsHint};
 ghost use Rattle.where_solids.specs.Lines.{shells_line, units_line};
 ghost use Rattle.where_solids.specs.ShellTexts.{shell_lines, shell_texts};
 ghost use Rattle.where_solids.specs.Told.{IsToldOf};
 ghost use Rattle.where_text.specs.Listing.{left_line, shown};
 
-use crate::all_faults::{AllFaults, all_faults, failing_shells};
-use crate::hints::{pair_fails, put_flags_hint};
 use crate::lines::{put_shells, put_units, put_verdict};
 use crate::record_texts::{FailingRecord, put_record_rest};
 use crate::shell_texts::{ShellTexts, shell_texts};
@@ -23,6 +22,7 @@ use iges_fields::{Bytes, EntryNo, NoMemory, Out};
 use iges_params::File;
 use record_paths::path_of;
 use solid_data::{Failing, Solid, Verdict};
+use solid_hints::{AllFaults, HintedSolid, all_faults, failing_shells, put_hint};
 use std::alloc::Global;
 use where_entities::put_entities;
 use where_text::{Listing, put_more_items, shown_members};
@@ -97,13 +97,15 @@ fn put_shells_rest(
     listing: Listing,
 ) -> Result<(), NoMemory>
     requires { AreAllFaults solid.now all.now }
-    ensures { IfOk result (λ _. (hint : List ℕ) × IsFlagsHint solid.now (pair_fails all.now (shown listing (failing_shells all.now))) hint
-        × (out.new ≡ out.old ++ (shell_lines listing file.now solid.now all.now ++ hint ++ shell_texts listing file.now solid.now all.now))) }
+    ensures { IfOk result (λ _. (hint : List ℕ) × (faces : List AnyEntryNo)
+        × IsHint listing file.now solid.now all.now (shown listing (failing_shells all.now)) hint faces
+        × (out.new ≡ out.old ++ (shell_lines listing file.now solid.now all.now ++ hint
+        ++ shell_texts listing file.now solid.now all.now faces))) }
 {
     let count = solid.shell_count();
     let failing = failing_shells(alloc, all)?;
     let shells = shown_members(listing, failing.as_slice());
-    let texts = shell_texts(alloc, file, solid, all, shells, listing)?;
+    let mut texts = shell_texts(alloc, file, solid, all, shells, listing)?;
     put_lines(
         out,
         file,
@@ -112,7 +114,13 @@ fn put_shells_rest(
         failing.len(),
         shells.len(),
     )?;
-    put_flags_hint(alloc, out, solid, pair_fails(all, shells))?;
+    let view = HintedSolid {
+        file,
+        solid,
+        all,
+        listing,
+    };
+    put_hint(alloc, out, &mut texts.page.named, &view, shells)?;
     put_texts(alloc, out, file, &texts)
 }
 
