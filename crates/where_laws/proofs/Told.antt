@@ -36,6 +36,7 @@ use Rattle.solid_hints.specs.Flags.{flags_hint, pair_fails, unset_flags}
 use Rattle.where_solids.specs.Lines.{verdict_line}
 use Rattle.where_solids.specs.Overview.{AreVerdicts}
 use Rattle.solid_hints.specs.ShellHints.{AreHintsOf, IsHint, TellsFlags, hint_faces_at, hints_at}
+use Rattle.where_places.specs.declared.placed_file.PlacedFile.{PlacedFile}
 use Rattle.where_solids.specs.ShellTexts.{shell_lines, shell_texts}
 use Rattle.where_solids.specs.Told.{IsToldOf, record_rest}
 use Rattle.where_laws.proofs.Names.{same_bears, some_path}
@@ -121,18 +122,18 @@ some_hint listing f s numbered faults ks =
 
 -- ---- a solid
 
-module _ (listing : Listing) (f : Contents) (n : EntryNo) where
-  pub some_told : FitsLimits f → (v : Verdict) × (t : List ℕ) × IsToldOf listing f n v t
-  some_told limits = by_places (all_or_first_false (places f n.0) (places_decided f n.0)) (some_verdict (obligations f n.0) (obligations_decided f n.0))
+module _ (listing : Listing) (p : PlacedFile) (n : EntryNo) where
+  pub some_told : FitsLimits p.file → (v : Verdict) × (t : List ℕ) × IsToldOf listing p n v t
+  some_told limits = by_places (all_or_first_false (places p.file n.0) (places_decided p.file n.0)) (some_verdict (obligations p.file n.0) (obligations_decided p.file n.0))
     where
-      by_places : AllHold (places f n.0) ⊎ ((x : Failing) × FirstFalse (places f n.0) x) → (v : Verdict) × IsVerdictOn f n.0 v
-          → (v : Verdict) × (t : List ℕ) × IsToldOf listing f n v t
+      by_places : AllHold (places p.file n.0) ⊎ ((x : Failing) × FirstFalse (places p.file n.0) x) → (v : Verdict) × IsVerdictOn p.file n.0 v
+          → (v : Verdict) × (t : List ℕ) × IsToldOf listing p n v t
       by_places (inl placed) (v, judged) =
-          let s : SolidData = solid_of f n.0 in
-          let numbered : IsNumberedSolid s = solid_is_numbered f n.0 placed (has_few_parts f n.0 limits placed) in
+          let s : SolidData = solid_of p.file n.0 in
+          let numbered : IsNumberedSolid s = solid_is_numbered p.file n.0 placed (has_few_parts p.file n.0 limits placed) in
           let all = some_all s numbered in
-          let hint = some_hint listing f s numbered all.0 (shown listing (failing_shells all.0)) in
-          let rest : List ℕ = shell_lines listing f s all.0 ++ hint.0 ++ shell_texts listing f s all.0 hint.1 in (
+          let hint = some_hint listing p.file s numbered all.0 (shown listing (failing_shells all.0)) in
+          let rest : List ℕ = shell_lines listing p.file s all.0 ++ hint.0 ++ shell_texts listing p s all.0 hint.1 in (
             v,
             verdict_line n.0 v ++ rest,
             record {
@@ -143,8 +144,8 @@ module _ (listing : Listing) (f : Contents) (n : EntryNo) where
             },
           )
       by_places (inr (x, first)) (v, judged) =
-          let path = some_path x (sited f n.0) (same_bears (all_owed (sited f n.0)) (places f n.0) x (same_sited f n.0) (first_bears (places f n.0) x first)) in
-          let rest : List ℕ = record_rest f n x path.0 in (
+          let path = some_path x (sited p.file n.0) (same_bears (all_owed (sited p.file n.0)) (places p.file n.0) x (same_sited p.file n.0) (first_bears (places p.file n.0) x first)) in
+          let rest : List ℕ = record_rest p n x path.0 in (
             v,
             verdict_line n.0 v ++ rest,
             record {

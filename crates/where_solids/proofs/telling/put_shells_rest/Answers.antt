@@ -16,10 +16,10 @@ returns c =
     let count : c.len.result ≡ length c.in_ok-failing.failing.items = search rules in
     let head = c.in_ok-put_lines.ensures
     ∙ ap (λ n. c.args.out.now
-    ++ (units_line c.args.file.now ++ shells_line n c.len.result ++ c.bytes.result.now
+    ++ (units_line c.args.placed.now.file ++ shells_line n c.len.result ++ c.bytes.result.now
     ++ left_line [] (c.len.result - length c.shown_members-shells.result.now))) c.shell_count-count.ensures.count in
     IfOk-weaker c.put_texts.result _ _
-    (λ u last. rest_written c.args.listing c.args.file.now c.args.solid.now c.args.all.now c.in_ok-failing.failing.items c.shown_members-shells.result.now
+    (λ u last. rest_written c.args.listing c.args.placed.now c.args.solid.now c.args.all.now c.in_ok-failing.failing.items c.shown_members-shells.result.now
     c.as_slice.result.now c.bytes.result.now texts.lines texts.page.out texts.page.named c.put_hint.new.named
     c.len.result (length c.shown_members-shells.result.now) c.args.out.now c.put_lines.new.out c.put_hint.new.out c.put_texts.new.out
     c.in_ok-failing.ensures c.as_slice.ensures.value c.shown_members-shells.ensures c.in_ok-texts.ensures.lines c.in_ok-texts.ensures.paragraphs
