@@ -33,4 +33,4 @@ told_closed f n Closed a judged is = inl (is, all_closed f n judged)
 told_closed f n (Fails x) a judged is = inr (is, λ closed. FirstFalse-not_all (obligations f n) x judged (closed_all f n closed))
 
 pub closed_is_told : ClosedIsTold
-closed_is_told n listing f a t owed = told_closed f n owed.0 a owed.1.judged owed.2
+closed_is_told n listing p a t owed = told_closed p.file n owed.0 a owed.1.judged owed.2

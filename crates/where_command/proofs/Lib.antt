@@ -2,5 +2,6 @@ pub mod ShortWords
 pub mod GivenWords
 pub mod Outcomes
 pub mod OneFaults
+pub mod OneHints
 pub mod OneAnswer
 pub mod Laws

@@ -5,9 +5,8 @@ use Rattle.std.proofs.lemmas.Option.{slice_get_within}
 use Rattle.iges_base.specs.declared.entry_no.EntryNo.{EntryNo}
 use Rattle.iges_base.specs.declared.TheConstants.{FILE_LIMIT}
 use Rattle.iges_params.specs.Contents.{Contents}
-use Rattle.iges_params.specs.IsFile.{IsFile}
-use Rattle.iges_params.proofs.Answers.{ok_is, err_is}
-use Rattle.iges_params.proofs.FileExact.{IsFile-read_file, Refusal-read_file}
+use Rattle.iges_params.proofs.Answers.{err_is}
+use Rattle.iges_params.proofs.FileExact.{Refusal-read_file}
 use Rattle.brep_walk.specs.Places.{places}
 use Rattle.brep_walk.specs.SolidOf.{solid_of}
 use Rattle.solid_data.specs.Obligations.{Obligation, AllHold, FirstFalse, IsVerdict}
@@ -25,10 +24,12 @@ use Rattle.command_replies.specs.declared.answer.Answer.TheVariants as answer
 use Rattle.command_replies.specs.Due.{Owed, Exactly}
 use Rattle.command_replies.specs.Outcome.{IsNoFile}
 use Rattle.command_replies.proofs.One.{IsOne, no_file}
+use Rattle.where_places.specs.declared.placed_file.PlacedFile.{PlacedFile}
+use Rattle.where_places.proofs.OnePlacedFile.{one_placed}
 use Rattle.where_text.specs.declared.listing.Listing.{Listing}
 use Rattle.where_text.specs.Listing.{shown}
-use Rattle.where_solids.specs.AllFaults.{AreAllFaults, failing_shells}
-use Rattle.where_solids.specs.Hints.{IsFlagsHint, pair_fails}
+use Rattle.solid_hints.specs.AllFaults.{AreAllFaults, failing_shells}
+use Rattle.solid_hints.specs.ShellHints.{IsHint}
 use Rattle.where_solids.specs.Lines.{verdict_line}
 use Rattle.where_unjudged.specs.Listed.{solids_of}
 use Rattle.where_solids.specs.Overview.{AreVerdicts, all_close, overview_text}
@@ -39,7 +40,9 @@ use Rattle.where_command.specs.declared.asked.Asked.TheVariants as asked
 use Rattle.where_command.specs.Asked.{asked_of, usage_line}
 use Rattle.where_command.specs.Due.{DueOf, OfContents, OfNoFile, OfOverview, OfSolid, answer_to, answer_where, bad_file, bad_file_text, file_too_large}
 use Rattle.where_command.specs.Laws.{OneAnswerIsOwed}
+use Rattle.solid_hints.proofs.ToldHints.{all_inside}
 use Rattle.where_command.proofs.OneFaults.{one_of_all, same_list}
+use Rattle.where_command.proofs.OneHints.{one_hint}
 
 one_verdict : (os : List Obligation) (v w : Verdict) → IsVerdict os v → IsVerdict os w → v ≡ w
 one_verdict os Closed Closed a b = refl
@@ -57,37 +60,33 @@ one_path name (s ∷ ss) p q a b = by_front (one_path name ss p q) a.1 b.1
     by_front later (inr h) (inl e) = a.0 e ∙ sym (b.0 e)
     by_front later (inr h) (inr k) = later h k
 
-one_hint : (s : SolidData) (b : Bool) (h k : List ℕ) → IsFlagsHint s b h → IsFlagsHint s b k → h ≡ k
-one_hint s b h k (inl p) (inl q) = p.3 ∙ sym q.3
-one_hint s b h k (inl p) (inr q) = absurd (q.0 p.0 p.1 p.2)
-one_hint s b h k (inr p) (inl q) = absurd (p.0 q.0 q.1 q.2)
-one_hint s b h k (inr p) (inr q) = p.1 ∙ sym q.1
-
-module _ (listing : Listing) (f : Contents) (n : EntryNo) where
-  one_records : (r t : List ℕ) → IsOfRecords f n r → IsOfRecords f n t → r ≡ t
+module _ (listing : Listing) (p : PlacedFile) (n : EntryNo) where
+  one_records : (r t : List ℕ) → IsOfRecords p n r → IsOfRecords p n t → r ≡ t
   one_records r t a b =
-      let x : a.failing ≡ b.failing = FirstFalse-one (places f n.0) a.failing b.failing a.first b.first in
-      let path : a.path ≡ b.path = one_path b.failing (sited f n.0) a.path b.path (subst (λ y. IsPathTo y (sited f n.0) a.path) x a.leads) b.leads in
-      a.rest_is ∙ (ap (λ y. record_rest f n y a.path) x ∙ (ap (record_rest f n b.failing) path ∙ sym b.rest_is))
+      let x : a.failing ≡ b.failing = FirstFalse-one (places p.file n.0) a.failing b.failing a.first b.first in
+      let path : a.path ≡ b.path = one_path b.failing (sited p.file n.0) a.path b.path (subst (λ y. IsPathTo y (sited p.file n.0) a.path) x a.leads) b.leads in
+      a.rest_is ∙ (ap (λ y. record_rest p n y a.path) x ∙ (ap (record_rest p n b.failing) path ∙ sym b.rest_is))
 
-  one_shells : (r t : List ℕ) → IsOfShells listing f n r → IsOfShells listing f n t → r ≡ t
+  one_shells : (r t : List ℕ) → IsOfShells listing p n r → IsOfShells listing p n t → r ≡ t
   one_shells r t a b =
-      let s : SolidData = solid_of f n.0 in
+      let s : SolidData = solid_of p.file n.0 in
       let xs : a.faults ≡ b.faults = one_of_all s a.faults b.faults a.all b.all in
-      let hint : a.hint ≡ b.hint = one_hint s (pair_fails b.faults (shown listing (failing_shells b.faults))) a.hint b.hint
-      (subst (λ ys. IsFlagsHint s (pair_fails ys (shown listing (failing_shells ys))) a.hint) xs a.is_hint) b.is_hint in
-      a.rest_is ∙ (ap (λ ys. shell_lines listing f s ys ++ a.hint ++ shell_texts listing f s ys) xs
-      ∙ (ap (λ h. shell_lines listing f s b.faults ++ h ++ shell_texts listing f s b.faults) hint ∙ sym b.rest_is))
+      let ks : List ℕ = shown listing (failing_shells b.faults) in
+      let hint = one_hint listing p.file s b.faults ks a.hint b.hint a.faces b.faces (all_inside s listing b.faults (failing_shells b.faults) ks b.all.each refl refl)
+      (subst (λ ys. IsHint listing p.file s ys (shown listing (failing_shells ys)) a.hint a.faces) xs a.is_hint) b.is_hint in
+      a.rest_is ∙ (ap (λ ys. shell_lines listing p.file s ys ++ a.hint ++ shell_texts listing p s ys a.faces) xs
+      ∙ (ap (λ h. shell_lines listing p.file s b.faults ++ h ++ shell_texts listing p s b.faults a.faces) hint.0
+      ∙ (ap (λ ns. shell_lines listing p.file s b.faults ++ b.hint ++ shell_texts listing p s b.faults ns) hint.1 ∙ sym b.rest_is)))
 
-  one_rest : (r t : List ℕ) → IsOfRecords f n r ⊎ IsOfShells listing f n r → IsOfRecords f n t ⊎ IsOfShells listing f n t → r ≡ t
+  one_rest : (r t : List ℕ) → IsOfRecords p n r ⊎ IsOfShells listing p n r → IsOfRecords p n t ⊎ IsOfShells listing p n t → r ≡ t
   one_rest r t (inl a) (inl b) = one_records r t a b
-  one_rest r t (inl a) (inr b) = absurd (FirstFalse-not_all (places f n.0) a.failing a.first b.placed)
-  one_rest r t (inr a) (inl b) = absurd (FirstFalse-not_all (places f n.0) b.failing b.first a.placed)
+  one_rest r t (inl a) (inr b) = absurd (FirstFalse-not_all (places p.file n.0) a.failing a.first b.placed)
+  one_rest r t (inr a) (inl b) = absurd (FirstFalse-not_all (places p.file n.0) b.failing b.first a.placed)
   one_rest r t (inr a) (inr b) = one_shells r t a b
 
-  one_told : (v w : Verdict) (t u : List ℕ) → IsToldOf listing f n v t → IsToldOf listing f n w u → (v ≡ w) × (t ≡ u)
+  one_told : (v w : Verdict) (t u : List ℕ) → IsToldOf listing p n v t → IsToldOf listing p n w u → (v ≡ w) × (t ≡ u)
   one_told v w t u a b =
-      let same : v ≡ w = one_verdict (obligations f n.0) v w a.judged b.judged in (
+      let same : v ≡ w = one_verdict (obligations p.file n.0) v w a.judged b.judged in (
         same,
         a.text_is ∙ (ap (λ x. verdict_line n.0 x ++ a.rest) same
             ∙ (ap (λ r. verdict_line n.0 w ++ r) (one_rest a.rest b.rest a.told b.told) ∙ sym b.text_is)),
@@ -100,12 +99,12 @@ one_verdicts f ns vs ws a b =
     let n = get_some ns i (omega (arith, slice_get_within vs i v at, a.each)) in
     one_verdict (obligations f n.0.0) v w (a.verdict i n.0 v n.1 at) (b.verdict i n.0 w n.1 there))
 
-contents_one : (q : Asked) (f : Contents) → IsOne (OfContents q f)
-contents_one asked.Overview f a b t u p q =
-    let same : p.0 ≡ q.0 = one_verdicts f (solids_of f) p.0 q.0 p.1.judged q.1.judged in
-    (p.2 ∙ (ap (λ vs. answer_where (all_close vs)) same ∙ sym q.2), p.1.text_is ∙ (ap (overview_text f) same ∙ sym q.1.text_is))
-contents_one (asked.Solid n listing) f a b t u p q =
-    let same = one_told listing f (record { 0 = n }) p.0 q.0 t u p.1 q.1 in
+contents_one : (q : Asked) (x : PlacedFile) → IsOne (OfContents q x)
+contents_one asked.Overview x a b t u p q =
+    let same : p.0 ≡ q.0 = one_verdicts x.file (solids_of x.file) p.0 q.0 p.1.judged q.1.judged in
+    (p.2 ∙ (ap (λ vs. answer_where (all_close vs)) same ∙ sym q.2), p.1.text_is ∙ (ap (overview_text x) same ∙ sym q.1.text_is))
+contents_one (asked.Solid n listing) x a b t u p q =
+    let same = one_told listing x (record { 0 = n }) p.0 q.0 t u p.1 q.1 in
     (p.2 ∙ (ap answer_to same.0 ∙ sym q.2), same.1)
 
 no_file_one : (bytes : List ℕ) → IsOne (OfNoFile bytes)
@@ -121,11 +120,11 @@ owed_none bytes a t (bad_file few fault p) = inr (few, fault, p)
 
 due_of_one : (q : Asked) (bytes : List ℕ) → IsOne (DueOf q bytes)
 due_of_one c bytes a b t u (inl p) (inl q) = no_file_one bytes a b t u p q
-due_of_one c bytes a b t u (inl p) (inr q) = absurd (no_file bytes q.1 (owed_none bytes a t p) q.0 q.2)
-due_of_one c bytes a b t u (inr p) (inl q) = absurd (no_file bytes p.1 (owed_none bytes b u q) p.0 p.2)
+due_of_one c bytes a b t u (inl p) (inr q) = absurd (no_file bytes q.1.file (owed_none bytes a t p) q.0 q.2.at.file)
+due_of_one c bytes a b t u (inr p) (inl q) = absurd (no_file bytes p.1.file (owed_none bytes b u q) p.0 p.2.at.file)
 due_of_one c bytes a b t u (inr p) (inr q) =
-    let same : p.1 ≡ q.1 = ok_is p.1 q.1 (sym (IsFile-read_file bytes p.1 p.2) ∙ IsFile-read_file bytes q.1 q.2) in
-    contents_one c q.1 a b t u (subst (λ (f : Contents). OfContents c f a t) same p.3) q.3
+    let same : p.1 ≡ q.1 = one_placed bytes p.1 q.1 p.2 q.2 in
+    contents_one c q.1 a b t u (subst (λ (x : PlacedFile). OfContents c x a t) same p.3) q.3
 
 pub due_one : OneAnswerIsOwed
 due_one words bytes a b t u p q = by_asked (asked_of words) p q

@@ -4,29 +4,29 @@ use Rattle.std.specs.Prelude.{MatchOption, IsSome}
 use Rattle.std.specs.Io.KnownBytes.{Appends}
 use Rattle.iges_io.specs.Reading.{Told}
 use Rattle.iges_io.specs.Faults.{Rose}
-use Rattle.iges_params.specs.Contents.{Contents}
+use Rattle.where_places.specs.declared.placed_file.PlacedFile.{PlacedFile}
 use Rattle.solid_data.specs.declared.verdict.Verdict.{Verdict}
 use Rattle.solid_data.specs.declared.verdict.Verdict.TheVariants.{Closed, Fails}
 use Rattle.command_replies.specs.declared.reply.Reply.{Reply}
 use Rattle.command_replies.specs.declared.answer.Answer.{Answer}
 use Rattle.command_replies.specs.declared.answer.Answer.TheVariants.{Done, No, Usage, BadFile, ReadFault, WriteFault, NoMemory, NoExtract, TooLarge}
 use Rattle.command_replies.specs.Due.{Exactly}
-use Rattle.command_replies.specs.Replies.{IsFileTold, IsReply}
+use Rattle.command_replies.specs.Replies.{IsReply}
 use Rattle.where_solids.specs.Overview.{all_close}
 use Rattle.where_command.specs.declared.asked.Asked.{Asked}
 use Rattle.where_command.specs.declared.asked.Asked.TheVariants as asked
 use Rattle.where_command.specs.Asked.{asked_of, usage_line}
 use Rattle.where_command.specs.Due.{DueOf, OfContents, OfNoFile, answer_to, answer_where, bad_file, file_too_large}
-use Rattle.where_command.specs.Outcome.{Finishes, IsComplete, IsOwed, Outcome}
+use Rattle.where_command.specs.Outcome.{Finishes, IsComplete, IsOwed, IsPlacedTold, Outcome}
 
 some_told : (left : Option (List ℕ)) → (bytes : List ℕ) × Told left bytes
 some_told None = ([], tt)
 some_told (Some bytes) = (bytes, refl)
 
 -- what is owed of a file that was told
-pub contents_owed : (q : Asked) (file : Option (List ℕ)) (f : Contents) (reply : Reply) → IsFileTold file f → OfContents q f reply.answer reply.text
+pub contents_owed : (q : Asked) (file : Option (List ℕ)) (p : PlacedFile) (reply : Reply) → IsPlacedTold file p → OfContents q p reply.answer reply.text
     → IsReply (DueOf q) file reply
-contents_owed q file f reply there owed = record { bytes = there.bytes; told = there.told; owed = inr (there.few, f, there.is, owed) }
+contents_owed q file p reply there owed = record { bytes = there.bytes; told = there.told; owed = inr (there.few, p, there.is, owed) }
 
 -- and of bytes that are no file
 pub no_file_owed : (q : Asked) (file : Option (List ℕ)) (reply : Reply) → IsReply OfNoFile file reply → IsReply (DueOf q) file reply
@@ -68,9 +68,9 @@ where_judgement : (b : Bool) → IsJudgement (answer_where b)
 where_judgement true = tt
 where_judgement false = tt
 
-contents_judgement : (q : Asked) (f : Contents) (a : Answer) (t : List ℕ) → OfContents q f a t → IsJudgement a
-contents_judgement asked.Overview f a t owed = subst IsJudgement (sym owed.2) (where_judgement (all_close owed.0))
-contents_judgement (asked.Solid n listing) f a t owed = subst IsJudgement (sym owed.2) (to_judgement owed.0)
+contents_judgement : (q : Asked) (p : PlacedFile) (a : Answer) (t : List ℕ) → OfContents q p a t → IsJudgement a
+contents_judgement asked.Overview p a t owed = subst IsJudgement (sym owed.2) (where_judgement (all_close owed.0))
+contents_judgement (asked.Solid n listing) p a t owed = subst IsJudgement (sym owed.2) (to_judgement owed.0)
 
 no_file_judgement : (bytes : List ℕ) (a : Answer) (t : List ℕ) → OfNoFile bytes a t → IsJudgement a
 no_file_judgement bytes a t (file_too_large p) = tt

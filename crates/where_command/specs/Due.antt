@@ -3,8 +3,6 @@ use Rattle.std.specs.Prelude.{◌≡◌, ◌⊎◌, ℕ, ◌<◌, ◌≤◌, Boo
 use Rattle.iges_base.specs.declared.TheConstants.{FILE_LIMIT}
 use Rattle.iges_base.specs.declared.entry_no.EntryNo.{EntryNo}
 use Rattle.iges_lines.specs.declared.fault.LineFault.{LineFault}
-use Rattle.iges_params.specs.Contents.{Contents}
-use Rattle.iges_params.specs.IsFile.{IsFile}
 use Rattle.iges_params.specs.Refusal.{Refusal}
 use Rattle.solid_data.specs.declared.verdict.Verdict.{Verdict}
 use Rattle.solid_data.specs.declared.verdict.Verdict.TheVariants.{Closed, Fails}
@@ -12,6 +10,8 @@ use Rattle.command_replies.specs.declared.answer.Answer.{Answer}
 use Rattle.command_replies.specs.declared.answer.Answer.TheVariants as answer
 use Rattle.command_replies.specs.Due.{Owed, Exactly}
 use Rattle.command_replies.specs.Texts.{bad_file_line}
+use Rattle.where_places.specs.declared.placed_file.PlacedFile.{PlacedFile}
+use Rattle.where_places.specs.PlacedFiles.{IsPlacedFile}
 use Rattle.where_file.specs.BadFile.{bad_file_facts}
 use Rattle.where_text.specs.Sentences.{reason_sentence}
 use Rattle.where_text.specs.declared.listing.Listing.{Listing}
@@ -41,20 +41,20 @@ answer_where true = answer.Done
 answer_where false = answer.No
 
 -- of one solid of a file: its verdict, and where it fails
-abbrev pub OfSolid : ℕ → Listing → Contents → Owed
-OfSolid n listing f a t = (v : Verdict) × IsToldOf listing f (record { 0 = n }) v t × (a ≡ answer_to v)
+abbrev pub OfSolid : ℕ → Listing → PlacedFile → Owed
+OfSolid n listing p a t = (v : Verdict) × IsToldOf listing p (record { 0 = n }) v t × (a ≡ answer_to v)
 
 -- of all solids of a file: the verdict on each
-abbrev pub OfOverview : Contents → Owed
-OfOverview f a t = (vs : List Verdict) × IsOverview f vs t × (a ≡ answer_where (all_close vs))
+abbrev pub OfOverview : PlacedFile → Owed
+OfOverview p a t = (vs : List Verdict) × IsOverview p vs t × (a ≡ answer_where (all_close vs))
 
-abbrev pub OfContents : Asked → Contents → Owed
-OfContents asked.Overview f = OfOverview f
-OfContents (asked.Solid n listing) f = OfSolid n listing f
+abbrev pub OfContents : Asked → PlacedFile → Owed
+OfContents asked.Overview p = OfOverview p
+OfContents (asked.Solid n listing) p = OfSolid n listing p
 
 -- what is owed of a file's bytes
 abbrev pub DueOf : Asked → List ℕ → Owed
-DueOf q bytes a t = OfNoFile bytes a t ⊎ ((length bytes ≤ FILE_LIMIT) × (f : Contents) × IsFile bytes f × OfContents q f a t)
+DueOf q bytes a t = OfNoFile bytes a t ⊎ ((length bytes ≤ FILE_LIMIT) × (p : PlacedFile) × IsPlacedFile bytes p × OfContents q p a t)
 
 -- what is owed for these words and the file's bytes
 abbrev pub Due : List (List ℕ) → List ℕ → Owed

@@ -1,6 +1,6 @@
 -- What the definitions say of answers and texts.
 use Rattle.std.specs.Prelude.{◌≡◌, ◌↔◌, ◌⊎◌, ℕ, ◌++◌, List}
-use Rattle.iges_params.specs.Contents.{Contents}
+use Rattle.where_places.specs.declared.placed_file.PlacedFile.{PlacedFile}
 use Rattle.solid_verdict.specs.Closed.{IsClosed}
 use Rattle.command_replies.specs.declared.answer.Answer.{Answer}
 use Rattle.command_replies.specs.declared.answer.Answer.TheVariants.{Done, No}
@@ -14,4 +14,5 @@ OneAnswerIsOwed = (words : List (List ℕ)) (bytes : List ℕ) (a b : Answer) (t
 -- Of a solid yes is answered exactly where it is closed, and no where it isn't.
 abbrev pub ClosedIsTold : Type 0
 ClosedIsTold =
-    (n : ℕ) (listing : Listing) (f : Contents) (a : Answer) (t : List ℕ) → OfSolid n listing f a t → ((a ≡ Done) × IsClosed f n) ⊎ ((a ≡ No) × ¬ IsClosed f n)
+    (n : ℕ) (listing : Listing) (p : PlacedFile) (a : Answer) (t : List ℕ) → OfSolid n listing p a t
+    → ((a ≡ Done) × IsClosed p.file n) ⊎ ((a ≡ No) × ¬ IsClosed p.file n)

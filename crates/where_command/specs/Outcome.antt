@@ -1,10 +1,13 @@
 -- How a run of the command may end.
-use Rattle.std.specs.Prelude.{◌≡◌, ◌⊎◌, ℕ, ◌<◌, List, length, take, Option}
+use Rattle.std.specs.Prelude.{◌≡◌, ◌⊎◌, ℕ, ◌<◌, ◌≤◌, List, length, take, Option}
 use Rattle.std.specs.Io.KnownBytes.{Appends, Keeps}
 use Rattle.iges_io.specs.Faults.{Rose}
 use Rattle.iges_io.specs.Reading.{Told}
 use Rattle.command_replies.specs.declared.answer.Answer.{Answer}
 use Rattle.command_replies.specs.declared.answer.Answer.TheVariants.{Usage, ReadFault, WriteFault, NoMemory}
+use Rattle.iges_base.specs.declared.TheConstants.{FILE_LIMIT}
+use Rattle.where_places.specs.declared.placed_file.PlacedFile.{PlacedFile}
+use Rattle.where_places.specs.PlacedFiles.{IsPlacedFile}
 use Rattle.where_command.specs.Due.{Due}
 
 -- the answer and the text are due for some bytes, which are those that the source gave where it gave any
@@ -53,3 +56,10 @@ pub record Stops (before after : Option (List ℕ)) (faults now : ℕ) (text : L
 abbrev pub Finishes : Option (List ℕ) → Option (List ℕ) → ℕ → ℕ → Answer → List ℕ → Answer → Type 0
 Finishes before after faults now answer text result =
     ((result ≡ answer) × Appends before after text × (now ≡ faults)) ⊎ ((result ≡ WriteFault) × Stops before after faults now text)
+
+-- the bytes that came are this file
+pub record IsPlacedTold (left : Option (List ℕ)) (p : PlacedFile) : Type 0 where
+  pub bytes : List ℕ
+  pub told : Told left bytes
+  pub few : length bytes ≤ FILE_LIMIT
+  pub is : IsPlacedFile bytes p

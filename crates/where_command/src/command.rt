@@ -25,7 +25,7 @@ fn source_reply<F: Source>(alloc: Global, asked: Asked, file: &mut F) -> Result<
     ensures taken { TakesWithin FILE_LIMIT (F.left file.old) (F.left file.new) result }
 {
     match file_in(alloc, file)? {
-        Ok(file) => Ok(contents_reply(alloc, asked, &file)?),
+        Ok(placed) => Ok(contents_reply(alloc, asked, &placed)?),
         Err(reply) => Ok(reply),
     }
 }

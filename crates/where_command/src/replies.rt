@@ -7,9 +7,9 @@ ghost use Rattle.where_command.specs.Due.{OfContents, OfOverview, OfSolid, answe
 use crate::asked::Asked;
 use command_replies::{Answer, Reply};
 use iges_fields::{Bytes, EntryNo, NoMemory};
-use iges_params::File;
 use solid_data::Verdict;
 use std::alloc::Global;
+use where_places::PlacedFile;
 use where_solids::{tell, tell_all};
 use where_text::Listing;
 
@@ -41,20 +41,20 @@ fn answer_where(closed: bool) -> Answer
     if closed { Answer::Done } else { Answer::No }
 }
 
-fn solid_reply(alloc: Global, file: &File, no: u32, listing: Listing) -> Result<Reply, NoMemory>
-    ensures { IfOk result (λ reply. OfSolid no listing file.now reply.answer reply.text) }
+fn solid_reply(alloc: Global, placed: &PlacedFile, no: u32, listing: Listing) -> Result<Reply, NoMemory>
+    ensures { IfOk result (λ reply. OfSolid no listing placed.now reply.answer reply.text) }
 {
-    let told = tell(alloc, file, EntryNo(no), listing)?;
+    let told = tell(alloc, placed, EntryNo(no), listing)?;
     Ok(Reply {
         answer: answer_to(told.verdict),
         text: told.text,
     })
 }
 
-fn overview_reply(alloc: Global, file: &File) -> Result<Reply, NoMemory>
-    ensures { IfOk result (λ reply. OfOverview file.now reply.answer reply.text) }
+fn overview_reply(alloc: Global, placed: &PlacedFile) -> Result<Reply, NoMemory>
+    ensures { IfOk result (λ reply. OfOverview placed.now reply.answer reply.text) }
 {
-    let told = tell_all(alloc, file)?;
+    let told = tell_all(alloc, placed)?;
     Ok(Reply {
         answer: answer_where(told.all_closed),
         text: told.text,
@@ -62,11 +62,11 @@ fn overview_reply(alloc: Global, file: &File) -> Result<Reply, NoMemory>
 }
 
 /// The reply to what is asked of a file.
-pub fn contents_reply(alloc: Global, asked: Asked, file: &File) -> Result<Reply, NoMemory>
-    ensures { IfOk result (λ reply. OfContents asked file.now reply.answer reply.text) }
+pub fn contents_reply(alloc: Global, asked: Asked, placed: &PlacedFile) -> Result<Reply, NoMemory>
+    ensures { IfOk result (λ reply. OfContents asked placed.now reply.answer reply.text) }
 {
     match asked {
-        Asked::Overview => overview_reply(alloc, file),
-        Asked::Solid(no, listing) => solid_reply(alloc, file, no, listing),
+        Asked::Overview => overview_reply(alloc, placed),
+        Asked::Solid(no, listing) => solid_reply(alloc, placed, no, listing),
     }
 }

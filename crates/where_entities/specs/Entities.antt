@@ -12,6 +12,8 @@ use Rattle.entry_references.specs.Refs.{Record, names_entry}
 use Rattle.solid_data.specs.Ring.{numbers_from}
 use Rattle.where_text.specs.Spelled.{signed, space_word}
 use Rattle.where_text.specs.Types.{type_of, type_word}
+use Rattle.where_places.specs.declared.placed_file.PlacedFile.{PlacedFile}
+use Rattle.where_places.specs.PlaceLines.{lines_fact}
 use Rattle.where_entities.specs.Facts.{record_facts}
 
 -- the number of the i-th entry, from 0
@@ -39,22 +41,22 @@ surface_words f r = if int_eq r.0.kind (type_number face) then surface_named f (
 unfoldable pub record_head : Contents → EntryNo → Record → List ℕ
 record_head f n r = codes "entity" ++ space_word (decimal n.0) ++ space_word (type_word r.0.kind) ++ surface_words f r ++ codes "\n"
 
--- and its facts
-unfoldable pub record_text : Contents → EntryNo → Record → List ℕ
-record_text f n r = record_head f n r ++ record_facts f r
+-- its number and type, the lines of the file that it takes, and its other facts
+unfoldable pub record_text : PlacedFile → EntryNo → Record → List ℕ
+record_text p n r = record_head p.file n r ++ lines_fact p.places n.0 ++ record_facts p.file r
 
-abbrev pub text_in : Contents → EntryNo → Option Record → List ℕ
-text_in f n None = []
-text_in f n (Some r) = record_text f n r
+abbrev pub text_in : PlacedFile → EntryNo → Option Record → List ℕ
+text_in p n None = []
+text_in p n (Some r) = record_text p n r
 
-abbrev pub entity_text : Contents → EntryNo → List ℕ
-entity_text f n = text_in f n (named f (pos n.0))
+abbrev pub entity_text : PlacedFile → EntryNo → List ℕ
+entity_text p n = text_in p n (named p.file (pos n.0))
 
 -- an empty line, how many there are, and a paragraph for each; nothing where there are none
-abbrev pub paragraphs : Contents → List EntryNo → List ℕ
-paragraphs f [] = []
-paragraphs f (n ∷ ns) = codes "\nentities" ++ space_word (decimal (length (n ∷ ns))) ++ codes "\n" ++ flat_map (entity_text f) (n ∷ ns)
+abbrev pub paragraphs : PlacedFile → List EntryNo → List ℕ
+paragraphs p [] = []
+paragraphs p (n ∷ ns) = codes "\nentities" ++ space_word (decimal (length (n ∷ ns))) ++ codes "\n" ++ flat_map (entity_text p) (n ∷ ns)
 
 -- the part of a text that describes these of the numbers that name an entry
-unfoldable pub entities_text : Contents → List EntryNo → List ℕ
-entities_text f numbers = paragraphs f (described f numbers)
+unfoldable pub entities_text : PlacedFile → List EntryNo → List ℕ
+entities_text p numbers = paragraphs p (described p.file numbers)

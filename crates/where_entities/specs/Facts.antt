@@ -11,6 +11,8 @@ use Rattle.brep_lists.specs.Record.{kind_of_type}
 use Rattle.entry_references.specs.Refs.{Record, has_layout, names_of}
 use Rattle.where_text.specs.declared.listing.Listing.TheVariants.{Few}
 use Rattle.where_text.specs.Listing.{more_facts, shown}
+use Rattle.where_places.specs.declared.placed_file.PlacedFile.{PlacedFile}
+use Rattle.where_places.specs.PlaceLines.{lines_fact}
 use Rattle.where_text.specs.Spelled.{masked, signed, space_word, spelled_if, text_shown}
 
 -- a number that isn't 0, after a word
@@ -111,10 +113,11 @@ label_facts e = label_fact e.label ++ number_fact (codes "subscript") e.subscrip
 unfoldable pub record_facts : Contents → Record → List ℕ
 record_facts f r = field_facts f r.0 ++ label_facts r.0 ++ name_facts f (entity_names f r)
 
-abbrev pub facts_in : Contents → Option Record → List ℕ
-facts_in f None = []
-facts_in f (Some r) = record_facts f r
+-- the lines of the file that it takes come first
+abbrev pub facts_in : PlacedFile → ℕ → Option Record → List ℕ
+facts_in p n None = []
+facts_in p n (Some r) = lines_fact p.places n ++ record_facts p.file r
 
 -- the facts of the entity that a number names
-abbrev pub entity_facts : Contents → ℕ → List ℕ
-entity_facts f n = facts_in f (named f (pos n))
+abbrev pub entity_facts : PlacedFile → ℕ → List ℕ
+entity_facts p n = facts_in p n (named p.file (pos n))

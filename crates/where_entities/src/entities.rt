@@ -12,6 +12,7 @@ use iges_directory::Entry;
 use iges_fields::{EntryNo, NoMemory, Out, Values};
 use iges_params::File;
 use std::alloc::Global;
+use where_places::PlacedFile;
 use where_text::{EntryNumbers, put_number, put_signed, put_type, put_type_word};
 
 fn names_entry(file: &File, number: i64) -> bool
@@ -64,21 +65,22 @@ fn put_head(
 }
 
 #[tactic(auto, unfolding(crate::specs::Entities::record_text))]
-fn put_entity(alloc: Global, out: &mut Out, file: &File, no: EntryNo) -> Result<(), NoMemory>
-    ensures { OnOk result (out.new ≡ out.old ++ entity_text file.now no) }
+fn put_entity(alloc: Global, out: &mut Out, placed: &PlacedFile, no: EntryNo) -> Result<(), NoMemory>
+    ensures { OnOk result (out.new ≡ out.old ++ entity_text placed.now no) }
 {
-    let Some(record) = record_of(file, no) else {
+    let Some(record) = record_of(&placed.file, no) else {
         return Ok(());
     };
-    put_head(out, file, no, record.entry, record.values)?;
-    put_facts(alloc, out, file, record.entry, record.values)
+    put_head(out, &placed.file, no, record.entry, record.values)?;
+    placed.places.put_lines(out, no)?;
+    put_facts(alloc, out, &placed.file, record.entry, record.values)
 }
 
-fn put_each(alloc: Global, out: &mut Out, file: &File, list: &EntryNumbers) -> Result<(), NoMemory>
-    ensures { OnOk result (out.new ≡ out.old ++ flat_map (entity_text file.now) list.now) }
+fn put_each(alloc: Global, out: &mut Out, placed: &PlacedFile, list: &EntryNumbers) -> Result<(), NoMemory>
+    ensures { OnOk result (out.new ≡ out.old ++ flat_map (entity_text placed.now) list.now) }
 {
     'entities: for no in list.as_slice() {
-        put_entity(alloc, out, file, *no)?;
+        put_entity(alloc, out, placed, *no)?;
     }
     Ok(())
 }
@@ -86,10 +88,10 @@ fn put_each(alloc: Global, out: &mut Out, file: &File, list: &EntryNumbers) -> R
 fn put_paragraphs(
     alloc: Global,
     out: &mut Out,
-    file: &File,
+    placed: &PlacedFile,
     list: &EntryNumbers,
 ) -> Result<(), NoMemory>
-    ensures { OnOk result (out.new ≡ out.old ++ paragraphs file.now list.now) }
+    ensures { OnOk result (out.new ≡ out.old ++ paragraphs placed.now list.now) }
 {
     if list.len() == 0 {
         return Ok(());
@@ -97,21 +99,21 @@ fn put_paragraphs(
     out.put(b"\nentities")?;
     put_number(out, list.len() as u64)?;
     out.put(b"\n")?;
-    put_each(alloc, out, file, list)
+    put_each(alloc, out, placed, list)
 }
 
 /// Appends the part of a text that describes entities: of these numbers those that name an entry, by rising number, each
-/// once. It is an empty line, a line with how many there are, and for each a line with its type and its facts; nothing where
-/// there are none.
+/// once. It is an empty line, a line with how many there are, and for each a line with its type, the lines of the file that it
+/// takes, and its other facts; nothing where there are none.
 #[tactic(auto, unfolding(crate::specs::Entities::entities_text))]
 pub fn put_entities(
     alloc: Global,
     out: &mut Out,
-    file: &File,
+    placed: &PlacedFile,
     numbers: &EntryNumbers,
 ) -> Result<(), NoMemory>
-    ensures text { OnOk result (out.new ≡ out.old ++ entities_text file.now numbers.now) }
+    ensures text { OnOk result (out.new ≡ out.old ++ entities_text placed.now numbers.now) }
 {
-    let list = described(alloc, file, numbers)?;
-    put_paragraphs(alloc, out, file, &list)
+    let list = described(alloc, &placed.file, numbers)?;
+    put_paragraphs(alloc, out, placed, &list)
 }

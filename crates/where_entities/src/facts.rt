@@ -13,6 +13,7 @@ use iges_directory::Entry;
 use iges_fields::{EntryNo, NoMemory, Out, Values};
 use iges_params::File;
 use std::alloc::Global;
+use where_places::PlacedFile;
 use where_text::put_signed;
 
 #[tactic(auto, unfolding(crate::specs::Facts::number_fact))]
@@ -67,18 +68,20 @@ pub fn put_facts(
     put_names(alloc, out, file, entry, values)
 }
 
-/// Appends the facts of the entity that a number names, each a line after two spaces: its level, colour, matrix, label,
-/// subscript and names, each where it is there (IGES 5.3, 2.2.4.4). Nothing where the number names none.
+/// Appends the facts of the entity that a number names, each a line after two spaces: the lines of the file that it takes;
+/// its level, colour, matrix, label, subscript and names, each where it is there (IGES 5.3, 2.2.4.4). Nothing where the
+/// number names none.
 pub fn put_entity_facts(
     alloc: Global,
     out: &mut Out,
-    file: &File,
+    placed: &PlacedFile,
     no: EntryNo,
 ) -> Result<(), NoMemory>
-    ensures text { OnOk result (out.new ≡ out.old ++ entity_facts file.now no.0) }
+    ensures text { OnOk result (out.new ≡ out.old ++ entity_facts placed.now no.0) }
 {
-    match record_of(file, no) {
-        Some(record) => put_facts(alloc, out, file, record.entry, record.values),
-        None => Ok(()),
-    }
+    let Some(record) = record_of(&placed.file, no) else {
+        return Ok(());
+    };
+    placed.places.put_lines(out, no)?;
+    put_facts(alloc, out, &placed.file, record.entry, record.values)
 }

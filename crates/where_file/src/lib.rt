@@ -12,4 +12,5 @@ mod whole;
 
 pub use bad_file::put_bad_file;
 pub use fields::Field;
+pub use file_line::{from_line, line_of};
 pub use look::{FileKind, LineKind};

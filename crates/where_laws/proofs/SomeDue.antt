@@ -12,6 +12,9 @@ use Rattle.command_replies.specs.declared.answer.Answer.{Answer}
 use Rattle.command_replies.specs.declared.answer.Answer.TheVariants as answer
 use Rattle.command_replies.specs.Due.{Exactly}
 use Rattle.command_replies.proofs.SomeDue.{IsSome, longer}
+use Rattle.where_places.specs.declared.placed_file.PlacedFile.{PlacedFile}
+use Rattle.where_places.specs.Places.{places_of}
+use Rattle.where_places.specs.PlacedFiles.{IsPlacedFile}
 use Rattle.where_unjudged.specs.Listed.{solids_of}
 use Rattle.where_solids.specs.Overview.{all_close, overview_text}
 use Rattle.where_command.specs.declared.asked.Asked.{Asked}
@@ -21,19 +24,29 @@ use Rattle.where_command.specs.Due.{DueOf, OfContents, answer_to, answer_where, 
 use Rattle.where_laws.specs.SomeAnswer.{SomeAnswerIsOwed}
 use Rattle.where_laws.proofs.Told.{some_told, some_verdicts}
 
-contents_due : (q : Asked) (f : Contents) (bytes : List ℕ) → length bytes ≤ FILE_LIMIT → IsFile bytes f → IsSome (OfContents q f)
-contents_due asked.Overview f bytes few is =
-    let vs = some_verdicts f (solids_of f) in
-    (answer_where (all_close vs.0), overview_text f vs.0, (vs.0, record { judged = vs.1; text_is = refl }, refl))
-contents_due (asked.Solid n listing) f bytes few is =
-    let told = some_told listing f (record { 0 = n }) (can_be_made bytes f few is).made.limits in (answer_to told.0, told.1, (told.0, told.2, refl))
+contents_due : (q : Asked) (p : PlacedFile) (bytes : List ℕ) → length bytes ≤ FILE_LIMIT → IsFile bytes p.file → IsSome (OfContents q p)
+contents_due asked.Overview p bytes few is =
+    let vs = some_verdicts p.file (solids_of p.file) in
+    (answer_where (all_close vs.0), overview_text p vs.0, (vs.0, record { judged = vs.1; text_is = refl }, refl))
+contents_due (asked.Solid n listing) p bytes few is =
+    let told = some_told listing p (record { 0 = n }) (can_be_made bytes p.file few is).made.limits in (answer_to told.0, told.1, (told.0, told.2, refl))
+
+-- the file with its bytes and the places of its entries
+placed_of : (bytes : List ℕ) (f : Contents) → IsFile bytes f → (p : PlacedFile) × IsPlacedFile bytes p
+placed_of bytes f is = (
+  record { bytes = bytes; file = f; places = places_of is.sections is.placed },
+  record { bytes_are = refl; at = record { file = is; places_are = refl } },
+)
 
 due_of : (q : Asked) (bytes : List ℕ) → IsSome (DueOf q bytes)
 due_of q bytes = by_limit (decided_within (length bytes) FILE_LIMIT) (one_reading bytes)
   where
     by_limit : Decided (length bytes ≤ FILE_LIMIT) → HasOneReading bytes → IsSome (DueOf q bytes)
     by_limit (inr more) reading = (answer.TooLarge, [], inl (file_too_large (longer (length bytes) FILE_LIMIT more)))
-    by_limit (inl few) (inl (f, only, never)) = let due = contents_due q f bytes few only.0 in (due.0, due.1, inr (few, f, only.0, due.2))
+    by_limit (inl few) (inl (f, only, never)) =
+        let p = placed_of bytes f only.0 in
+        let due = contents_due q p.0 bytes few p.1.at.file in
+        (due.0, due.1, inr (few, p.0, p.1, due.2))
     by_limit (inl few) (inr (fault, only, never)) = (answer.BadFile, bad_file_text bytes fault, inl (bad_file few fault only.0))
 
 pub some_answer : SomeAnswerIsOwed

@@ -1,7 +1,7 @@
 -- Of each solid something is told.
-use Rattle.std.specs.Prelude.{◌≡◌, ◌⊎◌, ℕ, zero, suc, ◌+◌, ◌<◌, Bool, true, IsTrue, List, [], ◌∷◌, ◌++◌, length, Some, slice_get}
-use Rattle.std.proofs.Common.{refl, ap, subst, arith, inl, inr}
-use Rattle.std.proofs.lemmas.Option.{same_Some}
+use Rattle.std.specs.Prelude.{◌≡◌, ◌⊎◌, ℕ, zero, suc, ◌+◌, true, List, [], ◌∷◌, ◌++◌, length, flat_map, zip, Option, Some, None, slice_get}
+use Rattle.std.proofs.Common.{refl, sym, ◌∙◌, ap, subst, arith, inl, inr}
+use Rattle.std.proofs.lemmas.Option.{same_Some, none-some}
 use Rattle.iges_base.specs.declared.entry_no.EntryNo.{EntryNo}
 use Rattle.iges_params.specs.Contents.{Contents}
 use Rattle.iges_params.specs.Limits.{FitsLimits}
@@ -17,26 +17,26 @@ use Rattle.solid_data.specs.declared.solid.Shell.{Shell}
 use Rattle.solid_data.specs.declared.verdict.Failing.{Failing}
 use Rattle.solid_data.specs.declared.verdict.Verdict.{Verdict}
 use Rattle.solid_data.proofs.Decisions.{Decided, decided_below, decided_bool, decided_three}
-use Rattle.solid_data.proofs.ObligationLemmas.{FirstFalse-not_all}
 use Rattle.solid_data.proofs.ObligationsDecided.{all_or_first_false, some_verdict}
-use Rattle.shell_rules.specs.Closed.{IsClosedSolid}
-use Rattle.shell_rules.specs.ShellObligations.{solid_obligations}
-use Rattle.shell_rules.proofs.ClosedLemmas.{closed_is_all_hold}
-use Rattle.shell_rules.proofs.Decided.{solid_decided}
 use Rattle.solid_verdict.specs.Closed.{IsVerdictOn, obligations}
 use Rattle.solid_verdict.proofs.Closed.{obligations_decided}
-use Rattle.solid_faults.specs.FaceFlags.{IsClosedFlagged, flagged_solid}
+use Rattle.solid_faults.specs.FaceFlags.{flagged_solid}
 use Rattle.solid_faults.specs.Faults.{AreFaults, Faults}
 use Rattle.fault_laws.proofs.Found.{some_faults}
 use Rattle.record_paths.specs.Paths.{all_owed, sited}
 use Rattle.record_paths.proofs.Bearing.{first_bears}
 use Rattle.record_paths.proofs.Same.{same_sited}
+use Rattle.where_hints.specs.Facts.{AreHints, Hints}
+use Rattle.hint_laws.proofs.SomeBodies.{closed_decided}
+use Rattle.hint_laws.proofs.SomeHints.{some_hints}
 use Rattle.where_text.specs.declared.listing.Listing.{Listing}
 use Rattle.where_text.specs.Listing.{shown}
-use Rattle.where_solids.specs.AllFaults.{AreAllFaults, failing_shells}
-use Rattle.where_solids.specs.Hints.{IsFlagsHint, flags_hint, pair_fails, unset_flags}
+use Rattle.solid_hints.specs.AllFaults.{AreAllFaults, failing_shells}
+use Rattle.solid_hints.specs.Flags.{flags_hint, pair_fails, unset_flags}
 use Rattle.where_solids.specs.Lines.{verdict_line}
 use Rattle.where_solids.specs.Overview.{AreVerdicts}
+use Rattle.solid_hints.specs.ShellHints.{AreHintsOf, IsHint, TellsFlags, hint_faces_at, hints_at}
+use Rattle.where_places.specs.declared.placed_file.PlacedFile.{PlacedFile}
 use Rattle.where_solids.specs.ShellTexts.{shell_lines, shell_texts}
 use Rattle.where_solids.specs.Told.{IsToldOf, record_rest}
 use Rattle.where_laws.proofs.Names.{same_bears, some_path}
@@ -73,47 +73,79 @@ some_all s numbered =
       },
     )
 
--- ---- the hint on flags
+-- ---- the hints
 
-closed_decided : (s : SolidData) → Decided (IsClosedSolid s)
-closed_decided s = by_first (all_or_first_false (solid_obligations s) (solid_decided s))
+-- of a shell that may not be there
+hints_at_shell : (s : SolidData) → IsNumberedSolid s → (k : ℕ) → (x : Hints) × ((h : Shell) → slice_get s.shells k ≡ Some h → AreHints s k h x)
+hints_at_shell s numbered k = by_shell (slice_get s.shells k) refl
   where
-    by_first : AllHold (solid_obligations s) ⊎ ((x : Failing) × FirstFalse (solid_obligations s) x) → Decided (IsClosedSolid s)
-    by_first (inl all) = let both = closed_is_all_hold s in inl (both.1 all)
-    by_first (inr (x, first)) = inr (λ closed. let both = closed_is_all_hold s in FirstFalse-not_all (solid_obligations s) x first (both.0 closed))
+    by_shell : (o : Option Shell) → slice_get s.shells k ≡ o → (x : Hints) × ((h : Shell) → slice_get s.shells k ≡ Some h → AreHints s k h x)
+    by_shell None at = (
+      record { bodies = None; turns = None; touching = None; crowded = None; pinched = None; shared = None },
+      λ h there. absurd (none-some h (sym at ∙ there)),
+    )
+    by_shell (Some g) at =
+        let x = some_hints s k g numbered at in (x.0, λ h there. subst (λ t. AreHints s k t x.0) (same_Some g h (sym at ∙ there)) x.1)
 
-some_hint : (s : SolidData) (b : Bool) → (hint : List ℕ) × IsFlagsHint s b hint
-some_hint s b = by_all (decided_three (decided_bool b true) (decided_below 0 (unset_flags s)) (closed_decided (flagged_solid s)))
+hints_of_shells : (s : SolidData) → IsNumberedSolid s → (ks : List ℕ) → (xs : List Hints) × AreHintsOf s ks xs
+hints_of_shells s numbered [] = ([], record { each = refl; shell = λ i x at k h of_k there. absurd cc })
+hints_of_shells s numbered (m ∷ ks) =
+    let first = hints_at_shell s numbered m in
+    let rest = hints_of_shells s numbered ks in (
+      first.0 ∷ rest.0,
+      record { each = ap suc rest.1.each; shell = λ i x at k h of_k there. by_place first.0 rest.0 first.1 rest.1.shell i x at k h of_k there },
+    )
   where
-    by_all : Decided (IsTrue b × (0 < unset_flags s) × IsClosedFlagged s) → (hint : List ℕ) × IsFlagsHint s b hint
-    by_all (inl (unpaired, some, closed)) = (flags_hint (unset_flags s), inl (unpaired, some, closed, refl))
-    by_all (inr never) = ([], inr ((λ unpaired some closed. never (unpaired, some, closed)), refl))
+    by_place : (y : Hints) (ys : List Hints) → ((h : Shell) → slice_get s.shells m ≡ Some h → AreHints s m h y)
+        → ((i : ℕ) (x : Hints) → slice_get ys i ≡ Some x → (k : ℕ) (h : Shell) → slice_get ks i ≡ Some k → slice_get s.shells k ≡ Some h → AreHints s k h x)
+        → (i : ℕ) (x : Hints) → slice_get (y ∷ ys) i ≡ Some x → (k : ℕ) (h : Shell) → slice_get (m ∷ ks) i ≡ Some k → slice_get s.shells k ≡ Some h
+        → AreHints s k h x
+    by_place y ys first more zero x at k h of_k there =
+        let is : m ≡ k = same_Some m k of_k in
+        subst (λ z. AreHints s k h z) (same_Some y x at)
+        (subst (λ j. AreHints s j h y) is (first h (subst (λ j. slice_get s.shells j ≡ Some h) (sym is) there)))
+    by_place y ys first more (suc i) x at k h of_k there = more i x at k h of_k there
+
+some_hint : (listing : Listing) (f : Contents) (s : SolidData) → IsNumberedSolid s → (faults : List Faults) (ks : List ℕ)
+    → (hint : List ℕ) × (faces : List EntryNo) × IsHint listing f s faults ks hint faces
+some_hint listing f s numbered faults ks =
+    by_flags (decided_three (decided_bool (pair_fails faults ks) true) (decided_below 0 (unset_flags s)) (closed_decided (flagged_solid s)))
+  where
+    by_flags : Decided (TellsFlags s (pair_fails faults ks)) → (hint : List ℕ) × (faces : List EntryNo) × IsHint listing f s faults ks hint faces
+    by_flags (inl tells) = (flags_hint (unset_flags s), [], inl (tells, refl, refl))
+    by_flags (inr never) =
+        let xs = hints_of_shells s numbered ks in (
+          flat_map (hints_at listing f s faults) (zip ks xs.0),
+          flat_map (hint_faces_at listing s faults) (zip ks xs.0),
+          inr (never, xs.0, xs.1, refl, refl),
+        )
 
 -- ---- a solid
 
-module _ (listing : Listing) (f : Contents) (n : EntryNo) where
-  pub some_told : FitsLimits f → (v : Verdict) × (t : List ℕ) × IsToldOf listing f n v t
-  some_told limits = by_places (all_or_first_false (places f n.0) (places_decided f n.0)) (some_verdict (obligations f n.0) (obligations_decided f n.0))
+module _ (listing : Listing) (p : PlacedFile) (n : EntryNo) where
+  pub some_told : FitsLimits p.file → (v : Verdict) × (t : List ℕ) × IsToldOf listing p n v t
+  some_told limits = by_places (all_or_first_false (places p.file n.0) (places_decided p.file n.0)) (some_verdict (obligations p.file n.0) (obligations_decided p.file n.0))
     where
-      by_places : AllHold (places f n.0) ⊎ ((x : Failing) × FirstFalse (places f n.0) x) → (v : Verdict) × IsVerdictOn f n.0 v
-          → (v : Verdict) × (t : List ℕ) × IsToldOf listing f n v t
+      by_places : AllHold (places p.file n.0) ⊎ ((x : Failing) × FirstFalse (places p.file n.0) x) → (v : Verdict) × IsVerdictOn p.file n.0 v
+          → (v : Verdict) × (t : List ℕ) × IsToldOf listing p n v t
       by_places (inl placed) (v, judged) =
-          let s : SolidData = solid_of f n.0 in
-          let all = some_all s (solid_is_numbered f n.0 placed (has_few_parts f n.0 limits placed)) in
-          let hint = some_hint s (pair_fails all.0 (shown listing (failing_shells all.0))) in
-          let rest : List ℕ = shell_lines listing f s all.0 ++ hint.0 ++ shell_texts listing f s all.0 in (
+          let s : SolidData = solid_of p.file n.0 in
+          let numbered : IsNumberedSolid s = solid_is_numbered p.file n.0 placed (has_few_parts p.file n.0 limits placed) in
+          let all = some_all s numbered in
+          let hint = some_hint listing p.file s numbered all.0 (shown listing (failing_shells all.0)) in
+          let rest : List ℕ = shell_lines listing p.file s all.0 ++ hint.0 ++ shell_texts listing p s all.0 hint.1 in (
             v,
             verdict_line n.0 v ++ rest,
             record {
               judged = judged;
               rest = rest;
-              told = inr (record { placed = placed; faults = all.0; all = all.1; hint = hint.0; is_hint = hint.1; rest_is = refl });
+              told = inr (record { placed = placed; faults = all.0; all = all.1; hint = hint.0; faces = hint.1; is_hint = hint.2; rest_is = refl });
               text_is = refl;
             },
           )
       by_places (inr (x, first)) (v, judged) =
-          let path = some_path x (sited f n.0) (same_bears (all_owed (sited f n.0)) (places f n.0) x (same_sited f n.0) (first_bears (places f n.0) x first)) in
-          let rest : List ℕ = record_rest f n x path.0 in (
+          let path = some_path x (sited p.file n.0) (same_bears (all_owed (sited p.file n.0)) (places p.file n.0) x (same_sited p.file n.0) (first_bears (places p.file n.0) x first)) in
+          let rest : List ℕ = record_rest p n x path.0 in (
             v,
             verdict_line n.0 v ++ rest,
             record {

@@ -22,6 +22,8 @@ use Rattle.record_values.specs.Naming.{first_naming}
 use Rattle.where_text.specs.Sentences.{rule_sentence}
 use Rattle.where_text.specs.Spelled.{signed, space_word, spelled}
 use Rattle.where_text.specs.Types.{type_of}
+use Rattle.where_places.specs.declared.placed_file.PlacedFile.{PlacedFile}
+use Rattle.value_lines.specs.ValueLines.{value_lines}
 
 -- a fact: two spaces, its word and what it says
 abbrev pub fact : List ℕ → List ℕ → List ℕ
@@ -37,9 +39,13 @@ abbrev pub found : Option Value → List ℕ
 found None = codes "end"
 found (Some v) = spelled v
 
-abbrev pub value_fact : List Value → Option ℕ → List ℕ
-value_fact vs None = []
-value_fact vs (Some i) = fact (codes "value") (space_word (decimal (i + 1)) ++ codes " found" ++ space_word (found (slice_get vs i)))
+unfoldable pub value_words : List Value → ℕ → List ℕ
+value_words vs i = fact (codes "value") (space_word (decimal (i + 1)) ++ codes " found" ++ space_word (found (slice_get vs i)))
+
+-- the bad value, and where it stands in the file
+abbrev pub value_fact : PlacedFile → EntryNo → Option ℕ → List ℕ
+value_fact p entity None = []
+value_fact p entity (Some i) = value_words (values_in p.file entity) i ++ value_lines p entity.0 i
 
 abbrev pub due_fact : Option Due → List ℕ
 due_fact None = []
@@ -96,8 +102,8 @@ rule_facts f n entity place rule.Twice = first_fact (first_naming f (pos n.0) (j
 rule_facts f n entity place rule.BadIndex = list_fact f (judged f entity (before place))
 rule_facts f n entity place _ = []
 
-unfoldable pub bad_facts : Contents → EntryNo → Failing → BadValue → List ℕ
-bad_facts f n x bad = value_fact (values_in f x.entity) bad.place ++ due_fact bad.due ++ rule_facts f n x.entity bad.place x.rule
+unfoldable pub bad_facts : PlacedFile → EntryNo → Failing → BadValue → List ℕ
+bad_facts p n x bad = value_fact p x.entity bad.place ++ due_fact bad.due ++ rule_facts p.file n x.entity bad.place x.rule
 
 unfoldable pub head_lines : Failing → List ℕ
 head_lines x =
@@ -113,8 +119,8 @@ path_entries n None = []
 path_entries n (Some path) = path_named n path
 
 -- The paragraph of solid n, where this fails on this path.
-unfoldable pub record_text : Contents → EntryNo → Failing → Option Path → List ℕ
-record_text f n x path = head_lines x ++ bad_facts f n x (bad_value f x) ++ path_lines n path
+unfoldable pub record_text : PlacedFile → EntryNo → Failing → Option Path → List ℕ
+record_text p n x path = head_lines x ++ bad_facts p n x (bad_value p.file x) ++ path_lines n path
 
 -- the entries that it names: the failing one, and those on the path
 unfoldable pub record_named : EntryNo → Failing → Option Path → List EntryNo

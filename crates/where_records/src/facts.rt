@@ -2,7 +2,7 @@
 
 ghost use Rattle.brep_lists.specs.Record.{int_at};
 ghost use Rattle.std.specs.Prelude.{◌≡◌, ◌++◌, ◌+◌, ◌<◌, ◌^◌, IfSome, OnOk, option_copied, slice_get};
-ghost use Rattle.where_records.specs.RecordText.{bad_facts, before, count_fact, due_fact, first_fact, found, judged, list_fact, named_fact, rule_facts, value_fact, values_in};
+ghost use Rattle.where_records.specs.RecordText.{bad_facts, before, count_fact, due_fact, first_fact, found, judged, list_fact, named_fact, rule_facts, value_fact, value_words, values_in};
 ghost use Rattle.where_text.specs.Spelled.{space_word};
 
 use crate::why::why;
@@ -11,6 +11,9 @@ use iges_fields::{EntryNo, NoMemory, Out, Value};
 use iges_params::File;
 use record_values::{BadValue, Due, Naming, entry_named, first_naming, item_count};
 use solid_data::{Failing, Rule};
+use std::alloc::Global;
+use value_lines::put_value_lines;
+use where_places::PlacedFile;
 use where_text::{put_number, put_signed, put_type, put_value, put_word};
 
 // The value in a place of a record, from 0.
@@ -43,24 +46,35 @@ fn put_found(out: &mut Out, value: Option<&Value>) -> Result<(), NoMemory>
     put_value(out, value)
 }
 
-// The bad value, where there is one.
-fn put_bad_value(
-    out: &mut Out,
-    file: &File,
-    no: EntryNo,
-    place: Option<usize>,
-) -> Result<(), NoMemory>
-    requires { IfSome place (λ i. i < 2 ^ 63) }
-    ensures { OnOk result (out.new ≡ out.old ++ value_fact (values_in file.now no) place) }
+// The value in a place of a record, by its number from 1.
+#[tactic(auto, unfolding(crate::specs::RecordText::value_words))]
+fn put_value_words(out: &mut Out, file: &File, no: EntryNo, place: usize) -> Result<(), NoMemory>
+    requires { place < 2 ^ 63 }
+    ensures { OnOk result (out.new ≡ out.old ++ value_words (values_in file.now no) place) }
 {
-    let Some(place) = place else {
-        return Ok(());
-    };
     out.put(b"  value")?;
     put_number(out, place as u64 + 1)?;
     out.put(b" found")?;
     put_found(out, value_in(file, no, place))?;
     out.put(b"\n")
+}
+
+// The bad value and where it stands, where there is one.
+fn put_bad_value(
+    alloc: Global,
+    out: &mut Out,
+    placed: &PlacedFile,
+    no: EntryNo,
+    place: Option<usize>,
+) -> Result<(), NoMemory>
+    requires { IfSome place (λ i. i < 2 ^ 63) }
+    ensures { OnOk result (out.new ≡ out.old ++ value_fact placed.now no place) }
+{
+    let Some(place) = place else {
+        return Ok(());
+    };
+    put_value_words(out, &placed.file, no, place)?;
+    put_value_lines(alloc, out, placed, no, place)
 }
 
 // What is due, where the rule says it.
@@ -183,16 +197,17 @@ fn put_rule_facts(
 /// them may have been appended.
 #[tactic(auto, unfolding(crate::specs::RecordText::bad_facts))]
 pub fn put_bad_facts(
+    alloc: Global,
     out: &mut Out,
-    file: &File,
+    placed: &PlacedFile,
     solid: EntryNo,
     failing: Failing,
     bad: BadValue,
 ) -> Result<(), NoMemory>
     requires { IfSome bad.place (λ place. place < 2 ^ 63) }
-    ensures { OnOk result (out.new ≡ out.old ++ bad_facts file.now solid failing bad) }
+    ensures { OnOk result (out.new ≡ out.old ++ bad_facts placed.now solid failing bad) }
 {
-    put_bad_value(out, file, failing.entity, bad.place)?;
+    put_bad_value(alloc, out, placed, failing.entity, bad.place)?;
     put_due(out, bad.due)?;
-    put_rule_facts(out, file, solid, failing, bad.place)
+    put_rule_facts(out, &placed.file, solid, failing, bad.place)
 }

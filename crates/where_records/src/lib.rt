@@ -5,4 +5,4 @@ mod facts;
 mod paragraph;
 mod why;
 
-pub use paragraph::put_record;
+pub use paragraph::{FailingRecord, put_record};

@@ -5,10 +5,11 @@ ghost use Rattle.where_records.specs.RecordText.{head_lines, path_entries, path_
 
 use crate::facts::put_bad_facts;
 use iges_fields::{EntryNo, NoMemory, Out};
-use iges_params::File;
 use record_paths::{Path, put_path};
 use record_values::bad_value;
 use solid_data::Failing;
+use std::alloc::Global;
+use where_places::PlacedFile;
 use where_text::{EntryNumbers, put_number, put_rule_sentence, put_word};
 
 // The line of the rule, its sentence, and the line of the item.
@@ -42,25 +43,36 @@ fn put_path_lines(
     }
 }
 
+/// A rule on records that fails: the number that a solid was looked for at, what fails, and the path to it where the number
+/// names a solid.
+#[derive(Clone, Copy)]
+pub struct FailingRecord {
+    pub solid: EntryNo,
+    pub failing: Failing,
+    pub path: Option<Path>,
+}
+
 /// Appends the paragraph of a rule on the records of a solid that fails, with its empty line: the rule and its
-/// sentence, the entity and the place, the bad value and what is due there, what the rule says of it, and the path to
+/// sentence, the entity and the place, the bad value, where it stands in the file and what is due there, what the rule says of it, and the path to
 /// it, if there is one. The entity and those on the path join those that facts name. It errs only where memory
 /// runs out; then some of the paragraph may have been appended. It goes once over the record of the failing entity,
 /// and for a shell, a face or a loop that is named twice once over the solid's records up to the first place.
 #[tactic(auto, unfolding(crate::specs::RecordText::record_text, crate::specs::RecordText::record_named))]
 pub fn put_record(
+    alloc: Global,
     out: &mut Out,
     named: &mut EntryNumbers,
-    file: &File,
-    solid: EntryNo,
-    failing: Failing,
-    path: Option<Path>,
+    placed: &PlacedFile,
+    fault: FailingRecord,
 ) -> Result<(), NoMemory>
-    ensures text { OnOk result (out.new ≡ out.old ++ record_text file.now solid failing path) }
-    ensures named { OnOk result (named.new ≡ named.old ++ record_named solid failing path) }
+    ensures text { OnOk result (out.new ≡ out.old
+        ++ record_text placed.now fault.solid fault.failing fault.path) }
+    ensures named { OnOk result (named.new ≡ named.old
+        ++ record_named fault.solid fault.failing fault.path) }
 {
-    put_head(out, failing)?;
-    named.push(failing.entity)?;
-    put_bad_facts(out, file, solid, failing, bad_value(file, failing))?;
-    put_path_lines(out, named, solid, path)
+    put_head(out, fault.failing)?;
+    named.push(fault.failing.entity)?;
+    let bad = bad_value(&placed.file, fault.failing);
+    put_bad_facts(alloc, out, placed, fault.solid, fault.failing, bad)?;
+    put_path_lines(out, named, fault.solid, fault.path)
 }

@@ -1,4 +1,3 @@
-pub mod AllFaults
 pub mod Lines
 pub mod Hints
 pub mod ShellTexts

@@ -7,6 +7,7 @@ use Rattle.solid_data.specs.declared.verdict.Verdict.{Verdict}
 use Rattle.solid_data.specs.declared.verdict.Verdict.TheVariants.{Closed, Fails}
 use Rattle.solid_verdict.specs.Closed.{IsVerdictOn}
 use Rattle.where_entities.specs.Facts.{entity_facts}
+use Rattle.where_places.specs.declared.placed_file.PlacedFile.{PlacedFile}
 use Rattle.where_text.specs.Spelled.{space_word}
 use Rattle.where_unjudged.specs.Unjudged.{unjudged_text}
 use Rattle.where_solids.specs.Hints.{no_solid_hint}
@@ -27,8 +28,8 @@ verdict_words Closed = codes "closed"
 verdict_words (Fails x) = failing_words x
 
 -- the number of a solid, its verdict, and its facts
-unfoldable pub solid_paragraph : Contents → EntryNo × Verdict → List ℕ
-solid_paragraph f p = codes "solid" ++ space_word (decimal p.0.0) ++ space_word (verdict_words p.1) ++ codes "\n" ++ entity_facts f p.0.0
+unfoldable pub solid_paragraph : PlacedFile → EntryNo × Verdict → List ℕ
+solid_paragraph x p = codes "solid" ++ space_word (decimal p.0.0) ++ space_word (verdict_words p.1) ++ codes "\n" ++ entity_facts x p.0.0
 
 -- how many solids there are, and how many of them fail
 unfoldable pub overview_start : List Verdict → List ℕ
@@ -39,14 +40,15 @@ unfoldable pub overview_end : ℕ → List ℕ
 overview_end solids = if solids == 0 then no_solid_hint else []
 
 -- the solids, then what stands beside them
-unfoldable pub overview_text : Contents → List Verdict → List ℕ
-overview_text f vs = overview_start vs ++ flat_map (solid_paragraph f) (zip (solids_of f) vs) ++ (unjudged_text f ++ overview_end (length (solids_of f)))
+unfoldable pub overview_text : PlacedFile → List Verdict → List ℕ
+overview_text p vs =
+    overview_start vs ++ flat_map (solid_paragraph p) (zip (solids_of p.file) vs) ++ (unjudged_text p.file ++ overview_end (length (solids_of p.file)))
 
 -- there are solids, and all are closed
 abbrev pub all_close : List Verdict → Bool
 all_close vs = nat_lt 0 (length vs) && count_by fails vs == 0
 
 -- The text speaks of all solids of the file, which have these verdicts.
-pub record IsOverview (f : Contents) (verdicts : List Verdict) (text : List ℕ) : Type 0 where
-  pub judged : AreVerdicts f (solids_of f) verdicts
-  pub text_is : text ≡ overview_text f verdicts
+pub record IsOverview (p : PlacedFile) (verdicts : List Verdict) (text : List ℕ) : Type 0 where
+  pub judged : AreVerdicts p.file (solids_of p.file) verdicts
+  pub text_is : text ≡ overview_text p verdicts

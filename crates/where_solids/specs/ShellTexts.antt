@@ -5,6 +5,7 @@ use Rattle.iges_params.specs.Contents.{Contents}
 use Rattle.solid_data.specs.SolidData.{SolidData}
 use Rattle.solid_data.specs.declared.solid.Shell.{Shell}
 use Rattle.solid_faults.specs.Faults.{Faults, Linking}
+use Rattle.where_places.specs.declared.placed_file.PlacedFile.{PlacedFile}
 use Rattle.where_text.specs.declared.listing.Listing.{Listing}
 use Rattle.where_text.specs.Listing.{more_items, shown}
 use Rattle.where_shells.specs.Join.{join_named, join_text}
@@ -13,7 +14,7 @@ use Rattle.where_shells.specs.Apart.{apart_named, apart_text}
 use Rattle.where_shells.specs.Link.{link_named, link_text}
 use Rattle.where_shells.specs.Reach.{reach_named, reach_text}
 use Rattle.where_entities.specs.Entities.{entities_text}
-use Rattle.where_solids.specs.AllFaults.{failing_shells}
+use Rattle.solid_hints.specs.AllFaults.{failing_shells}
 use Rattle.where_solids.specs.Lines.{line_at, shells_line, units_line}
 
 -- the vertices that aren't linked, where fans are judged
@@ -60,8 +61,8 @@ shell_lines listing f s xs =
     units_line f ++ shells_line (length s.shells) (length (failing_shells xs)) ++ flat_map (line_at s xs) (shown listing (failing_shells xs))
     ++ more_items listing (length (failing_shells xs))
 
--- their paragraphs, and then those of the solid, of these shells and of the faces that they name
-unfoldable pub shell_texts : Listing → Contents → SolidData → List Faults → List ℕ
-shell_texts listing f s xs =
-    flat_map (paragraphs_at listing f s xs) (shown listing (failing_shells xs))
-    ++ entities_text f (s.entity ∷ flat_map (named_at listing s xs) (shown listing (failing_shells xs)))
+-- their paragraphs, and then those of the solid, of these shells and of the faces that they and the hints name
+unfoldable pub shell_texts : Listing → PlacedFile → SolidData → List Faults → List EntryNo → List ℕ
+shell_texts listing p s xs hinted =
+    flat_map (paragraphs_at listing p.file s xs) (shown listing (failing_shells xs))
+    ++ entities_text p (s.entity ∷ flat_map (named_at listing s xs) (shown listing (failing_shells xs)) ++ hinted)

@@ -12,15 +12,17 @@ use Rattle.solid_verdict.specs.Closed.{IsVerdictOn}
 use Rattle.solid_faults.specs.Faults.{Faults}
 use Rattle.record_paths.specs.declared.path.Path.{Path}
 use Rattle.record_paths.specs.Paths.{IsPathTo, sited}
+use Rattle.where_places.specs.declared.placed_file.PlacedFile.{PlacedFile}
 use Rattle.where_text.specs.declared.listing.Listing.{Listing}
 use Rattle.where_text.specs.Listing.{shown}
 use Rattle.where_records.specs.RecordText.{record_named, record_text}
 use Rattle.where_entities.specs.Entities.{entities_text}
-use Rattle.where_solids.specs.AllFaults.{AreAllFaults, failing_shells}
-use Rattle.where_solids.specs.Hints.{IsFlagsHint, pair_fails, solids_hint}
+use Rattle.solid_hints.specs.AllFaults.{AreAllFaults, failing_shells}
+use Rattle.where_solids.specs.Hints.{solids_hint}
 use Rattle.where_unjudged.specs.KindHints.{hint_of, shells_hint}
 use Rattle.where_solids.specs.Lines.{units_line, verdict_line}
 use Rattle.where_unjudged.specs.Listed.{true_solids}
+use Rattle.solid_hints.specs.ShellHints.{IsHint}
 use Rattle.where_solids.specs.ShellTexts.{shell_lines, shell_texts}
 
 -- the units, where the number names a solid, and whether it has a shell; else what it names, and the solids
@@ -29,29 +31,30 @@ record_start f n x None = hint_of (named f (pos n.0)) ++ solids_hint (true_solid
 record_start f n x (Some path) = units_line f ++ shells_hint f n x
 
 -- of a rule on the records that fails on this path
-unfoldable pub record_rest : Contents → EntryNo → Failing → Option Path → List ℕ
-record_rest f n x path = record_start f n x path ++ record_text f n x path ++ entities_text f (record_named n x path)
+unfoldable pub record_rest : PlacedFile → EntryNo → Failing → Option Path → List ℕ
+record_rest p n x path = record_start p.file n x path ++ record_text p n x path ++ entities_text p (record_named n x path)
 
 -- An obligation on the records is the first that fails, and this is said of it.
-pub record IsOfRecords (f : Contents) (n : EntryNo) (rest : List ℕ) : Type 0 where
+pub record IsOfRecords (p : PlacedFile) (n : EntryNo) (rest : List ℕ) : Type 0 where
   pub failing : Failing
-  pub first : FirstFalse (places f n.0) failing
+  pub first : FirstFalse (places p.file n.0) failing
   pub path : Option Path
-  pub leads : IsPathTo failing (sited f n.0) path
-  pub rest_is : rest ≡ record_rest f n failing path
+  pub leads : IsPathTo failing (sited p.file n.0) path
+  pub rest_is : rest ≡ record_rest p n failing path
 
 -- All obligations on the records hold, and this is said of the shells.
-pub record IsOfShells (listing : Listing) (f : Contents) (n : EntryNo) (rest : List ℕ) : Type 0 where
-  pub placed : AllHold (places f n.0)
+pub record IsOfShells (listing : Listing) (p : PlacedFile) (n : EntryNo) (rest : List ℕ) : Type 0 where
+  pub placed : AllHold (places p.file n.0)
   pub faults : List Faults
-  pub all : AreAllFaults (solid_of f n.0) faults
+  pub all : AreAllFaults (solid_of p.file n.0) faults
   pub hint : List ℕ
-  pub is_hint : IsFlagsHint (solid_of f n.0) (pair_fails faults (shown listing (failing_shells faults))) hint
-  pub rest_is : rest ≡ shell_lines listing f (solid_of f n.0) faults ++ hint ++ shell_texts listing f (solid_of f n.0) faults
+  pub faces : List EntryNo
+  pub is_hint : IsHint listing p.file (solid_of p.file n.0) faults (shown listing (failing_shells faults)) hint faces
+  pub rest_is : rest ≡ shell_lines listing p.file (solid_of p.file n.0) faults ++ hint ++ shell_texts listing p (solid_of p.file n.0) faults faces
 
 -- The text speaks of solid n, which has this verdict.
-pub record IsToldOf (listing : Listing) (f : Contents) (n : EntryNo) (verdict : Verdict) (text : List ℕ) : Type 0 where
-  pub judged : IsVerdictOn f n.0 verdict
+pub record IsToldOf (listing : Listing) (p : PlacedFile) (n : EntryNo) (verdict : Verdict) (text : List ℕ) : Type 0 where
+  pub judged : IsVerdictOn p.file n.0 verdict
   pub rest : List ℕ
-  pub told : IsOfRecords f n rest ⊎ IsOfShells listing f n rest
+  pub told : IsOfRecords p n rest ⊎ IsOfShells listing p n rest
   pub text_is : text ≡ verdict_line n.0 verdict ++ rest

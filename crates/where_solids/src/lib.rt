@@ -1,7 +1,6 @@
 //! What is said of the solids of a file: the verdict on each, and where and why one fails.
 #![tactic(auto)]
 
-mod all_faults;
 mod fault_paragraphs;
 mod hints;
 mod lines;

@@ -8,7 +8,6 @@ ghost use Rattle.where_solids.specs.Overview.{AreVerdicts, IsOverview, all_close
 ghost use Rattle.where_unjudged.specs.Unjudged.{unjudged_text};
 ghost use Rattle.where_text.specs.Spelled.{space_word};
 
-use crate::all_faults::all_faults;
 use crate::hints::put_no_solid;
 use crate::lines::{put_count, put_failing};
 use crate::recalling::{Judged, LastNaming, lone_shell, recalled};
@@ -17,8 +16,10 @@ use brep_walk::{WalkFault, Walker};
 use iges_fields::{Bytes, EntryNo, ItemList, NoMemory, Out};
 use iges_params::File;
 use solid_data::Verdict;
+use solid_hints::all_faults;
 use std::alloc::Global;
 use where_entities::put_entity_facts;
+use where_places::PlacedFile;
 use where_text::{EntryNumbers, put_number};
 use where_unjudged::{put_unjudged, solids};
 
@@ -158,40 +159,40 @@ fn put_verdict_words(out: &mut Out, verdict: Verdict) -> Result<(), NoMemory>
 fn put_solid(
     alloc: Global,
     out: &mut Out,
-    file: &File,
+    placed: &PlacedFile,
     no: EntryNo,
     verdict: Verdict,
 ) -> Result<(), NoMemory>
-    ensures { OnOk result (out.new ≡ out.old ++ solid_paragraph file.now (no, verdict)) }
+    ensures { OnOk result (out.new ≡ out.old ++ solid_paragraph placed.now (no, verdict)) }
 {
     out.put(b"solid")?;
     put_number(out, u64::from(no.0))?;
     out.put(b" ")?;
     put_verdict_words(out, verdict)?;
     out.put(b"\n")?;
-    put_entity_facts(alloc, out, file, no)
+    put_entity_facts(alloc, out, placed, no)
 }
 
 fn put_solids(
     alloc: Global,
     out: &mut Out,
-    file: &File,
+    placed: &PlacedFile,
     solids: &[EntryNo],
     verdicts: &[Verdict],
 ) -> Result<(), NoMemory>
     requires { length verdicts.now ≡ length solids.now }
     ensures { OnOk result (out.new ≡ out.old
-        ++ flat_map (solid_paragraph file.now) (zip solids.now verdicts.now)) }
+        ++ flat_map (solid_paragraph placed.now) (zip solids.now verdicts.now)) }
 {
     'solids: for i in 0..solids.len() {
-        put_solid(alloc, out, file, solids[i], verdicts[i])?;
+        put_solid(alloc, out, placed, solids[i], verdicts[i])?;
     }
     Ok(())
 }
 
 fn text_of(
     alloc: Global,
-    file: &File,
+    placed: &PlacedFile,
     solids: &EntryNumbers,
     verdicts: &ItemList<Verdict>,
     failing: usize,
@@ -199,19 +200,19 @@ fn text_of(
     requires each { length verdicts.now ≡ length solids.now }
     requires failing { failing ≡ count_by fails verdicts.now }
     ensures { IfOk result (λ text. text ≡ overview_start verdicts.now
-        ++ flat_map (solid_paragraph file.now) (zip solids.now verdicts.now)
-        ++ (unjudged_text file.now ++ overview_end (length solids.now))) }
+        ++ flat_map (solid_paragraph placed.now) (zip solids.now verdicts.now)
+        ++ (unjudged_text placed.now.file ++ overview_end (length solids.now))) }
 {
     let mut out = Out::new(alloc);
     put_start(&mut out, solids.len(), failing)?;
     put_solids(
         alloc,
         &mut out,
-        file,
+        placed,
         solids.as_slice(),
         verdicts.as_slice(),
     )?;
-    put_rest(alloc, &mut out, file, solids.len())?;
+    put_rest(alloc, &mut out, &placed.file, solids.len())?;
     Ok(out.into_bytes())
 }
 
@@ -224,15 +225,15 @@ fn all_closed(solids: usize, failing: usize) -> bool
 /// Says of each solid of a file, in directory order, whether it is closed, or the first rule that fails. It errs only
 /// where memory runs out. What stands beside the solids is told too. Each solid's records are walked once, and not at all
 /// where an earlier solid names the same shell alone.
-pub fn tell_all(alloc: Global, file: &File) -> Result<Overview, NoMemory>
-    ensures { IfOk result (λ told. (vs : List AnyVerdict) × IsOverview file.now vs told.text
+pub fn tell_all(alloc: Global, placed: &PlacedFile) -> Result<Overview, NoMemory>
+    ensures { IfOk result (λ told. (vs : List AnyVerdict) × IsOverview placed.now vs told.text
         × (told.all_closed ≡ all_close vs)) }
 {
-    let solids = solids(alloc, file)?;
-    let verdicts = verdicts(alloc, file, solids.as_slice())?;
+    let solids = solids(alloc, &placed.file)?;
+    let verdicts = verdicts(alloc, &placed.file, solids.as_slice())?;
     let failing = failing_count(verdicts.as_slice());
     Ok(Overview {
         all_closed: all_closed(solids.len(), failing),
-        text: text_of(alloc, file, &solids, &verdicts, failing)?,
+        text: text_of(alloc, placed, &solids, &verdicts, failing)?,
     })
 }

@@ -5,23 +5,13 @@ ghost use Rattle.where_solids.specs.Told.{record_rest, record_start};
 
 use crate::hints::put_solids_hint;
 use crate::lines::put_units;
-use iges_fields::{EntryNo, ItemList, NoMemory, Out};
+use iges_fields::{ItemList, NoMemory, Out};
 use iges_params::File;
-use record_paths::Path;
-use solid_data::Failing;
 use std::alloc::Global;
 use where_entities::put_entities;
-use where_records::put_record;
+use where_places::PlacedFile;
+use where_records::{FailingRecord, put_record};
 use where_unjudged::{put_kind_hint, put_shells_hint, true_solids};
-
-/// A rule on records that fails: the number that a solid was looked for at, what fails, and the path to it where the number
-/// names a solid.
-#[derive(Clone, Copy)]
-pub struct FailingRecord {
-    pub solid: EntryNo,
-    pub failing: Failing,
-    pub path: Option<Path>,
-}
 
 // The units and whether a solid has a shell; where no path leads to the entity, instead what it is, and the file's solids.
 fn put_start(
@@ -52,21 +42,14 @@ fn put_start(
 pub fn put_record_rest(
     alloc: Global,
     out: &mut Out,
-    file: &File,
+    placed: &PlacedFile,
     fault: FailingRecord,
 ) -> Result<(), NoMemory>
     ensures { OnOk result (out.new ≡ out.old
-        ++ record_rest file.now fault.solid fault.failing fault.path) }
+        ++ record_rest placed.now fault.solid fault.failing fault.path) }
 {
     let mut named = ItemList::new(alloc);
-    put_start(alloc, out, file, fault)?;
-    put_record(
-        out,
-        &mut named,
-        file,
-        fault.solid,
-        fault.failing,
-        fault.path,
-    )?;
-    put_entities(alloc, out, file, &named)
+    put_start(alloc, out, &placed.file, fault)?;
+    put_record(alloc, out, &mut named, placed, fault)?;
+    put_entities(alloc, out, placed, &named)
 }

@@ -2,20 +2,19 @@
 
 ghost use Rattle.brep_walk.specs.Places.{places};
 ghost use Rattle.brep_walk.specs.SolidOf.{solid_of};
+ghost use Rattle.iges_base.specs.declared.entry_no.EntryNo.{EntryNo as AnyEntryNo};
 ghost use Rattle.solid_data.specs.Obligations.{AllHold, FirstFalse};
 ghost use Rattle.std.specs.Prelude.{◌≡◌, ◌++◌, ◌≤◌, ◌-◌, ℕ, [], List, IfOk, OnOk, length};
 ghost use Rattle.where_entities.specs.Entities.{entities_text};
-ghost use Rattle.where_solids.specs.AllFaults.{AreAllFaults, failing_shells};
-ghost use Rattle.where_solids.specs.Hints.{IsFlagsHint, pair_fails};
+ghost use Rattle.solid_hints.specs.AllFaults.{AreAllFaults, failing_shells};
+ghost use Rattle.solid_hints.specs.ShellHints.{IsHint};
 ghost use Rattle.where_solids.specs.Lines.{shells_line, units_line};
 ghost use Rattle.where_solids.specs.ShellTexts.{shell_lines, shell_texts};
 ghost use Rattle.where_solids.specs.Told.{IsToldOf};
 ghost use Rattle.where_text.specs.Listing.{left_line, shown};
 
-use crate::all_faults::{AllFaults, all_faults, failing_shells};
-use crate::hints::{pair_fails, put_flags_hint};
 use crate::lines::{put_shells, put_units, put_verdict};
-use crate::record_texts::{FailingRecord, put_record_rest};
+use crate::record_texts::put_record_rest;
 use crate::shell_texts::{ShellTexts, shell_texts};
 use crate::verdicts::verdict;
 use brep_walk::{WalkFault, walk};
@@ -23,8 +22,11 @@ use iges_fields::{Bytes, EntryNo, NoMemory, Out};
 use iges_params::File;
 use record_paths::path_of;
 use solid_data::{Failing, Solid, Verdict};
+use solid_hints::{AllFaults, HintedSolid, all_faults, failing_shells, put_hint};
 use std::alloc::Global;
 use where_entities::put_entities;
+use where_places::PlacedFile;
+use where_records::FailingRecord;
 use where_text::{Listing, put_more_items, shown_members};
 
 /// The verdict on a solid, and a text that says where it fails.
@@ -36,23 +38,23 @@ pub struct Told {
 
 fn of_records(
     alloc: Global,
-    file: &File,
+    placed: &PlacedFile,
     no: EntryNo,
     failing: Failing,
     listing: Listing,
 ) -> Result<Told, NoMemory>
-    requires { FirstFalse (places file.now no.0) failing }
-    ensures { IfOk result (λ told. IsToldOf listing file.now no told.verdict told.text) }
+    requires { FirstFalse (places placed.now.file no.0) failing }
+    ensures { IfOk result (λ told. IsToldOf listing placed.now no told.verdict told.text) }
 {
     let fault = FailingRecord {
         solid: no,
         failing,
-        path: path_of(file, no, failing),
+        path: path_of(&placed.file, no, failing),
     };
     let verdict = Verdict::Fails(failing);
     let mut out = Out::new(alloc);
     put_verdict(&mut out, no, verdict)?;
-    put_record_rest(alloc, &mut out, file, fault)?;
+    put_record_rest(alloc, &mut out, placed, fault)?;
     Ok(Told {
         verdict,
         text: out.into_bytes(),
@@ -79,59 +81,67 @@ fn put_lines(
     put_more_items(out, failing - shown)
 }
 
-fn put_texts(alloc: Global, out: &mut Out, file: &File, texts: &ShellTexts) -> Result<(), NoMemory>
+fn put_texts(alloc: Global, out: &mut Out, placed: &PlacedFile, texts: &ShellTexts) -> Result<(), NoMemory>
     ensures { OnOk result (out.new ≡ out.old
-        ++ (texts.now.page.out ++ entities_text file.now texts.now.page.named)) }
+        ++ (texts.now.page.out ++ entities_text placed.now texts.now.page.named)) }
 {
     out.put(texts.page.out.bytes())?;
-    put_entities(alloc, out, file, &texts.page.named)
+    put_entities(alloc, out, placed, &texts.page.named)
 }
 
 // What follows the verdict on a solid of which all obligations on records hold.
 fn put_shells_rest(
     alloc: Global,
     out: &mut Out,
-    file: &File,
+    placed: &PlacedFile,
     solid: &Solid,
     all: &AllFaults,
     listing: Listing,
 ) -> Result<(), NoMemory>
     requires { AreAllFaults solid.now all.now }
-    ensures { IfOk result (λ _. (hint : List ℕ) × IsFlagsHint solid.now (pair_fails all.now (shown listing (failing_shells all.now))) hint
-        × (out.new ≡ out.old ++ (shell_lines listing file.now solid.now all.now ++ hint ++ shell_texts listing file.now solid.now all.now))) }
+    ensures { IfOk result (λ _. (hint : List ℕ) × (faces : List AnyEntryNo)
+        × IsHint listing placed.now.file solid.now all.now (shown listing (failing_shells all.now)) hint faces
+        × (out.new ≡ out.old ++ (shell_lines listing placed.now.file solid.now all.now ++ hint
+        ++ shell_texts listing placed.now solid.now all.now faces))) }
 {
     let count = solid.shell_count();
     let failing = failing_shells(alloc, all)?;
     let shells = shown_members(listing, failing.as_slice());
-    let texts = shell_texts(alloc, file, solid, all, shells, listing)?;
+    let mut texts = shell_texts(alloc, &placed.file, solid, all, shells, listing)?;
     put_lines(
         out,
-        file,
+        &placed.file,
         count,
         texts.lines.bytes(),
         failing.len(),
         shells.len(),
     )?;
-    put_flags_hint(alloc, out, solid, pair_fails(all, shells))?;
-    put_texts(alloc, out, file, &texts)
+    let view = HintedSolid {
+        file: &placed.file,
+        solid,
+        all,
+        listing,
+    };
+    put_hint(alloc, out, &mut texts.page.named, &view, shells)?;
+    put_texts(alloc, out, placed, &texts)
 }
 
 fn of_shells(
     alloc: Global,
-    file: &File,
+    placed: &PlacedFile,
     no: EntryNo,
     solid: &Solid,
     listing: Listing,
 ) -> Result<Told, NoMemory>
-    requires placed { AllHold (places file.now no.0) }
-    requires solid { solid.now ≡ solid_of file.now no.0 }
-    ensures { IfOk result (λ told. IsToldOf listing file.now no told.verdict told.text) }
+    requires placed { AllHold (places placed.now.file no.0) }
+    requires solid { solid.now ≡ solid_of placed.now.file no.0 }
+    ensures { IfOk result (λ told. IsToldOf listing placed.now no told.verdict told.text) }
 {
     let all = all_faults(alloc, solid)?;
     let verdict = verdict(solid, &all);
     let mut out = Out::new(alloc);
     put_verdict(&mut out, no, verdict)?;
-    put_shells_rest(alloc, &mut out, file, solid, &all, listing)?;
+    put_shells_rest(alloc, &mut out, placed, solid, &all, listing)?;
     Ok(Told {
         verdict,
         text: out.into_bytes(),
@@ -141,12 +151,12 @@ fn of_shells(
 /// The verdict on the solid with this number, and where it fails. Where a rule on its records fails, that is reported
 /// alone; else all that fails in its shells. It errs only where memory runs out. The solid's records are walked once,
 /// and the uses of each failing shell that is described a few times.
-pub fn tell(alloc: Global, file: &File, no: EntryNo, listing: Listing) -> Result<Told, NoMemory>
-    ensures { IfOk result (λ told. IsToldOf listing file.now no told.verdict told.text) }
+pub fn tell(alloc: Global, placed: &PlacedFile, no: EntryNo, listing: Listing) -> Result<Told, NoMemory>
+    ensures { IfOk result (λ told. IsToldOf listing placed.now no told.verdict told.text) }
 {
-    match walk(alloc, file, no) {
-        Ok(solid) => of_shells(alloc, file, no, &solid, listing),
-        Err(WalkFault::Fails(failing)) => of_records(alloc, file, no, failing, listing),
+    match walk(alloc, &placed.file, no) {
+        Ok(solid) => of_shells(alloc, placed, no, &solid, listing),
+        Err(WalkFault::Fails(failing)) => of_records(alloc, placed, no, failing, listing),
         Err(WalkFault::NoMemory) => Err(NoMemory),
     }
 }

@@ -5,7 +5,7 @@ use Rattle.where_command.proofs.command.source_reply.Goals as goal
 pub returns-in_ok-contents_reply-in-Ok-clause-found : goal.returns-in_ok-contents_reply-in-Ok-clause-found
 returns-in_ok-contents_reply-in-Ok-clause-found g c =
     let told = rw c.in-Ok.is at c.in_ok-file.ensures.found in
-    contents_owed c.args.asked _ c.in-Ok.file c.in_ok-contents_reply-in-Ok.field-0 told c.in_ok-contents_reply-in-Ok.ensures
+    contents_owed c.args.asked _ c.in-Ok.placed c.in_ok-contents_reply-in-Ok.field-0 told c.in_ok-contents_reply-in-Ok.ensures
 
 pub returns-in-Err-clause-found : goal.returns-in-Err-clause-found
 returns-in-Err-clause-found g c =

@@ -3,4 +3,4 @@ use Rattle.where_entities.specs.Entities.{entity_text}
 use Rattle.where_entities.proofs.entities.put_each.Given as goal
 
 abbrev pub invariant-entities : goal.invariant-entities
-invariant-entities l = l.out ++ flat_map (entity_text l.file) (drop l.no-index l.list) ≡ l.fn.out ++ flat_map (entity_text l.file) l.list
+invariant-entities l = l.out ++ flat_map (entity_text l.placed) (drop l.no-index l.list) ≡ l.fn.out ++ flat_map (entity_text l.placed) l.list

@@ -5,5 +5,5 @@ use Rattle.where_solids.proofs.overview.put_solids.Given as goal
 
 abbrev pub invariant-solids : goal.invariant-solids
 invariant-solids l =
-    l.out ++ flat_map (solid_paragraph l.file) (zip (drop l.i l.solids) (drop l.i l.verdicts)) ≡ l.fn.out
-    ++ flat_map (solid_paragraph l.file) (zip l.solids l.verdicts)
+    l.out ++ flat_map (solid_paragraph l.placed) (zip (drop l.i l.solids) (drop l.i l.verdicts)) ≡ l.fn.out
+    ++ flat_map (solid_paragraph l.placed) (zip l.solids l.verdicts)

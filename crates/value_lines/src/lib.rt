@@ -1,0 +1,7 @@
+//! Where in the lines of a file a value of a record stands.
+#![tactic(auto)]
+
+mod lines;
+mod record_text;
+
+pub use lines::put_value_lines;

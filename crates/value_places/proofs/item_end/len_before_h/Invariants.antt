@@ -1,0 +1,12 @@
+use Rattle.std.proofs.Common.{length, ◌+◌, ◌-◌, ◌≡◌, ◌≤◌, ◌==◌, drop, not}
+use Rattle.std.specs.List.{prefix_len}
+use Rattle.value_places.proofs.item_end.len_before_h.Given as goal
+
+abbrev pub invariant-bytes : goal.invariant-bytes
+invariant-bytes l = record {
+  within : l.len ≤ length l.text;
+  rest : l.len + prefix_len (λ b. not (b == 72)) (drop l.len l.text) ≡ prefix_len (λ b. not (b == 72)) l.text;
+}
+
+abbrev pub decreases-bytes : goal.decreases-bytes
+decreases-bytes l = length l.text - l.len

@@ -1,0 +1,2 @@
+pub mod ItemEnds
+pub mod Spans

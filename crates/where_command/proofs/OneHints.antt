@@ -1,0 +1,60 @@
+-- The hints on shells are definite.
+use Rattle.std.specs.Prelude.{◌≡◌, ◌⊎◌, ℕ, ◌<◌, List, All, length, flat_map, zip, Option, Some, None, slice_get}
+use Rattle.std.proofs.Common.{inl, inr, refl, sym, ap, ◌∙◌, arith}
+use Rattle.std.proofs.lemmas.Option.{slice_get_within, slice_get-get_or}
+use Rattle.iges_base.specs.declared.entry_no.EntryNo.{EntryNo}
+use Rattle.iges_params.specs.Contents.{Contents}
+use Rattle.solid_data.specs.SolidData.{SolidData}
+use Rattle.solid_data.specs.declared.solid.Shell.{Shell}
+use Rattle.solid_data.proofs.Members.{get_some}
+use Rattle.edge_uses.specs.ShellRows.{shell_rows}
+use Rattle.shell_classes.specs.Exactly.{IsExactly}
+use Rattle.shell_hints.specs.Counted.{AreCrowded, ArePinched, AreShared, AreTouching}
+use Rattle.face_hints.specs.Bodies.{AreBodies}
+use Rattle.turn_hint.specs.Turns.{AreTurns}
+use Rattle.solid_faults.specs.Faults.{Faults}
+use Rattle.where_hints.specs.Facts.{AreHints, Hints}
+use Rattle.where_text.specs.declared.listing.Listing.{Listing}
+use Rattle.solid_hints.specs.ShellHints.{AreHintsOf, IsHint, hint_faces_at, hints_at}
+use Rattle.where_command.proofs.OneFaults.{same_list}
+
+one_exactly : {A : Type 0} (P : A → Type 0) (a b : Option A) → IsExactly P a → IsExactly P b → a ≡ b
+one_exactly P None None p q = refl
+one_exactly P (Some x) b p q = let here = p x in let there = q x in sym (there.1 (here.0 refl))
+one_exactly P None (Some y) p q = let here = p y in let there = q y in here.1 (there.0 refl)
+
+one_shell : (s : SolidData) (k : ℕ) (h : Shell) (x y : Hints) → AreHints s k h x → AreHints s k h y → x ≡ y
+one_shell s k h x y a b =
+    let d = shell_rows s h in
+    let bodies : x.bodies ≡ y.bodies = one_exactly (AreBodies s h) x.bodies y.bodies a.bodies b.bodies in
+    let turns : x.turns ≡ y.turns = one_exactly (AreTurns d) x.turns y.turns a.turns b.turns in
+    let touching : x.touching ≡ y.touching = one_exactly (AreTouching d) x.touching y.touching a.touching b.touching in
+    let crowded : x.crowded ≡ y.crowded = one_exactly (AreCrowded d) x.crowded y.crowded a.crowded b.crowded in
+    let pinched : x.pinched ≡ y.pinched = one_exactly (ArePinched s h) x.pinched y.pinched a.pinched b.pinched in
+    let shared : x.shared ≡ y.shared = one_exactly (AreShared s k d) x.shared y.shared a.shared b.shared in
+    ap (λ z. record { bodies = z; turns = x.turns; touching = x.touching; crowded = x.crowded; pinched = x.pinched; shared = x.shared }) bodies
+    ∙ (ap (λ z. record { bodies = y.bodies; turns = z; touching = x.touching; crowded = x.crowded; pinched = x.pinched; shared = x.shared }) turns
+    ∙ (ap (λ z. record { bodies = y.bodies; turns = y.turns; touching = z; crowded = x.crowded; pinched = x.pinched; shared = x.shared }) touching
+    ∙ (ap (λ z. record { bodies = y.bodies; turns = y.turns; touching = y.touching; crowded = z; pinched = x.pinched; shared = x.shared }) crowded
+    ∙ (ap (λ z. record { bodies = y.bodies; turns = y.turns; touching = y.touching; crowded = y.crowded; pinched = z; shared = x.shared }) pinched
+    ∙ ap (λ z. record { bodies = y.bodies; turns = y.turns; touching = y.touching; crowded = y.crowded; pinched = y.pinched; shared = z }) shared))))
+
+one_of_shells : (s : SolidData) (ks : List ℕ) (xs ys : List Hints) → All (λ k. k < length s.shells) ks → AreHintsOf s ks xs → AreHintsOf s ks ys → xs ≡ ys
+one_of_shells s ks xs ys inside a b =
+    same_list xs ys (a.each ∙ sym b.each)
+    (λ i x y at there.
+    let below : i < length ks = omega (arith, slice_get_within xs i x at, a.each) in
+    let k = get_some ks i below in
+    let h = get_some s.shells k.0 (let low = inside i k.0 below in let same = slice_get-get_or ks i k.0 below in cc) in
+    one_shell s k.0 h.0 x y (a.shell i x at k.0 h.0 k.1 h.1) (b.shell i y there k.0 h.0 k.1 h.1))
+
+pub one_hint : (listing : Listing) (f : Contents) (s : SolidData) (faults : List Faults) (ks h k : List ℕ) (a b : List EntryNo)
+    → All (λ k. k < length s.shells) ks → IsHint listing f s faults ks h a → IsHint listing f s faults ks k b → (h ≡ k) × (a ≡ b)
+one_hint listing f s faults ks h k a b inside (inl p) (inl q) = (p.1 ∙ sym q.1, p.2 ∙ sym q.2)
+one_hint listing f s faults ks h k a b inside (inl p) (inr q) = absurd (q.0 p.0)
+one_hint listing f s faults ks h k a b inside (inr p) (inl q) = absurd (p.0 q.0)
+one_hint listing f s faults ks h k a b inside (inr p) (inr q) =
+    let same : p.1 ≡ q.1 = one_of_shells s ks p.1 q.1 inside p.2 q.2 in (
+      p.3 ∙ (ap (λ xs. flat_map (hints_at listing f s faults) (zip ks xs)) same ∙ sym q.3),
+      p.4 ∙ (ap (λ xs. flat_map (hint_faces_at listing s faults) (zip ks xs)) same ∙ sym q.4),
+    )

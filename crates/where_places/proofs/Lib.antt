@@ -1,0 +1,5 @@
+pub mod FieldNumbers
+pub mod Pairs
+pub mod Put
+pub mod PlacedFiles
+pub mod OnePlacedFile

@@ -1,0 +1,13 @@
+//! Where the entries of a file and their records stand in its lines.
+#![tactic(auto)]
+
+mod fields;
+mod law;
+mod placed_file;
+mod places;
+mod reading;
+
+pub use law::one_placed_file;
+pub use placed_file::{PlacedFile, read_placed_file};
+pub use places::{Places, RecordLines};
+pub use reading::file_places;
