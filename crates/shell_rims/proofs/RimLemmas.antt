@@ -1,17 +1,16 @@
 -- Components of rows and vertices are the rims of the rows.
 use Rattle.std.specs.Prelude.{◌≡◌, ◌<◌, ◌≤◌, ◌+◌, ◌==◌, ℕ, zero, suc, Contains, List, [], ◌∷◌, ◌++◌, length, flat_map, take, Some, slice_get, if◌then◌else◌}
-use Rattle.std.specs.Prelude.{All, Option, None, IfSome, IsNone, MatchOption, ◌↔◌, filter, Bool, true, false}
+use Rattle.std.specs.Prelude.{Option, None, filter, min, Bool, true, false}
 use Rattle.std.specs.List.{AllByRecursion, enumerate_from}
 use Rattle.std.specs.List.Sorted.{IsStrictlyIncreasing}
 use Rattle.std.proofs.Common.{refl, sym, ◌∙◌, ap, subst, arith, inl, inr, ⊎_elim, get_or, drop, append_assoc}
 use Rattle.std.proofs.lemmas.Bool.{eq-eqb}
 use Rattle.std.proofs.lemmas.Bool.Decides.{eqb_tells}
-use Rattle.std.proofs.lemmas.List.{length-take-le}
+use Rattle.std.proofs.lemmas.List.{drop_all, length-take-le}
 use Rattle.std.proofs.lemmas.Option.{same_Some, slice_get_within, get_or_from_slice_get}
 use Rattle.solid_data.specs.Chain.{Steps, LeadsTo}
 use Rattle.solid_data.specs.Ring.{place_of}
 use Rattle.solid_data.proofs.Members.{Has, Rises, All-at, All-from, Has-from_Contains, get_some, has_get, has_append, split_at}
-use Rattle.std.proofs.lemmas.List.Elements.{recursion_from_All}
 use Rattle.solid_data.proofs.Trail.{leads_here, leads_one, leads_last}
 use Rattle.edge_uses.specs.declared.row.Row.{Row}
 use Rattle.edge_uses.proofs.Above.{rises}
@@ -21,7 +20,8 @@ use Rattle.shell_components.proofs.Joined.{least_of_joined}
 use Rattle.shell_rims.specs.Only.{row_ends, end_pairs}
 use Rattle.edge_uses.specs.ShellRows.{ShellRows, AreRows}
 use Rattle.shell_rims.specs.LoneRows.{only, rows_with, lone_row, lone_rows}
-use Rattle.shell_rims.specs.Rims.{IsEnd, ShareEnd, AreRims, IsLeast}
+use Rattle.shell_rims.specs.Rims.{IsEnd, ShareEnd, AreRims, ends_at, ends_of_row, least_of, lesser}
+use Rattle.std.specs.Option.{option_to_list}
 
 -- where a member stands
 pub place_there : (vs : List ℕ) (v : ℕ) → Has vs v → slice_get vs (place_of ◌==◌ vs v) ≡ Some v
@@ -240,10 +240,48 @@ lone_known d h =
     All-from (λ (r : Row). Contains d.vertices r.from.0 × Contains d.vertices r.to.0) (lone_rows d)
     (λ row m. All-at (λ (r : Row). Contains d.vertices r.from.0 × Contains d.vertices r.to.0) d.rows h.vertices_hold row (lone_among d d.edges row m))
 
-pub least_found : (ns : List ℕ) (o : Option ℕ) → IfSome o (λ m. All (λ n. m ≤ n) ns) → IfSome o (Contains ns) → (IsNone o ↔ (ns ≡ []))
-    → MatchOption o (ns ≡ []) (IsLeast ns)
-least_found ns None low among none = none.0 refl
-least_found ns (Some v) low among none = (Has-from_Contains ns v among, recursion_from_All (λ n. v ≤ n) ns low)
+-- ---- the least
+
+lesser_none : (m : Option ℕ) → lesser m None ≡ m
+lesser_none None = refl
+lesser_none (Some m) = refl
+
+pub lesser_assoc : (l m n : Option ℕ) → lesser (lesser l m) n ≡ lesser l (lesser m n)
+lesser_assoc None m n = refl
+lesser_assoc (Some l) None n = refl
+lesser_assoc (Some l) (Some m) None = refl
+lesser_assoc (Some l) (Some m) (Some n) = ap Some (min_assoc l m n)
+  where
+    min_assoc : (a b c : ℕ) → min (min a b) c ≡ min a (min b c)
+    min_assoc a b c = omega arith
+
+least_append : (xs ys : List ℕ) → least_of (xs ++ ys) ≡ lesser (least_of xs) (least_of ys)
+least_append [] ys = refl
+least_append (x ∷ xs) ys = ap (lesser (Some x)) (least_append xs ys) ∙ sym (lesser_assoc (Some x) (least_of xs) (least_of ys))
+
+-- the ends of no row
+pub no_lesser : (m : Option ℕ) (rows : List Row) (i : ℕ) → slice_get rows i ≡ None → m ≡ lesser m (least_of (ends_at rows i))
+no_lesser m rows i at = sym (ap (λ o. lesser m (least_of (flat_map ends_of_row (option_to_list o)))) at ∙ lesser_none m)
+
+-- those of one row
+pub both_lesser : (m : Option ℕ) (rows : List Row) (i : ℕ) (row : Row) → slice_get rows i ≡ Some row
+    → lesser (lesser m (Some row.from.0)) (Some row.to.0) ≡ lesser m (least_of (ends_at rows i))
+both_lesser m rows i row at =
+    lesser_assoc m (Some row.from.0) (Some row.to.0) ∙ sym (ap (λ o. lesser m (least_of (flat_map ends_of_row (option_to_list o)))) at)
+
+-- one place more
+pub least_step : (f : ℕ → List ℕ) (places : List ℕ) (i n : ℕ) (old new all : Option ℕ) → slice_get places i ≡ Some n
+    → lesser old (least_of (flat_map f (drop i places))) ≡ all → new ≡ lesser old (least_of (f n))
+    → lesser new (least_of (flat_map f (drop (i + 1) places))) ≡ all
+least_step f places i n old new all at h e =
+    let rest : List ℕ = flat_map f (drop (i + 1) places) in
+    ap (λ m. lesser m (least_of rest)) e ∙ (lesser_assoc old (least_of (f n)) (least_of rest)
+    ∙ (ap (lesser old) (sym (least_append (f n) rest)) ∙ (ap (λ ps. lesser old (least_of (flat_map f ps))) (sym (split_at places i n at)) ∙ h)))
+
+pub least_done : (f : ℕ → List ℕ) (places : List ℕ) (i : ℕ) (now all : Option ℕ) → length places ≤ i
+    → lesser now (least_of (flat_map f (drop i places))) ≡ all → now ≡ all
+least_done f places i now all past h =
+    sym (lesser_none now) ∙ (ap (λ ps. lesser now (least_of (flat_map f ps))) (sym (drop_all i places past)) ∙ h)
 
 -- one row more
 pub pair_step : {A B : Type 0} (f : ℕ × A → List B) (xs : List A) (x : A) (i : ℕ) (old new all : List B) → slice_get xs i ≡ Some x

@@ -1,8 +1,6 @@
 -- The rims of a shell: edges with one row each, in groups that common ends join. Edges are told by the places of their rows in a list.
-use Rattle.std.specs.Prelude.{◌≡◌, ◌≤◌, ◌⊎◌, ℕ, List, [], ◌∷◌, length, flat_map, Some, slice_get}
-use Rattle.std.specs.List.{AllByRecursion}
+use Rattle.std.specs.Prelude.{◌≡◌, ◌⊎◌, ℕ, min, List, [], ◌∷◌, length, flat_map, Option, Some, None, slice_get}
 use Rattle.std.specs.Option.{option_to_list}
-use Rattle.solid_data.proofs.Members.{Has}
 use Rattle.edge_uses.specs.declared.row.Row.{Row}
 use Rattle.shell_components.specs.Groups.{places_of}
 use Rattle.shell_classes.specs.Leasts.{AreLeasts}
@@ -39,9 +37,16 @@ ends_at rows i = flat_map ends_of_row (option_to_list (slice_get rows i))
 abbrev pub rim_ends : List Row → List ℕ → ℕ → List ℕ
 rim_ends rows firsts rim = flat_map (ends_at rows) (rim_rows firsts rim)
 
--- the least of the list
-abbrev pub IsLeast : List ℕ → ℕ → Type 0
-IsLeast ns v = Has ns v × AllByRecursion (λ n. v ≤ n) ns
+-- the lesser of two numbers, where there are both
+abbrev pub lesser : Option ℕ → Option ℕ → Option ℕ
+lesser None n = n
+lesser (Some m) None = Some m
+lesser (Some m) (Some n) = Some (min m n)
+
+-- the least of a list
+abbrev pub least_of : List ℕ → Option ℕ
+least_of [] = None
+least_of (n ∷ ns) = lesser (Some n) (least_of ns)
 
 -- the rows that are alone, and the first of the rim of each
 pub record Rims : Type 0 where

@@ -7,7 +7,7 @@ ghost use Rattle.edge_uses.specs.declared.row.Row.{Row as AnyRow};
 ghost use Rattle.solid_data.specs.Ring.{place_of as place_in};
 ghost use Rattle.shell_rims.specs.LoneRows.{lone_rows as all_lone};
 ghost use Rattle.shell_rims.specs.Only.{row_ends, end_pairs as all_end_pairs};
-ghost use Rattle.shell_rims.specs.Rims.{AreRims, IsLeast, ends_at};
+ghost use Rattle.shell_rims.specs.Rims.{AreRims, ends_at, least_of, lesser as lesser_of};
 
 use crate::lone::lone_rows;
 use edge_uses::{Row, Rows, place_of};
@@ -23,18 +23,20 @@ use std::marker::Model;
 pub struct Rims {
     rows: Vec<Row>,
     firsts: Vec<u32>,
+    rims: Vec<u32>,
     groups: Groups,
 }
 
 impl Model for Rims {
     ghost use Rattle.std.specs.Prelude.{◌≡◌};
+    ghost use Rattle.shell_classes.specs.Leasts.{classes_of};
     ghost use Rattle.shell_rims.specs.Rims.{Rims as Found};
 
     ghost Value = { Found };
 
     ghost view = { λ r. record { rows = r.rows.items; firsts = r.firsts.items } };
 
-    ghost invariant = { λ r. r.groups ≡ r.firsts.items };
+    ghost invariant = { λ r. (r.rims.items ≡ classes_of r.firsts.items) × (r.groups ≡ r.firsts.items) };
 }
 
 fn found_at(vertices: &[u32], v: u32) -> usize
@@ -119,43 +121,41 @@ pub fn rims_of(alloc: Global, rows: &Rows) -> Result<Rims, NoMemory>
         return Err(NoMemory);
     }
     let firsts = firsts_of(alloc, lone.as_slice(), vertices)?;
+    let rims = classes(alloc, firsts.as_slice())?;
     let groups = grouped_leasts(alloc, firsts.as_slice())?;
     Ok(Rims {
         rows: lone,
         firsts,
+        rims,
         groups,
     })
 }
 
-fn push_row_ends(rows: &[Row], i: u32, out: &mut Vec<u32>) -> Result<(), NoMemory>
-    ensures { IfOk result (λ _. out.new.items ≡ out.old.items ++ ends_at rows.now i) }
+// The lesser of both, where there is one.
+fn lesser(least: Option<u32>, n: u32) -> Option<u32>
+    ensures { result ≡ lesser_of least (Some n) }
 {
-    if let Some(row) = rows.get(i as usize) {
-        out.push(row.from.0)?;
-        out.push(row.to.0)?;
+    match least {
+        None => Some(n),
+        Some(m) => Some(m.min(n)),
     }
-    Ok(())
 }
 
-fn least_of(numbers: &[u32]) -> Option<u32>
-    ensures low { IfSome result (λ m. All (λ n. m ≤ n) numbers.now) }
-    ensures among { IfSome result (Contains numbers.now) }
-    ensures none { IsNone result ↔ (numbers.now ≡ []) }
+// The same with both ends of a row.
+fn lesser_end(rows: &[Row], i: u32, least: Option<u32>) -> Option<u32>
+    ensures { result ≡ lesser_of least (least_of (ends_at rows.now i)) }
 {
-    numbers.iter().copied().min()
-}
-
-fn least_in(numbers: &[u32]) -> Option<u32>
-    ensures { MatchOption result (numbers.now ≡ []) (IsLeast numbers.now) }
-{
-    least_of(numbers)
+    match rows.get(i as usize) {
+        None => least,
+        Some(row) => lesser(lesser(least, row.from.0), row.to.0),
+    }
 }
 
 impl Rims {
-    ghost use Rattle.std.specs.Prelude.{◌≡◌, ◌<◌, ◌^◌, [], IfOk, MatchOption, length};
-    ghost use Rattle.std.specs.List.{AllByRecursion};
+    ghost use Rattle.std.specs.Prelude.{◌≡◌, option_map};
     ghost use Rattle.shell_classes.specs.Leasts.{classes_of};
-    ghost use Rattle.shell_rims.specs.Rims.{rim_rows, rim_ends, IsLeast};
+    ghost use Rattle.shell_rims.specs.Rims.{rim_rows, rim_ends, least_of};
+    ghost use Rattle.solid_data.specs.declared.solid.VertexId.{VertexId as AnyVertexId};
 
     /// The rows that are alone, by rising edge. A row is told below by its place in this list, from 0.
     pub fn rows(&self) -> &[Row]
@@ -165,11 +165,10 @@ impl Rims {
     }
 
     /// The rims, each by its first row, in order.
-    pub fn rims(&self, alloc: Global) -> Result<Vec<u32>, NoMemory>
-        requires { length self.now.firsts < 2 ^ 32 }
-        ensures { IfOk result (λ rims. rims.items ≡ classes_of self.now.firsts) }
+    pub fn rims(&self) -> &[u32]
+        ensures { result.now ≡ classes_of self.now.firsts }
     {
-        classes(alloc, self.firsts.as_slice())
+        self.rims.as_slice()
     }
 
     /// The rows of a rim, which is told by its first row, in order.
@@ -179,27 +178,18 @@ impl Rims {
         self.groups.places(rim)
     }
 
-    // The ends of the rows of a rim.
-    fn ends_on(&self, alloc: Global, rim: u32) -> Result<Vec<u32>, NoMemory>
-        ensures { IfOk result (λ ends. ends.items ≡ rim_ends self.now.rows self.now.firsts rim) }
+    /// The least vertex at which a row of a rim starts or ends; None if the rim has no row.
+    pub fn least_vertex(&self, rim: u32) -> Option<VertexId>
+        ensures { option_map (λ (v : AnyVertexId). v.0) result ≡ least_of (rim_ends self.now.rows self.now.firsts rim) }
     {
         let places = self.groups.places(rim);
-        let mut ends = Vec::new(alloc);
+        let mut least = None;
         'rows: for i in 0..places.len() {
-            push_row_ends(self.rows.as_slice(), places[i], &mut ends)?;
+            least = lesser_end(self.rows.as_slice(), places[i], least);
         }
-        Ok(ends)
-    }
-
-    /// The least vertex at which a row of a rim starts or ends; None if the rim has no row.
-    pub fn least_vertex(&self, alloc: Global, rim: u32) -> Result<Option<VertexId>, NoMemory>
-        ensures { IfOk result (λ least. let ends = rim_ends self.now.rows self.now.firsts rim in
-            MatchOption least (ends ≡ []) (λ v. IsLeast ends v.0)) }
-    {
-        let ends = self.ends_on(alloc, rim)?;
-        match least_in(ends.as_slice()) {
-            None => Ok(None),
-            Some(v) => Ok(Some(VertexId(v))),
+        match least {
+            None => None,
+            Some(v) => Some(VertexId(v)),
         }
     }
 }

@@ -10,4 +10,4 @@ firsts_of-requires-clause-known c =
 
 pub grouped_leasts-requires-clause-low : goal.grouped_leasts-requires-clause-low
 grouped_leasts-requires-clause-low c =
-    subst AreTrees (sym c.as_slice-2.ensures.value) (rims_low c.as_slice.result.now c.in_ok-firsts.firsts.items c.in_ok-firsts.ensures)
+    subst AreTrees (sym c.as_slice-3.ensures.value) (rims_low c.as_slice.result.now c.in_ok-firsts.firsts.items c.in_ok-firsts.ensures)
