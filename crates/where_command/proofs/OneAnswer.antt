@@ -27,8 +27,8 @@ use Rattle.command_replies.specs.Outcome.{IsNoFile}
 use Rattle.command_replies.proofs.One.{IsOne, no_file}
 use Rattle.where_text.specs.declared.listing.Listing.{Listing}
 use Rattle.where_text.specs.Listing.{shown}
-use Rattle.where_solids.specs.AllFaults.{AreAllFaults, failing_shells}
-use Rattle.where_solids.specs.ShellHints.{IsHint}
+use Rattle.solid_hints.specs.AllFaults.{AreAllFaults, failing_shells}
+use Rattle.solid_hints.specs.ShellHints.{IsHint}
 use Rattle.where_solids.specs.Lines.{verdict_line}
 use Rattle.where_unjudged.specs.Listed.{solids_of}
 use Rattle.where_solids.specs.Overview.{AreVerdicts, all_close, overview_text}
@@ -39,7 +39,7 @@ use Rattle.where_command.specs.declared.asked.Asked.TheVariants as asked
 use Rattle.where_command.specs.Asked.{asked_of, usage_line}
 use Rattle.where_command.specs.Due.{DueOf, OfContents, OfNoFile, OfOverview, OfSolid, answer_to, answer_where, bad_file, bad_file_text, file_too_large}
 use Rattle.where_command.specs.Laws.{OneAnswerIsOwed}
-use Rattle.where_solids.proofs.ToldHints.{all_inside}
+use Rattle.solid_hints.proofs.ToldHints.{all_inside}
 use Rattle.where_command.proofs.OneFaults.{one_of_all, same_list}
 use Rattle.where_command.proofs.OneHints.{one_hint}
 

@@ -9,7 +9,7 @@ use Rattle.edge_uses.specs.ShellRows.{ShellRows, shell_rows}
 use Rattle.solid_faults.specs.Fans.{AreFans, unlinked_of}
 use Rattle.solid_faults.specs.Faults.{AreFaults, AreLinkings, Faults, Linking}
 use Rattle.solid_faults.specs.Parts.{AreParts}
-use Rattle.where_solids.specs.AllFaults.{AreAllFaults}
+use Rattle.solid_hints.specs.AllFaults.{AreAllFaults}
 
 -- lists of one length with the same items are one
 pub same_list : {A : Type 0} (xs ys : List A) → length xs ≡ length ys → ((i : ℕ) (x y : A) → slice_get xs i ≡ Some x → slice_get ys i ≡ Some y → x ≡ y)

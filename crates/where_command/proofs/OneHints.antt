@@ -15,7 +15,7 @@ use Rattle.turn_hint.specs.Turns.{AreTurns}
 use Rattle.solid_faults.specs.Faults.{Faults}
 use Rattle.where_hints.specs.Facts.{AreHints, Hints}
 use Rattle.where_text.specs.declared.listing.Listing.{Listing}
-use Rattle.where_solids.specs.ShellHints.{AreHintsOf, IsHint, hint_faces_at, hints_at}
+use Rattle.solid_hints.specs.ShellHints.{AreHintsOf, IsHint, hint_faces_at, hints_at}
 use Rattle.where_command.proofs.OneFaults.{same_list}
 
 one_exactly : {A : Type 0} (P : A → Type 0) (a b : Option A) → IsExactly P a → IsExactly P b → a ≡ b

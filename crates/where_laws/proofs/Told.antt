@@ -31,11 +31,11 @@ use Rattle.hint_laws.proofs.SomeBodies.{closed_decided}
 use Rattle.hint_laws.proofs.SomeHints.{some_hints}
 use Rattle.where_text.specs.declared.listing.Listing.{Listing}
 use Rattle.where_text.specs.Listing.{shown}
-use Rattle.where_solids.specs.AllFaults.{AreAllFaults, failing_shells}
-use Rattle.where_solids.specs.Hints.{flags_hint, pair_fails, unset_flags}
+use Rattle.solid_hints.specs.AllFaults.{AreAllFaults, failing_shells}
+use Rattle.solid_hints.specs.Flags.{flags_hint, pair_fails, unset_flags}
 use Rattle.where_solids.specs.Lines.{verdict_line}
 use Rattle.where_solids.specs.Overview.{AreVerdicts}
-use Rattle.where_solids.specs.ShellHints.{AreHintsOf, IsHint, TellsFlags, hint_faces_at, hints_at}
+use Rattle.solid_hints.specs.ShellHints.{AreHintsOf, IsHint, TellsFlags, hint_faces_at, hints_at}
 use Rattle.where_solids.specs.ShellTexts.{shell_lines, shell_texts}
 use Rattle.where_solids.specs.Told.{IsToldOf, record_rest}
 use Rattle.where_laws.proofs.Names.{same_bears, some_path}

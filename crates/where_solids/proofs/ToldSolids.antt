@@ -20,14 +20,14 @@ use Rattle.record_paths.specs.Paths.{IsPathTo, sited}
 use Rattle.where_text.specs.declared.listing.Listing.{Listing}
 use Rattle.where_text.specs.Listing.{left_line, shown, shown_count}
 use Rattle.where_text.proofs.Steps.{shown_length}
-use Rattle.where_solids.specs.AllFaults.{AreAllFaults, failing_shells}
+use Rattle.solid_hints.specs.AllFaults.{AreAllFaults, failing_shells}
 use Rattle.where_entities.specs.Entities.{entities_text}
 use Rattle.where_solids.specs.Hints.{no_solid_hint}
 use Rattle.where_unjudged.specs.Listed.{solids_of}
 use Rattle.where_unjudged.specs.Unjudged.{unjudged_text}
 use Rattle.where_solids.specs.Overview.{AreVerdicts, IsOverview, all_close, fails, overview_end, overview_start, overview_text, solid_paragraph}
 use Rattle.where_solids.specs.Lines.{line_at, shells_line, units_line, verdict_line}
-use Rattle.where_solids.specs.ShellHints.{IsHint}
+use Rattle.solid_hints.specs.ShellHints.{IsHint}
 use Rattle.where_solids.specs.ShellTexts.{named_at, paragraphs_at, shell_lines, shell_texts}
 use Rattle.where_solids.specs.Told.{IsToldOf, record_rest}
 use Rattle.where_solids.proofs.VerdictSteps.{verdict_rest}
@@ -102,6 +102,17 @@ lines_are listing f s xs lines ks m j is text count few =
 -- a text that grew by lines, by a hint and by paragraphs
 pub three_more : (old one two new a b c : List ℕ) → one ≡ old ++ a → two ≡ one ++ b → new ≡ two ++ c → new ≡ old ++ (a ++ b ++ c)
 three_more old one two new a b c e f g = g ∙ (ap (λ xs. xs ++ c) (f ∙ (ap (λ xs. xs ++ b) e ∙ append_assoc old a b)) ∙ append_assoc old (a ++ b) c)
+
+-- the text on all solids, once the line of the counts, the solids and the rest are written
+pub text_told : (f : Contents) (ns items : List EntryNo) (vs judged : List Verdict) (m : ℕ) (start one two three text : List ℕ) → start ≡ []
+    → one ≡ start ++ overview_start vs → items ≡ ns → judged ≡ vs → two ≡ one ++ flat_map (solid_paragraph f) (zip items judged) → m ≡ length ns
+    → three ≡ two ++ (unjudged_text f ++ overview_end m) → text ≡ three
+    → text ≡ overview_start vs ++ flat_map (solid_paragraph f) (zip ns vs) ++ (unjudged_text f ++ overview_end (length ns))
+text_told f ns items vs judged m start one two three text none head same is told count tail last =
+    last ∙ (three_more start one two three (overview_start vs) (flat_map (solid_paragraph f) (zip ns vs)) (unjudged_text f ++ overview_end (length ns))
+    head (told ∙ ap (λ xs. one ++ flat_map (solid_paragraph f) xs) (ap (λ xs. zip xs judged) same ∙ ap (zip ns) is))
+    (tail ∙ ap (λ n. two ++ (unjudged_text f ++ overview_end n)) count)
+    ∙ ap (λ xs. xs ++ (overview_start vs ++ flat_map (solid_paragraph f) (zip ns vs) ++ (unjudged_text f ++ overview_end (length ns)))) none)
 
 pub all_told : (f : Contents) (ns listed : List EntryNo) (vs judged : List Verdict) (m n : ℕ) (b : Bool) (text : List ℕ) → ns ≡ solids_of f → listed ≡ ns
     → AreVerdicts f listed vs → judged ≡ vs → m ≡ length ns

@@ -1,38 +1,9 @@
--- The hints, each with its sentence in lines of at most 78 columns.
-use Rattle.std.specs.Prelude.{ℕ, Bool, false, not, List, [], ◌∷◌, ◌++◌, flat_map, Option, Some, None, count_by, length, slice_get, codes}
-use Rattle.std.specs.Prelude.{decimal}
-use Rattle.std.specs.List.{list_any}
+-- The hints on the solids of a file, each with its sentence in lines of at most 78 columns.
+use Rattle.std.specs.Prelude.{ℕ, List, [], ◌∷◌, ◌++◌, flat_map, length, codes, decimal}
 use Rattle.iges_base.specs.declared.entry_no.EntryNo.{EntryNo}
-use Rattle.iges_base.specs.Word.{is_empty}
-use Rattle.solid_data.specs.SolidData.{SolidData}
-use Rattle.solid_data.specs.declared.solid.FaceUse.{FaceUse}
-use Rattle.solid_data.specs.declared.solid.Shell.{Shell}
-use Rattle.solid_faults.specs.Faults.{Faults}
 use Rattle.where_text.specs.declared.listing.Listing.TheVariants.{Few}
 use Rattle.where_text.specs.Listing.{more_words, shown}
 use Rattle.where_text.specs.Spelled.{space_word}
-
--- ---- face flags
-
-unfoldable pub flags_sentence : List ℕ
-flags_sentence = codes "  With every face flag read as 1 this solid is closed: no face is missing.\n  Either its writer lets a face's flag speak of the surface alone, as\n  Parasolid's translator does, and the part is sound; or just the faces with\n  flag 0 are turned. The receiver may turn them inside out: check their\n  normals there, or send STEP; igesolid reorient FILE N writes the file with\n  these flags.\n"
-
-unfoldable pub flags_hint : ℕ → List ℕ
-flags_hint n = codes "hint face-flags faces" ++ space_word (decimal n) ++ codes "\n" ++ flags_sentence
-
--- how many faces of a solid have the flag 0
-unfoldable pub unset_flags : SolidData → ℕ
-unset_flags s = count_by (λ (face : FaceUse). not face.flag) (flat_map (λ (h : Shell). h.faces) s.shells)
-
-abbrev pub has_unpaired : Option Faults → Bool
-has_unpaired None = false
-has_unpaired (Some x) = not (is_empty x.unpaired)
-
--- an edge isn't paired in one of these shells
-abbrev pub pair_fails : List Faults → List ℕ → Bool
-pair_fails xs ks = list_any (λ k. has_unpaired (slice_get xs k)) ks
-
--- ---- solids
 
 unfoldable pub solids_sentence : List ℕ
 solids_sentence = codes "  The solids of this file are these. Take one of their numbers.\n"

@@ -1,7 +1,5 @@
-pub mod AllFaults
 pub mod Lines
 pub mod Hints
-pub mod ShellHints
 pub mod ShellTexts
 pub mod Told
 pub mod Overview

@@ -13,7 +13,7 @@ use Rattle.where_shells.specs.Apart.{apart_named, apart_text}
 use Rattle.where_shells.specs.Link.{link_named, link_text}
 use Rattle.where_shells.specs.Reach.{reach_named, reach_text}
 use Rattle.where_entities.specs.Entities.{entities_text}
-use Rattle.where_solids.specs.AllFaults.{failing_shells}
+use Rattle.solid_hints.specs.AllFaults.{failing_shells}
 use Rattle.where_solids.specs.Lines.{line_at, shells_line, units_line}
 
 -- the vertices that aren't linked, where fans are judged

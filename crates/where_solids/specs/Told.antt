@@ -16,12 +16,12 @@ use Rattle.where_text.specs.declared.listing.Listing.{Listing}
 use Rattle.where_text.specs.Listing.{shown}
 use Rattle.where_records.specs.RecordText.{record_named, record_text}
 use Rattle.where_entities.specs.Entities.{entities_text}
-use Rattle.where_solids.specs.AllFaults.{AreAllFaults, failing_shells}
+use Rattle.solid_hints.specs.AllFaults.{AreAllFaults, failing_shells}
 use Rattle.where_solids.specs.Hints.{solids_hint}
 use Rattle.where_unjudged.specs.KindHints.{hint_of, shells_hint}
 use Rattle.where_solids.specs.Lines.{units_line, verdict_line}
 use Rattle.where_unjudged.specs.Listed.{true_solids}
-use Rattle.where_solids.specs.ShellHints.{IsHint}
+use Rattle.solid_hints.specs.ShellHints.{IsHint}
 use Rattle.where_solids.specs.ShellTexts.{shell_lines, shell_texts}
 
 -- the units, where the number names a solid, and whether it has a shell; else what it names, and the solids

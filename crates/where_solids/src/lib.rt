@@ -1,9 +1,7 @@
 //! What is said of the solids of a file: the verdict on each, and where and why one fails.
 #![tactic(auto)]
 
-mod all_faults;
 mod fault_paragraphs;
-mod hinted_shells;
 mod hints;
 mod lines;
 mod overview;

@@ -8,7 +8,6 @@ ghost use Rattle.where_solids.specs.Overview.{AreVerdicts, IsOverview, all_close
 ghost use Rattle.where_unjudged.specs.Unjudged.{unjudged_text};
 ghost use Rattle.where_text.specs.Spelled.{space_word};
 
-use crate::all_faults::all_faults;
 use crate::hints::put_no_solid;
 use crate::lines::{put_count, put_failing};
 use crate::recalling::{Judged, LastNaming, lone_shell, recalled};
@@ -17,6 +16,7 @@ use brep_walk::{WalkFault, Walker};
 use iges_fields::{Bytes, EntryNo, ItemList, NoMemory, Out};
 use iges_params::File;
 use solid_data::Verdict;
+use solid_hints::all_faults;
 use std::alloc::Global;
 use where_entities::put_entity_facts;
 use where_text::{EntryNumbers, put_number};

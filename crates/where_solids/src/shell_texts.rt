@@ -2,11 +2,10 @@
 
 ghost use Rattle.shell_facts.specs.FaceTable.{touches_of};
 ghost use Rattle.std.specs.Prelude.{◌≡◌, ◌++◌, ◌∷◌, ◌<◌, [], IfOk, OnOk, Some, flat_map, length, slice_get};
-ghost use Rattle.where_solids.specs.AllFaults.{AreAllFaults};
+ghost use Rattle.solid_hints.specs.AllFaults.{AreAllFaults};
 ghost use Rattle.where_solids.specs.Lines.{line_at};
 ghost use Rattle.where_solids.specs.ShellTexts.{named_at, paragraphs_at};
 
-use crate::all_faults::AllFaults;
 use crate::fault_paragraphs::put_faults;
 use crate::lines::put_shell_line;
 use edge_uses::rows;
@@ -14,6 +13,7 @@ use iges_fields::{ItemList, NoMemory, Out};
 use iges_params::File;
 use shell_facts::{VertexFaces, faces_by_vertex};
 use solid_data::{ShellAt, Solid};
+use solid_hints::AllFaults;
 use std::alloc::Global;
 use where_shells::{Page, ShellView};
 use where_text::Listing;

@@ -2,19 +2,17 @@
 
 ghost use Rattle.brep_walk.specs.Places.{places};
 ghost use Rattle.brep_walk.specs.SolidOf.{solid_of};
+ghost use Rattle.iges_base.specs.declared.entry_no.EntryNo.{EntryNo as AnyEntryNo};
 ghost use Rattle.solid_data.specs.Obligations.{AllHold, FirstFalse};
 ghost use Rattle.std.specs.Prelude.{◌≡◌, ◌++◌, ◌≤◌, ◌-◌, ℕ, [], List, IfOk, OnOk, length};
 ghost use Rattle.where_entities.specs.Entities.{entities_text};
-ghost use Rattle.where_solids.specs.AllFaults.{AreAllFaults, failing_shells};
-ghost use Rattle.iges_base.specs.declared.entry_no.EntryNo.{EntryNo as AnyEntryNo};
-ghost use Rattle.where_solids.specs.ShellHints.{IsHint};
+ghost use Rattle.solid_hints.specs.AllFaults.{AreAllFaults, failing_shells};
+ghost use Rattle.solid_hints.specs.ShellHints.{IsHint};
 ghost use Rattle.where_solids.specs.Lines.{shells_line, units_line};
 ghost use Rattle.where_solids.specs.ShellTexts.{shell_lines, shell_texts};
 ghost use Rattle.where_solids.specs.Told.{IsToldOf};
 ghost use Rattle.where_text.specs.Listing.{left_line, shown};
 
-use crate::all_faults::{AllFaults, all_faults, failing_shells};
-use crate::hinted_shells::{HintedSolid, put_hint};
 use crate::lines::{put_shells, put_units, put_verdict};
 use crate::record_texts::{FailingRecord, put_record_rest};
 use crate::shell_texts::{ShellTexts, shell_texts};
@@ -24,6 +22,7 @@ use iges_fields::{Bytes, EntryNo, NoMemory, Out};
 use iges_params::File;
 use record_paths::path_of;
 use solid_data::{Failing, Solid, Verdict};
+use solid_hints::{AllFaults, HintedSolid, all_faults, failing_shells, put_hint};
 use std::alloc::Global;
 use where_entities::put_entities;
 use where_text::{Listing, put_more_items, shown_members};

@@ -11,12 +11,12 @@ ghost use Rattle.solid_faults.specs.Faults.{failing_of, failing_vertices};
 ghost use Rattle.solid_faults.specs.Gaps.{gap_failing};
 ghost use Rattle.solid_faults.specs.Parts.{failing_faces};
 ghost use Rattle.std.specs.Prelude.{◌≡◌, ◌∷◌, ◌<◌, [], List, Some, MatchOption, length, map, option_copied, slice_get};
-ghost use Rattle.where_solids.specs.AllFaults.{AreAllFaults};
+ghost use Rattle.solid_hints.specs.AllFaults.{AreAllFaults};
 ghost use Rattle.solid_data.specs.declared.TheConstants.{PART_LIMIT};
 
-use crate::all_faults::{AllFaults, shell_at};
 use solid_data::{FaceUse, Failing, Rule, Shell, Solid, Verdict, VertexId};
 use solid_faults::{Gap, Linking, ShellFaults, Unlinked, Unpaired};
+use solid_hints::{AllFaults, shell_at};
 
 fn first_gap(gaps: &[Gap]) -> Option<Failing>
     ensures { MatchOption result (map gap_failing gaps.now ≡ [])

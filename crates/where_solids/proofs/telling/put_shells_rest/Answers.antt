@@ -3,7 +3,7 @@ use Rattle.std.proofs.lemmas.Result.{IfOk-weaker}
 use Rattle.solid_faults.proofs.Definite.{few_shells}
 use Rattle.where_text.specs.Listing.{left_line}
 use Rattle.where_solids.specs.Lines.{shells_line, units_line}
-use Rattle.where_solids.proofs.ToldHints.{all_inside}
+use Rattle.solid_hints.proofs.ToldHints.{all_inside}
 use Rattle.where_solids.proofs.ToldSolids.{rest_written}
 use Rattle.where_solids.proofs.telling.put_shells_rest.Goals as goal
 

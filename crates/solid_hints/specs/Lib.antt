@@ -1,0 +1,3 @@
+pub mod AllFaults
+pub mod Flags
+pub mod ShellHints

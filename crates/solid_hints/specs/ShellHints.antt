@@ -1,0 +1,45 @@
+-- The hints on the failing shells of a solid.
+use Rattle.std.specs.Prelude.{◌≡◌, ◌⊎◌, ◌<◌, ℕ, Bool, List, [], length, flat_map, zip, Option, Some, None, IsTrue, slice_get}
+use Rattle.iges_base.specs.declared.entry_no.EntryNo.{EntryNo}
+use Rattle.iges_params.specs.Contents.{Contents}
+use Rattle.solid_data.specs.SolidData.{SolidData}
+use Rattle.solid_data.specs.declared.solid.Shell.{Shell}
+use Rattle.solid_faults.specs.FaceFlags.{IsClosedFlagged}
+use Rattle.solid_faults.specs.Faults.{Faults}
+use Rattle.where_hints.specs.Facts.{AreHints, Hints}
+use Rattle.where_hints.specs.Lines.{hints_named, hints_text}
+use Rattle.where_text.specs.declared.listing.Listing.{Listing}
+use Rattle.solid_hints.specs.Flags.{flags_hint, pair_fails, unset_flags}
+
+-- at each place the hints on the shell whose number stands at that place
+pub record AreHintsOf (s : SolidData) (ks : List ℕ) (xs : List Hints) : Type 0 where
+  pub each : length xs ≡ length ks
+  pub shell : (i : ℕ) (x : Hints) → slice_get xs i ≡ Some x → (k : ℕ) (h : Shell) → slice_get ks i ≡ Some k → slice_get s.shells k ≡ Some h → AreHints s k h x
+
+abbrev pub shell_hints : Listing → Contents → ℕ → Hints → Option Shell → Option Faults → List ℕ
+shell_hints listing f k x (Some h) (Some faults) = hints_text listing f h k faults.gaps x
+shell_hints listing f k x (Some h) None = []
+shell_hints listing f k x None faults = []
+
+abbrev pub shell_hint_faces : Listing → Hints → Option Shell → Option Faults → List EntryNo
+shell_hint_faces listing x (Some h) (Some faults) = hints_named listing h faults.gaps x
+shell_hint_faces listing x (Some h) None = []
+shell_hint_faces listing x None faults = []
+
+-- the hints x on shell k, from 0, and the faces that they name
+abbrev pub hints_at : Listing → Contents → SolidData → List Faults → ℕ × Hints → List ℕ
+hints_at listing f s faults p = shell_hints listing f p.0 p.1 (slice_get s.shells p.0) (slice_get faults p.0)
+
+abbrev pub hint_faces_at : Listing → SolidData → List Faults → ℕ × Hints → List EntryNo
+hint_faces_at listing s faults p = shell_hint_faces listing p.1 (slice_get s.shells p.0) (slice_get faults p.0)
+
+-- Edges aren't paired, a face has the flag 0, and with all flags of faces 1 the solid is closed.
+abbrev pub TellsFlags : SolidData → Bool → Type 0
+TellsFlags s unpaired = IsTrue unpaired × (0 < unset_flags s) × IsClosedFlagged s
+
+-- Where flags are told, that is said alone; else the hints on each of these shells, in order. These are the faces that are named.
+abbrev pub IsHint : Listing → Contents → SolidData → List Faults → List ℕ → List ℕ → List EntryNo → Type 0
+IsHint listing f s faults ks hint faces =
+    (TellsFlags s (pair_fails faults ks) × (hint ≡ flags_hint (unset_flags s)) × (faces ≡ []))
+    ⊎ ((¬ TellsFlags s (pair_fails faults ks)) × (xs : List Hints) × AreHintsOf s ks xs × (hint ≡ flat_map (hints_at listing f s faults) (zip ks xs))
+    × (faces ≡ flat_map (hint_faces_at listing s faults) (zip ks xs)))

@@ -1,0 +1,128 @@
+//! The hints on the failing shells of a solid.
+
+ghost use Rattle.iges_base.specs.declared.entry_no.EntryNo.{EntryNo as AnyEntryNo};
+ghost use Rattle.solid_data.specs.declared.solid.Shell.{Shell as AnyShell};
+ghost use Rattle.std.specs.Prelude.{◌≡◌, ◌++◌, ◌<◌, All, IfOk, List, OnOk, Some, flat_map, length, slice_get, zip, ℕ};
+ghost use Rattle.where_hints.specs.Facts.{AreHints};
+ghost use Rattle.solid_hints.specs.AllFaults.{AreAllFaults};
+ghost use Rattle.solid_hints.specs.ShellHints.{AreHintsOf, IsHint, hint_faces_at, hints_at};
+
+use crate::all_faults::AllFaults;
+use crate::flags::{pair_fails, put_flags, tells_flags, unset_flags};
+use edge_uses::rows;
+use iges_fields::{ItemList, NoMemory, Out};
+use iges_params::File;
+use solid_data::{ShellAt, Solid};
+use std::alloc::Global;
+use where_hints::{HintView, Hints, hints_of, put_hints};
+use where_text::{EntryNumbers, Listing};
+
+/// A solid of a file, all that fails in it, and how much is written of each list.
+#[derive(Drop)]
+pub struct HintedSolid<'a> {
+    pub file: &'a File,
+    pub solid: &'a Solid,
+    pub all: &'a AllFaults,
+    pub listing: Listing,
+}
+
+fn hints_on(alloc: Global, solid: &Solid, all: &AllFaults, k: u32) -> Result<Hints, NoMemory>
+    requires faults { AreAllFaults solid.now all.now }
+    requires shell { k < length solid.now.shells }
+    ensures { IfOk result (λ x. (h : AnyShell) → slice_get solid.now.shells k ≡ Some h
+        → AreHints solid.now k h x) }
+{
+    let at = ShellAt(k);
+    let faults = all.get(k as usize).unwrap();
+    let rows = rows(alloc, solid, at)?;
+    hints_of(alloc, solid, at, &rows, faults)
+}
+
+// The hints on each of these shells.
+fn all_hints(
+    alloc: Global,
+    solid: &Solid,
+    all: &AllFaults,
+    shells: &[u32],
+) -> Result<ItemList<Hints>, NoMemory>
+    requires faults { AreAllFaults solid.now all.now }
+    requires shells { All (λ k. k < length solid.now.shells) shells.now }
+    ensures { IfOk result (λ xs. AreHintsOf solid.now shells.now xs) }
+{
+    let mut list = ItemList::with_room(alloc, shells.len())?;
+    'shells: for i in 0..shells.len() {
+        list.push(hints_on(alloc, solid, all, shells[i])?)?;
+    }
+    Ok(list)
+}
+
+fn put_hints_at(
+    out: &mut Out,
+    named: &mut EntryNumbers,
+    view: &HintedSolid<'_>,
+    k: u32,
+    hints: &Hints,
+) -> Result<(), NoMemory>
+    ensures text { OnOk result (out.new ≡ out.old
+        ++ hints_at view.now.listing view.now.file.now view.now.solid.now view.now.all.now (k, hints.now)) }
+    ensures named { OnOk result (named.new ≡ named.old
+        ++ hint_faces_at view.now.listing view.now.solid.now view.now.all.now (k, hints.now)) }
+{
+    let at = ShellAt(k);
+    let Some(shell) = view.solid.shell(at) else {
+        return Ok(());
+    };
+    let Some(faults) = view.all.get(k as usize) else {
+        return Ok(());
+    };
+    let on = HintView {
+        file: view.file,
+        shell,
+        at,
+        listing: view.listing,
+    };
+    put_hints(out, named, &on, faults.gaps(), hints)
+}
+
+fn put_all_hints(
+    out: &mut Out,
+    named: &mut EntryNumbers,
+    view: &HintedSolid<'_>,
+    shells: &[u32],
+    hints: &[Hints],
+) -> Result<(), NoMemory>
+    requires { length hints.now ≡ length shells.now }
+    ensures text { OnOk result (out.new ≡ out.old
+        ++ flat_map (hints_at view.now.listing view.now.file.now view.now.solid.now view.now.all.now) (zip shells.now hints.now)) }
+    ensures named { OnOk result (named.new ≡ named.old
+        ++ flat_map (hint_faces_at view.now.listing view.now.solid.now view.now.all.now) (zip shells.now hints.now)) }
+{
+    'shells: for i in 0..shells.len() {
+        put_hints_at(out, named, view, shells[i], &hints[i])?;
+    }
+    Ok(())
+}
+
+/// Appends the hint on face flags where edges aren't paired in one of these shells, a face has the flag 0, and with all face
+/// flags 1 the solid is closed; else the hints on each of these shells. The faces that they name join the others that
+/// are named. It copies the solid.
+pub fn put_hint(
+    alloc: Global,
+    out: &mut Out,
+    named: &mut EntryNumbers,
+    view: &HintedSolid<'_>,
+    shells: &[u32],
+) -> Result<(), NoMemory>
+    requires faults { AreAllFaults view.now.solid.now view.now.all.now }
+    requires shells { All (λ k. k < length view.now.solid.now.shells) shells.now }
+    ensures { IfOk result (λ _. (hint : List ℕ) × (faces : List AnyEntryNo)
+        × IsHint view.now.listing view.now.file.now view.now.solid.now view.now.all.now shells.now hint faces
+        × (out.new ≡ out.old ++ hint) × (named.new ≡ named.old ++ faces)) }
+{
+    let unset = unset_flags(view.solid);
+    if tells_flags(alloc, view.solid, pair_fails(view.all, shells), unset)? {
+        return put_flags(out, unset);
+    }
+    let hints = all_hints(alloc, view.solid, view.all, shells)?;
+    put_all_hints(out, named, view, shells, hints.as_slice())
+}

@@ -1,6 +1,0 @@
-use Rattle.std.proofs.Common.{◌≡◌, ◌++◌, drop}
-use Rattle.where_solids.specs.AllFaults.{failing_from}
-use Rattle.where_solids.proofs.all_faults.failing_shells.Given as goal
-
-abbrev pub invariant-shells : goal.invariant-shells
-invariant-shells l = l.list.items ++ failing_from l.k (drop l.k l.faults) ≡ failing_from 0 l.faults

@@ -1,7 +1,0 @@
-use Rattle.std.proofs.Common.{◌≡◌, ◌≤◌, take}
-use Rattle.std.specs.Prelude.{count_by}
-use Rattle.where_solids.proofs.Counts.{is_unset}
-use Rattle.where_solids.proofs.hints.unset_in.Given as goal
-
-abbrev pub invariant-faces : goal.invariant-faces
-invariant-faces l = record { count : l.count ≡ count_by is_unset (take l.i l.faces); few : l.count ≤ l.i }
