@@ -9,27 +9,27 @@ use Rattle.solid_data.specs.SolidData.{SolidData}
 use Rattle.solid_data.specs.declared.solid.Shell.{Shell}
 use Rattle.solid_faults.specs.FaceFlags.{IsClosedFlagged}
 use Rattle.solid_faults.specs.Faults.{Faults}
-use Rattle.where_hints.specs.Facts.{AreHints, Hints}
+use Rattle.where_hints.specs.Facts.{Hints}
 use Rattle.where_text.specs.declared.listing.Listing.{Listing}
 use Rattle.where_text.specs.declared.listing.Listing.TheVariants as how
 use Rattle.where_text.specs.Listing.{shown, shown_count}
 use Rattle.where_text.proofs.Steps.{shown_length}
 use Rattle.solid_hints.specs.AllFaults.{failing_from, failing_shells, is_failing}
 use Rattle.solid_hints.specs.Flags.{flags_hint, pair_fails, unset_flags}
-use Rattle.solid_hints.specs.ShellHints.{AreHintsOf, IsHint, TellsFlags, hint_faces_at, hints_at}
+use Rattle.solid_hints.specs.ShellHints.{AreHintsOf, AreShellHints, IsHint, TellsFlags, hint_faces_at, hints_at}
 use Rattle.solid_hints.proofs.Gathered.{one_more}
 
 abbrev HintsAt : SolidData → List ℕ → ℕ → Hints → Type 0
-HintsAt s ks i x = (k : ℕ) (h : Shell) → slice_get ks i ≡ Some k → slice_get s.shells k ≡ Some h → AreHints s k h x
+HintsAt s ks i x = (k : ℕ) (h : Shell) → slice_get ks i ≡ Some k → slice_get s.shells k ≡ Some h → AreShellHints s k h x
 
 -- the hints on one more shell
 pub hints_more : (s : SolidData) (ks : List ℕ) (i k : ℕ) (old new : List Hints) (x : Hints) → slice_get ks i ≡ Some k → length old ≡ i → new ≡ old ++ x ∷ []
-    → ((j : ℕ) (y : Hints) → slice_get old j ≡ Some y → (k : ℕ) (h : Shell) → slice_get ks j ≡ Some k → slice_get s.shells k ≡ Some h → AreHints s k h y)
-    → ((h : Shell) → slice_get s.shells k ≡ Some h → AreHints s k h x)
-    → (j : ℕ) (y : Hints) → slice_get new j ≡ Some y → (k : ℕ) (h : Shell) → slice_get ks j ≡ Some k → slice_get s.shells k ≡ Some h → AreHints s k h y
+    → ((j : ℕ) (y : Hints) → slice_get old j ≡ Some y → (k : ℕ) (h : Shell) → slice_get ks j ≡ Some k → slice_get s.shells k ≡ Some h → AreShellHints s k h y)
+    → ((h : Shell) → slice_get s.shells k ≡ Some h → AreShellHints s k h x)
+    → (j : ℕ) (y : Hints) → slice_get new j ≡ Some y → (k : ℕ) (h : Shell) → slice_get ks j ≡ Some k → slice_get s.shells k ≡ Some h → AreShellHints s k h y
 hints_more s ks i k old new x at long is each last j y there =
     one_more (HintsAt s ks) old x each
-    (subst (λ n. HintsAt s ks n x) (sym long) (λ l h here. let same : l ≡ k = cc in subst (λ m. slice_get s.shells m ≡ Some h → AreHints s m h x) (sym same)
+    (subst (λ n. HintsAt s ks n x) (sym long) (λ l h here. let same : l ≡ k = cc in subst (λ m. slice_get s.shells m ≡ Some h → AreShellHints s m h x) (sym same)
     (last h))) j y (subst (λ xs. slice_get xs j ≡ Some y) is there)
 
 -- numbers of failing shells are numbers of shells

@@ -6,20 +6,27 @@ use Rattle.solid_data.specs.SolidData.{SolidData}
 use Rattle.solid_data.specs.declared.solid.Shell.{Shell}
 use Rattle.solid_faults.specs.FaceFlags.{IsClosedFlagged}
 use Rattle.solid_faults.specs.Faults.{Faults}
+use Rattle.shell_classes.specs.Exactly.{IsExactly}
+use Rattle.open_hint.specs.Missing.{AreMissing}
 use Rattle.where_hints.specs.Facts.{AreHints, Hints}
 use Rattle.where_hints.specs.Lines.{hints_named, hints_text}
 use Rattle.where_text.specs.declared.listing.Listing.{Listing}
 use Rattle.solid_hints.specs.Flags.{flags_hint, pair_fails, unset_flags}
 
+-- the hints x on shell k: those on the shell as a closed one, and whether only faces are missing
+abbrev pub AreShellHints : SolidData → ℕ → Shell → Hints → Type 0
+AreShellHints s k h x = AreHints s k h x × IsExactly (AreMissing s h) x.missing
+
 -- at each place the hints on the shell whose number stands at that place
 pub record AreHintsOf (s : SolidData) (ks : List ℕ) (xs : List Hints) : Type 0 where
   pub each : length xs ≡ length ks
-  pub shell : (i : ℕ) (x : Hints) → slice_get xs i ≡ Some x → (k : ℕ) (h : Shell) → slice_get ks i ≡ Some k → slice_get s.shells k ≡ Some h → AreHints s k h x
+  pub shell : (i : ℕ) (x : Hints) → slice_get xs i ≡ Some x → (k : ℕ) (h : Shell) → slice_get ks i ≡ Some k → slice_get s.shells k ≡ Some h
+      → AreShellHints s k h x
 
-abbrev pub shell_hints : Listing → Contents → ℕ → Hints → Option Shell → Option Faults → List ℕ
-shell_hints listing f k x (Some h) (Some faults) = hints_text listing f h k faults.gaps x
-shell_hints listing f k x (Some h) None = []
-shell_hints listing f k x None faults = []
+abbrev pub shell_hints : Listing → Contents → SolidData → ℕ → Hints → Option Shell → Option Faults → List ℕ
+shell_hints listing f s k x (Some h) (Some faults) = hints_text listing f s h k faults.gaps x
+shell_hints listing f s k x (Some h) None = []
+shell_hints listing f s k x None faults = []
 
 abbrev pub shell_hint_faces : Listing → Hints → Option Shell → Option Faults → List EntryNo
 shell_hint_faces listing x (Some h) (Some faults) = hints_named listing h faults.gaps x
@@ -28,7 +35,7 @@ shell_hint_faces listing x None faults = []
 
 -- the hints x on shell k, from 0, and the faces that they name
 abbrev pub hints_at : Listing → Contents → SolidData → List Faults → ℕ × Hints → List ℕ
-hints_at listing f s faults p = shell_hints listing f p.0 p.1 (slice_get s.shells p.0) (slice_get faults p.0)
+hints_at listing f s faults p = shell_hints listing f s p.0 p.1 (slice_get s.shells p.0) (slice_get faults p.0)
 
 abbrev pub hint_faces_at : Listing → SolidData → List Faults → ℕ × Hints → List EntryNo
 hint_faces_at listing s faults p = shell_hint_faces listing p.1 (slice_get s.shells p.0) (slice_get faults p.0)

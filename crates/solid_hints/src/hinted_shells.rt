@@ -3,15 +3,15 @@
 ghost use Rattle.iges_base.specs.declared.entry_no.EntryNo.{EntryNo as AnyEntryNo};
 ghost use Rattle.solid_data.specs.declared.solid.Shell.{Shell as AnyShell};
 ghost use Rattle.std.specs.Prelude.{◌≡◌, ◌++◌, ◌<◌, All, IfOk, List, OnOk, Some, flat_map, length, slice_get, zip, ℕ};
-ghost use Rattle.where_hints.specs.Facts.{AreHints};
 ghost use Rattle.solid_hints.specs.AllFaults.{AreAllFaults};
-ghost use Rattle.solid_hints.specs.ShellHints.{AreHintsOf, IsHint, hint_faces_at, hints_at};
+ghost use Rattle.solid_hints.specs.ShellHints.{AreHintsOf, AreShellHints, IsHint, hint_faces_at, hints_at};
 
 use crate::all_faults::AllFaults;
 use crate::flags::{pair_fails, put_flags, tells_flags, unset_flags};
 use edge_uses::rows;
 use iges_fields::{ItemList, NoMemory, Out};
 use iges_params::File;
+use open_hint::missing_faces;
 use solid_data::{ShellAt, Solid};
 use std::alloc::Global;
 use where_hints::{HintView, Hints, hints_of, put_hints};
@@ -30,12 +30,14 @@ fn hints_on(alloc: Global, solid: &Solid, all: &AllFaults, k: u32) -> Result<Hin
     requires faults { AreAllFaults solid.now all.now }
     requires shell { k < length solid.now.shells }
     ensures { IfOk result (λ x. (h : AnyShell) → slice_get solid.now.shells k ≡ Some h
-        → AreHints solid.now k h x) }
+        → AreShellHints solid.now k h x) }
 {
     let at = ShellAt(k);
     let faults = all.get(k as usize).unwrap();
     let rows = rows(alloc, solid, at)?;
-    hints_of(alloc, solid, at, &rows, faults)
+    let missing = missing_faces(alloc, solid, at, &rows)?;
+    let hints = hints_of(alloc, solid, at, &rows, faults, missing)?;
+    Ok(hints)
 }
 
 // The hints on each of these shells.
@@ -77,6 +79,7 @@ fn put_hints_at(
     };
     let on = HintView {
         file: view.file,
+        solid: view.solid,
         shell,
         at,
         listing: view.listing,

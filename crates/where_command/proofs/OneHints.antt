@@ -10,12 +10,14 @@ use Rattle.solid_data.proofs.Members.{get_some}
 use Rattle.edge_uses.specs.ShellRows.{shell_rows}
 use Rattle.shell_classes.specs.Exactly.{IsExactly}
 use Rattle.shell_hints.specs.Counted.{AreCrowded, ArePinched, AreShared, AreTouching}
+use Rattle.doubled_faces.specs.Doubled.{AreDoubled}
+use Rattle.open_hint.specs.Missing.{AreMissing}
 use Rattle.face_hints.specs.Bodies.{AreBodies}
 use Rattle.turn_hint.specs.Turns.{AreTurns}
 use Rattle.solid_faults.specs.Faults.{Faults}
-use Rattle.where_hints.specs.Facts.{AreHints, Hints}
+use Rattle.where_hints.specs.Facts.{Hints}
 use Rattle.where_text.specs.declared.listing.Listing.{Listing}
-use Rattle.solid_hints.specs.ShellHints.{AreHintsOf, IsHint, hint_faces_at, hints_at}
+use Rattle.solid_hints.specs.ShellHints.{AreHintsOf, AreShellHints, IsHint, hint_faces_at, hints_at}
 use Rattle.where_command.proofs.OneFaults.{same_list}
 
 one_exactly : {A : Type 0} (P : A → Type 0) (a b : Option A) → IsExactly P a → IsExactly P b → a ≡ b
@@ -23,21 +25,33 @@ one_exactly P None None p q = refl
 one_exactly P (Some x) b p q = let here = p x in let there = q x in sym (there.1 (here.0 refl))
 one_exactly P None (Some y) p q = let here = p y in let there = q y in here.1 (there.0 refl)
 
-one_shell : (s : SolidData) (k : ℕ) (h : Shell) (x y : Hints) → AreHints s k h x → AreHints s k h y → x ≡ y
-one_shell s k h x y a b =
+one_shell : (s : SolidData) (k : ℕ) (h : Shell) (x y : Hints) → AreShellHints s k h x → AreShellHints s k h y → x ≡ y
+one_shell s k h x y (a, missing_a) (b, missing_b) =
     let d = shell_rows s h in
     let bodies : x.bodies ≡ y.bodies = one_exactly (AreBodies s h) x.bodies y.bodies a.bodies b.bodies in
+    let doubled : x.doubled ≡ y.doubled = one_exactly (AreDoubled s h) x.doubled y.doubled a.doubled b.doubled in
+    let missing : x.missing ≡ y.missing = one_exactly (AreMissing s h) x.missing y.missing missing_a missing_b in
     let turns : x.turns ≡ y.turns = one_exactly (AreTurns d) x.turns y.turns a.turns b.turns in
     let touching : x.touching ≡ y.touching = one_exactly (AreTouching d) x.touching y.touching a.touching b.touching in
     let crowded : x.crowded ≡ y.crowded = one_exactly (AreCrowded d) x.crowded y.crowded a.crowded b.crowded in
     let pinched : x.pinched ≡ y.pinched = one_exactly (ArePinched s h) x.pinched y.pinched a.pinched b.pinched in
     let shared : x.shared ≡ y.shared = one_exactly (AreShared s k d) x.shared y.shared a.shared b.shared in
-    ap (λ z. record { bodies = z; turns = x.turns; touching = x.touching; crowded = x.crowded; pinched = x.pinched; shared = x.shared }) bodies
-    ∙ (ap (λ z. record { bodies = y.bodies; turns = z; touching = x.touching; crowded = x.crowded; pinched = x.pinched; shared = x.shared }) turns
-    ∙ (ap (λ z. record { bodies = y.bodies; turns = y.turns; touching = z; crowded = x.crowded; pinched = x.pinched; shared = x.shared }) touching
-    ∙ (ap (λ z. record { bodies = y.bodies; turns = y.turns; touching = y.touching; crowded = z; pinched = x.pinched; shared = x.shared }) crowded
-    ∙ (ap (λ z. record { bodies = y.bodies; turns = y.turns; touching = y.touching; crowded = y.crowded; pinched = z; shared = x.shared }) pinched
-    ∙ ap (λ z. record { bodies = y.bodies; turns = y.turns; touching = y.touching; crowded = y.crowded; pinched = y.pinched; shared = z }) shared))))
+    ap (λ z. record { bodies = z; doubled = x.doubled; missing = x.missing; turns = x.turns; touching = x.touching; crowded = x.crowded; pinched = x.pinched; shared = x.shared })
+        bodies
+    ∙ (ap (λ z. record { bodies = y.bodies; doubled = z; missing = x.missing; turns = x.turns; touching = x.touching; crowded = x.crowded; pinched = x.pinched; shared = x.shared })
+        doubled
+    ∙ (ap (λ z. record { bodies = y.bodies; doubled = y.doubled; missing = z; turns = x.turns; touching = x.touching; crowded = x.crowded; pinched = x.pinched; shared = x.shared })
+        missing
+    ∙ (ap (λ z. record { bodies = y.bodies; doubled = y.doubled; missing = y.missing; turns = z; touching = x.touching; crowded = x.crowded; pinched = x.pinched; shared = x.shared })
+        turns
+    ∙ (ap (λ z. record { bodies = y.bodies; doubled = y.doubled; missing = y.missing; turns = y.turns; touching = z; crowded = x.crowded; pinched = x.pinched; shared = x.shared })
+        touching
+    ∙ (ap (λ z. record { bodies = y.bodies; doubled = y.doubled; missing = y.missing; turns = y.turns; touching = y.touching; crowded = z; pinched = x.pinched; shared = x.shared })
+        crowded
+    ∙ (ap (λ z. record { bodies = y.bodies; doubled = y.doubled; missing = y.missing; turns = y.turns; touching = y.touching; crowded = y.crowded; pinched = z; shared = x.shared })
+        pinched
+    ∙ ap (λ z. record { bodies = y.bodies; doubled = y.doubled; missing = y.missing; turns = y.turns; touching = y.touching; crowded = y.crowded; pinched = y.pinched; shared = z })
+        shared))))))
 
 one_of_shells : (s : SolidData) (ks : List ℕ) (xs ys : List Hints) → All (λ k. k < length s.shells) ks → AreHintsOf s ks xs → AreHintsOf s ks ys → xs ≡ ys
 one_of_shells s ks xs ys inside a b =

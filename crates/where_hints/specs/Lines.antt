@@ -3,13 +3,19 @@ use Rattle.std.specs.Prelude.{ℕ, ◌+◌, ◌-◌, ◌==◌, nat_lt, List, [],
 use Rattle.std.specs.List.{enumerate_from}
 use Rattle.iges_base.specs.declared.entry_no.EntryNo.{EntryNo}
 use Rattle.iges_params.specs.Contents.{Contents}
+use Rattle.solid_data.specs.SolidData.{SolidData, edge_name, vertex_name}
+use Rattle.solid_data.specs.declared.solid.EdgeKey.{EdgeKey}
 use Rattle.solid_data.specs.declared.solid.FaceUse.{FaceUse}
 use Rattle.solid_data.specs.declared.solid.Shell.{Shell}
+use Rattle.solid_data.specs.declared.solid.VertexKey.{VertexKey}
+use Rattle.edge_uses.specs.declared.row.Row.{Row}
 use Rattle.where_text.specs.declared.listing.Listing.{Listing}
-use Rattle.where_text.specs.Listing.{shown, shown_count, more_items}
-use Rattle.where_text.specs.Places.{face_words}
+use Rattle.where_text.specs.Listing.{shown, shown_count, more_facts, more_items}
+use Rattle.where_text.specs.Places.{face_words, vertex_words}
 use Rattle.where_text.specs.Spelled.{space_word}
 use Rattle.solid_faults.specs.declared.gap.Gap.{Gap}
+use Rattle.shell_classes.specs.Leasts.{classes_of}
+use Rattle.shell_rims.specs.Rims.{Rims, least_of, rim_ends, rim_rows}
 use Rattle.turn_hint.specs.Patches.{patch_faces}
 use Rattle.turn_hint.specs.Turns.{Turn, Turns}
 use Rattle.face_hints.specs.Bodies.{Bodies}
@@ -83,6 +89,59 @@ body_lines listing f h k firsts bodies =
 abbrev pub body_text : Listing → Contents → Shell → ℕ → List ℕ → List ℕ → List ℕ
 body_text listing f h k firsts bodies = if nat_lt 1 (length bodies) then body_lines listing f h k firsts bodies else []
 
+-- a face that is a copy, and the first such face
+abbrev pub double_lines : Contents → Shell → ℕ × ℕ → List ℕ
+double_lines f h p = numbered_line (codes "remove") f h p.0 ++ numbered_line (codes "  same edges face") f h p.1
+
+unfoldable pub doubled_lines : Listing → Contents → Shell → ℕ → List (ℕ × ℕ) → List ℕ
+doubled_lines listing f h k doubles =
+    hint_head hint.DoubledFaces k ++ number_words (codes " faces") (length doubles) ++ hint_end hint.DoubledFaces
+    ++ flat_map (double_lines f h) (shown listing doubles) ++ more_items listing (length doubles)
+
+-- an edge, its list and its index there, and the face on its one side
+unfoldable pub edge_line : Contents → EdgeKey → EntryNo → List ℕ
+edge_line f key face =
+    codes "  edge" ++ space_word (decimal key.«list».0) ++ space_word (decimal key.index) ++ codes " face" ++ face_words f face ++ codes "\n"
+
+abbrev pub edge_line_if : Contents → EdgeKey → Option FaceUse → List ℕ
+edge_line_if f key None = []
+edge_line_if f key (Some face) = edge_line f key face.entity
+
+abbrev pub row_line : Contents → SolidData → Shell → Option Row → List ℕ
+row_line f s h None = []
+row_line f s h (Some row) = edge_line_if f (edge_name (slice_get s.edges row.edge.0)) (slice_get h.faces row.at.face.0)
+
+-- the edge of one of the rows that are alone
+abbrev pub edge_of : Contents → SolidData → Shell → Rims → ℕ → List ℕ
+edge_of f s h x r = row_line f s h (slice_get x.rows r)
+
+unfoldable pub at_line : Contents → VertexKey → List ℕ
+at_line f key = codes "  at" ++ vertex_words f key ++ codes "\n"
+
+abbrev pub at_line_if : Contents → SolidData → Option ℕ → List ℕ
+at_line_if f s None = []
+at_line_if f s (Some v) = at_line f (vertex_name (slice_get s.vertices v))
+
+-- the edges of a rim, as many as are listed
+abbrev pub edges_text : Listing → Contents → SolidData → Shell → Rims → List ℕ → List ℕ
+edges_text listing f s h x rows = flat_map (edge_of f s h x) (shown listing rows) ++ more_facts listing (length rows)
+
+-- a rim: its number, from 1, how many edges it has, its least vertex, and its edges
+unfoldable pub rim_head : ℕ → ℕ → List ℕ
+rim_head i edges = number_words (codes "rim") i ++ number_words (codes " edges") edges ++ codes "\n"
+
+abbrev pub rim_lines : Listing → Contents → SolidData → Shell → Rims → ℕ × ℕ → List ℕ
+rim_lines listing f s h x (i, rim) =
+    rim_head (i + 1) (length (rim_rows x.firsts rim)) ++ at_line_if f s (least_of (rim_ends x.rows x.firsts rim))
+    ++ edges_text listing f s h x (rim_rows x.firsts rim)
+
+-- the rims where faces are missing
+unfoldable pub missing_lines : Listing → Contents → SolidData → Shell → ℕ → Rims → List ℕ
+missing_lines listing f s h k x =
+    hint_head hint.MissingFaces k ++ number_words (codes " edges") (length x.rows) ++ number_words (codes " rims") (length (classes_of x.firsts))
+    ++ hint_end hint.MissingFaces ++ flat_map (rim_lines listing f s h x) (enumerate_from 0 (shown listing (classes_of x.firsts)))
+    ++ more_items listing (length (classes_of x.firsts))
+
 -- the faces to turn in a patch
 unfoldable pub turn_lines : Listing → Contents → Shell → ℕ → List ℕ → Turn → List ℕ
 turn_lines listing f h k firsts t =
@@ -103,20 +162,35 @@ turns_text listing f h k (g ∷ gaps) x = []
 turns_text listing f h k [] None = []
 turns_text listing f h k [] (Some x) = all_turns listing f h k x
 
--- Faces left over, and bodies: where there are either, no other hint is written but that on touching shells. Else each kind of edge and of vertex is told by
--- itself.
+-- Each kind of edge and of vertex by itself.
 abbrev pub each_text : Listing → Contents → Shell → ℕ → List Gap → Hints → List ℕ
 each_text listing f h k gaps x =
     turns_text listing f h k gaps x.turns ++ counted_text hint.Touching (codes " edges") k x.touching
     ++ counted_text hint.Crowded (codes " edges") k x.crowded ++ counted_text hint.Pinch (codes " vertices") k x.pinched
 
-abbrev pub first_text : Listing → Contents → Shell → ℕ → List Gap → Hints → Option Bodies → List ℕ
-first_text listing f h k gaps x None = each_text listing f h k gaps x
-first_text listing f h k gaps x (Some b) = stray_text listing f h k b.strays ++ body_text listing f h k b.firsts b.bodies
+-- faces left over, and bodies
+abbrev pub pieces_text : Listing → Contents → Shell → ℕ → Bodies → List ℕ
+pieces_text listing f h k b = stray_text listing f h k b.strays ++ body_text listing f h k b.firsts b.bodies
 
--- the hints on shell k, from 0, whose loops have these gaps
-unfoldable pub hints_text : Listing → Contents → Shell → ℕ → List Gap → Hints → List ℕ
-hints_text listing f h k gaps x = first_text listing f h k gaps x x.bodies ++ counted_text hint.TouchingShells (codes " vertices") k x.shared
+-- what is said of the data, where there are any, else the rest
+abbrev pub or_else : {A B : Type 0} → (A → List B) → Option A → List B → List B
+or_else said None rest = rest
+or_else said (Some x) rest = said x
+
+-- Faces left over and bodies, copies of faces, faces that are missing: the first that there is is told alone. Where there is none, each kind of edge and of
+-- vertex is told by itself.
+abbrev pub missing_text : Listing → Contents → SolidData → Shell → ℕ → List Gap → Hints → List ℕ
+missing_text listing f s h k gaps x = or_else (missing_lines listing f s h k) x.missing (each_text listing f h k gaps x)
+
+abbrev pub doubled_text : Listing → Contents → SolidData → Shell → ℕ → List Gap → Hints → List ℕ
+doubled_text listing f s h k gaps x = or_else (doubled_lines listing f h k) x.doubled (missing_text listing f s h k gaps x)
+
+abbrev pub first_text : Listing → Contents → SolidData → Shell → ℕ → List Gap → Hints → List ℕ
+first_text listing f s h k gaps x = or_else (pieces_text listing f h k) x.bodies (doubled_text listing f s h k gaps x)
+
+-- The hints on shell k, from 0, whose loops have these gaps. That on shells that touch is always written.
+unfoldable pub hints_text : Listing → Contents → SolidData → Shell → ℕ → List Gap → Hints → List ℕ
+hints_text listing f s h k gaps x = first_text listing f s h k gaps x ++ counted_text hint.TouchingShells (codes " vertices") k x.shared
 
 -- The faces that these lines name.
 abbrev pub named_if : Option FaceUse → List EntryNo
@@ -137,9 +211,33 @@ turns_named listing h (g ∷ gaps) x = []
 turns_named listing h [] None = []
 turns_named listing h [] (Some x) = flat_map (turn_named listing h) (shown listing x.turns)
 
-abbrev pub first_named : Listing → Shell → List Gap → Hints → Option Bodies → List EntryNo
-first_named listing h gaps x None = turns_named listing h gaps x.turns
-first_named listing h gaps x (Some b) = flat_map (face_named h) (shown listing b.strays) ++ bodies_named listing h b.bodies
+abbrev pub pieces_named : Listing → Shell → Bodies → List EntryNo
+pieces_named listing h b = flat_map (face_named h) (shown listing b.strays) ++ bodies_named listing h b.bodies
+
+abbrev pub double_named : Shell → ℕ × ℕ → List EntryNo
+double_named h p = face_named h p.0 ++ face_named h p.1
+
+abbrev pub doubled_named : Listing → Shell → List (ℕ × ℕ) → List EntryNo
+doubled_named listing h doubles = flat_map (double_named h) (shown listing doubles)
+
+abbrev pub row_named : Shell → Option Row → List EntryNo
+row_named h None = []
+row_named h (Some row) = face_named h row.at.face.0
+
+abbrev pub edge_named : Shell → Rims → ℕ → List EntryNo
+edge_named h x r = row_named h (slice_get x.rows r)
+
+abbrev pub rim_named : Listing → Shell → Rims → ℕ → List EntryNo
+rim_named listing h x rim = flat_map (edge_named h x) (shown listing (rim_rows x.firsts rim))
+
+abbrev pub missing_named : Listing → Shell → Rims → List EntryNo
+missing_named listing h x = flat_map (rim_named listing h x) (shown listing (classes_of x.firsts))
+
+abbrev pub missing_faces : Listing → Shell → List Gap → Hints → List EntryNo
+missing_faces listing h gaps x = or_else (missing_named listing h) x.missing (turns_named listing h gaps x.turns)
+
+abbrev pub doubled_faces : Listing → Shell → List Gap → Hints → List EntryNo
+doubled_faces listing h gaps x = or_else (doubled_named listing h) x.doubled (missing_faces listing h gaps x)
 
 unfoldable pub hints_named : Listing → Shell → List Gap → Hints → List EntryNo
-hints_named listing h gaps x = first_named listing h gaps x x.bodies
+hints_named listing h gaps x = or_else (pieces_named listing h) x.bodies (doubled_faces listing h gaps x)

@@ -6,10 +6,12 @@ ghost use Rattle.edge_uses.specs.ShellRows.{rows_of};
 ghost use Rattle.solid_faults.specs.Faults.{AreFaults};
 ghost use Rattle.where_hints.specs.Facts.{AreHints};
 
+use doubled_faces::{Doubles, doubled_faces};
 use edge_uses::Rows;
 use face_hints::{Bodies, bodies_of};
 use iges_base::NoMemory;
 use shell_hints::{crowded, pinch, touching, touching_shells};
+use shell_rims::Rims;
 use solid_data::{ShellAt, Solid};
 use solid_faults::ShellFaults;
 use std::alloc::Global;
@@ -20,6 +22,8 @@ use turn_hint::{Turns, turns_of};
 #[derive(Drop)]
 pub struct Hints {
     pub(crate) bodies: Option<Bodies>,
+    pub(crate) doubled: Option<Doubles>,
+    pub(crate) missing: Option<Rims>,
     pub(crate) turns: Option<Turns>,
     pub(crate) touching: Option<usize>,
     pub(crate) crowded: Option<usize>,
@@ -32,30 +36,36 @@ impl Model for Hints {
 
     ghost Value = { Found };
 
-    ghost view = { λ x. record { bodies = x.bodies; turns = x.turns; touching = x.touching; crowded = x.crowded; pinched = x.pinched; shared = x.shared } };
+    ghost view = { λ x. record { bodies = x.bodies; doubled = x.doubled; missing = x.missing; turns = x.turns; touching = x.touching; crowded = x.crowded; pinched = x.pinched; shared = x.shared } };
 }
 
-/// What the hints on a shell are, whose rows and faults are given. It takes time in proportion to the shell.
+/// What the hints on a shell are, whose rows and faults are given, and its rims if only faces are missing in it. It takes
+/// time in proportion to the shell.
 pub fn hints_of(
     alloc: Global,
     solid: &Solid,
     shell: ShellAt,
     rows: &Rows,
     faults: &ShellFaults,
+    missing: Option<Rims>,
 ) -> Result<Hints, NoMemory>
     requires shell { shell.0 < length solid.now.shells }
     requires rows { rows.now ≡ rows_of solid.now (slice_get solid.now.shells shell.0) }
     requires faults { (h : AnyShell) → slice_get solid.now.shells shell.0 ≡ Some h
         → AreFaults solid.now shell.0 h faults.now }
-    ensures { IfOk result (λ x. (h : AnyShell) → slice_get solid.now.shells shell.0 ≡ Some h
+    ensures missing { IfOk result (λ x. x.missing ≡ missing) }
+    ensures hints { IfOk result (λ x. (h : AnyShell) → slice_get solid.now.shells shell.0 ≡ Some h
         → AreHints solid.now shell.0 h x) }
 {
     solid.recall_numbering();
     let unpaired = faults.unpaired();
     let bodies = bodies_of(alloc, solid, shell, rows)?;
+    let doubled = doubled_faces(alloc, solid, shell)?;
     let turns = turns_of(alloc, rows)?;
     Ok(Hints {
         bodies,
+        doubled,
+        missing,
         turns,
         touching: touching(unpaired),
         crowded: crowded(unpaired),

@@ -3,7 +3,9 @@
 
 mod bodies;
 mod counts;
+mod doubled;
 mod facts;
+mod missing;
 mod naming;
 mod sentences;
 mod turning;

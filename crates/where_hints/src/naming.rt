@@ -6,13 +6,14 @@ ghost use Rattle.where_hints.specs.Lines.{face_line, face_named, faces_text, num
 
 use iges_base::{EntryNo, NoMemory, Out};
 use iges_params::File;
-use solid_data::{Shell, ShellAt};
+use solid_data::{Shell, ShellAt, Solid};
 use where_text::{EntryNumbers, Listing, put_face, put_more_items, shown_members};
 
-/// The shell that hints are written on: its file, the shell, its number, and how much of lists is written.
+/// The shell that hints are written on: its file, its solid, the shell, its number, and how much of lists is written.
 #[derive(Clone, Copy)]
 pub(crate) struct Subject<'a> {
     pub(crate) file: &'a File,
+    pub(crate) solid: &'a Solid,
     pub(crate) shell: &'a Shell,
     pub(crate) at: ShellAt,
     pub(crate) listing: Listing,
@@ -34,7 +35,8 @@ fn put_line(
     out.put(b"\n")
 }
 
-fn put_numbered(
+/// A line with the word and the face that has this number in the shell.
+pub(crate) fn put_numbered(
     out: &mut Out,
     named: &mut EntryNumbers,
     on: &Subject<'_>,

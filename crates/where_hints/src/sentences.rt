@@ -10,6 +10,8 @@ use iges_base::{NoMemory, Out};
 pub enum Hint {
     StrayFaces,
     Bodies,
+    DoubledFaces,
+    MissingFaces,
     Turned,
     Touching,
     Crowded,
@@ -23,6 +25,8 @@ pub(crate) fn hint_word(hint: Hint) -> &'static str
     match hint {
         Hint::StrayFaces => "stray-faces",
         Hint::Bodies => "bodies",
+        Hint::DoubledFaces => "doubled-faces",
+        Hint::MissingFaces => "missing-faces",
         Hint::Turned => "turned",
         Hint::Touching => "touching",
         Hint::Crowded => "crowded",
@@ -41,6 +45,12 @@ fn hint_sentence(hint: Hint) -> &'static str
         }
         Hint::Bodies => {
             "  Cut at the edges that aren't paired, the shell falls into pieces, and each\n  of these is closed by itself. Write each as a solid of its own, with edges\n  and vertices of its own; if one lies inside of another, write it as a void\n  of that solid.\n"
+        }
+        Hint::DoubledFaces => {
+            "  Each of these faces uses the very same edges as an earlier face of the\n  shell: it's there twice. Without the later ones the shell is closed. Delete\n  them.\n"
+        }
+        Hint::MissingFaces => {
+            "  Only faces are missing: taken as an open shell this one is sound, as\n  igesolid open certifies. Each rim is a ring of edges with a face on one side\n  only. Fill it with a face; two rims may also be the ends of one missing\n  wall.\n"
         }
         Hint::Turned => {
             "  These faces are inside out against the others that edges join them to: with\n  their flags changed (their normals reversed) each edge there that is used\n  twice is used once each way. This is the smaller of the two sides; igesolid\n  reorient FILE N writes the file with these flags.\n"

@@ -1,17 +1,20 @@
 //! The hints on a shell.
 
 ghost use Rattle.std.specs.Prelude.{◌≡◌, ◌++◌, OnOk};
-ghost use Rattle.where_hints.specs.Lines.{each_text, first_named, first_text, hints_named, hints_text, turns_named};
+ghost use Rattle.where_hints.specs.Lines.{doubled_faces, doubled_text, each_text, first_text, hints_named, hints_text, missing_faces, missing_text, or_else, pieces_named, pieces_text, turns_named};
 
 use crate::bodies::{put_bodies, put_strays};
 use crate::counts::put_counted_if;
+use crate::doubled::put_doubled;
 use crate::facts::Hints;
+use crate::missing::put_missing;
 use crate::naming::Subject;
 use crate::sentences::Hint;
 use crate::turning::put_turns;
+use face_hints::Bodies;
 use iges_base::{NoMemory, Out};
 use iges_params::File;
-use solid_data::{Shell, ShellAt};
+use solid_data::{Shell, ShellAt, Solid};
 use solid_faults::Gap;
 use where_text::{EntryNumbers, Listing};
 
@@ -34,6 +37,59 @@ fn put_each(
     put_counted_if(out, Hint::Pinch, " vertices", on.at, hints.pinched)
 }
 
+// Faces that are missing, else each kind of edge and of vertex.
+fn put_missing_or(
+    out: &mut Out,
+    named: &mut EntryNumbers,
+    on: &Subject<'_>,
+    gaps: &[Gap],
+    hints: &Hints,
+) -> Result<(), NoMemory>
+    ensures text { OnOk result (out.new ≡ out.old
+        ++ missing_text on.now.listing on.now.file.now on.now.solid.now on.now.shell.now on.now.at.0 gaps.now hints.now) }
+    ensures named { OnOk result (named.new
+        ≡ named.old ++ missing_faces on.now.listing on.now.shell.now gaps.now hints.now) }
+{
+    match &hints.missing {
+        None => put_each(out, named, on, gaps, hints),
+        Some(found) => put_missing(out, named, on, found),
+    }
+}
+
+// Copies of faces, else what comes after.
+fn put_doubled_or(
+    out: &mut Out,
+    named: &mut EntryNumbers,
+    on: &Subject<'_>,
+    gaps: &[Gap],
+    hints: &Hints,
+) -> Result<(), NoMemory>
+    ensures text { OnOk result (out.new ≡ out.old
+        ++ doubled_text on.now.listing on.now.file.now on.now.solid.now on.now.shell.now on.now.at.0 gaps.now hints.now) }
+    ensures named { OnOk result (named.new
+        ≡ named.old ++ doubled_faces on.now.listing on.now.shell.now gaps.now hints.now) }
+{
+    match &hints.doubled {
+        None => put_missing_or(out, named, on, gaps, hints),
+        Some(found) => put_doubled(out, named, on, found.pairs()),
+    }
+}
+
+fn put_pieces(
+    out: &mut Out,
+    named: &mut EntryNumbers,
+    on: &Subject<'_>,
+    found: &Bodies,
+) -> Result<(), NoMemory>
+    ensures text { OnOk result (out.new ≡ out.old
+        ++ pieces_text on.now.listing on.now.file.now on.now.shell.now on.now.at.0 found.now) }
+    ensures named { OnOk result (named.new
+        ≡ named.old ++ pieces_named on.now.listing on.now.shell.now found.now) }
+{
+    put_strays(out, named, on, found.strays())?;
+    put_bodies(out, named, on, found)
+}
+
 // The hints up to that on touching shells.
 fn put_first(
     out: &mut Out,
@@ -43,23 +99,21 @@ fn put_first(
     hints: &Hints,
 ) -> Result<(), NoMemory>
     ensures text { OnOk result (out.new ≡ out.old
-        ++ first_text on.now.listing on.now.file.now on.now.shell.now on.now.at.0 gaps.now hints.now hints.now.bodies) }
-    ensures named { OnOk result (named.new
-        ≡ named.old ++ first_named on.now.listing on.now.shell.now gaps.now hints.now hints.now.bodies) }
+        ++ first_text on.now.listing on.now.file.now on.now.solid.now on.now.shell.now on.now.at.0 gaps.now hints.now) }
+    ensures named { OnOk result (named.new ≡ named.old
+        ++ or_else (pieces_named on.now.listing on.now.shell.now) hints.now.bodies (doubled_faces on.now.listing on.now.shell.now gaps.now hints.now)) }
 {
     match &hints.bodies {
-        None => put_each(out, named, on, gaps, hints),
-        Some(found) => {
-            put_strays(out, named, on, found.strays())?;
-            put_bodies(out, named, on, found)
-        }
+        None => put_doubled_or(out, named, on, gaps, hints),
+        Some(found) => put_pieces(out, named, on, found),
     }
 }
 
-/// A shell that hints are written on: its file, its number, and how much of lists is written.
+/// A shell that hints are written on: its file, its solid, its number, and how much of lists is written.
 #[derive(Clone, Copy)]
 pub struct HintView<'a> {
     pub file: &'a File,
+    pub solid: &'a Solid,
     pub shell: &'a Shell,
     pub at: ShellAt,
     pub listing: Listing,
@@ -75,12 +129,13 @@ pub fn put_hints(
     hints: &Hints,
 ) -> Result<(), NoMemory>
     ensures text { OnOk result (out.new ≡ out.old
-        ++ hints_text view.now.listing view.now.file.now view.now.shell.now view.now.at.0 gaps.now hints.now) }
+        ++ hints_text view.now.listing view.now.file.now view.now.solid.now view.now.shell.now view.now.at.0 gaps.now hints.now) }
     ensures named { OnOk result (named.new
         ≡ named.old ++ hints_named view.now.listing view.now.shell.now gaps.now hints.now) }
 {
     let on = Subject {
         file: view.file,
+        solid: view.solid,
         shell: view.shell,
         at: view.at,
         listing: view.listing,
