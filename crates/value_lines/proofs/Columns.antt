@@ -2,7 +2,7 @@
 use Rattle.std.specs.Prelude.{◌≡◌, ◌<◌, ◌≤◌, ◌-◌, ℕ, zero, suc, List, ◌++◌, take}
 use Rattle.std.proofs.Common.{arith, ap, ◌∙◌, append_assoc, subst, sym}
 use Rattle.std.proofs.lemmas.List.{append-nil}
-use Rattle.where_file.specs.FileLine.{from_line, line_of}
+use Rattle.where_places.specs.FileLine.{from_line, line_of}
 use Rattle.value_lines.specs.RecordText.{text_columns}
 
 pub columns_more : (n : ℕ) (old new rest after all : List ℕ) → 0 < n → new ≡ old ++ take 64 (line_of rest) → after ≡ from_line 1 rest

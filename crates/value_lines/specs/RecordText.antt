@@ -1,6 +1,6 @@
 -- The text of a record in the lines of a file.
 use Rattle.std.specs.Prelude.{ℕ, zero, suc, ◌-◌, List, [], ◌++◌, take}
-use Rattle.where_file.specs.FileLine.{from_line, line_of}
+use Rattle.where_places.specs.FileLine.{from_line, line_of}
 
 -- columns 1 to 64 of so many lines, of which the first is at the front
 unfoldable pub text_columns : ℕ → List ℕ → List ℕ

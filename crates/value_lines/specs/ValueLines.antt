@@ -3,7 +3,7 @@ use Rattle.std.specs.Prelude.{ℕ, ◌+◌, ◌-◌, ◌/◌, ◌%◌, min, max,
 use Rattle.iges_fields.specs.declared.value.Value.{Value}
 use Rattle.iges_directory.specs.declared.entry.Entry.{Entry}
 use Rattle.iges_params.specs.Named.{named}
-use Rattle.where_file.specs.FileLine.{from_line, line_of}
+use Rattle.where_places.specs.FileLine.{from_line, line_of}
 use Rattle.where_places.specs.declared.places.RecordLines.{RecordLines}
 use Rattle.where_places.specs.declared.placed_file.PlacedFile.{PlacedFile}
 use Rattle.where_text.specs.Spelled.{masked, space_word}

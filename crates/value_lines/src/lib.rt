@@ -4,4 +4,4 @@
 mod lines;
 mod record_text;
 
-pub use lines::put_value_lines;
+pub use lines::{put_mark, put_text, put_value_lines};

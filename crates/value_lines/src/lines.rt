@@ -8,8 +8,7 @@ use iges_base::{EntryNo, NoMemory, Out};
 use iges_fields::Values;
 use std::alloc::Global;
 use value_places::{Span, value_span};
-use where_file::{from_line, line_of};
-use where_places::{PlacedFile, RecordLines};
+use where_places::{PlacedFile, RecordLines, from_line, line_of};
 use where_text::{put_masked, put_number};
 
 /// The columns of a line that hold the text of a record (IGES 5.3, 2.2.4.5).
@@ -26,8 +25,9 @@ fn put_line(out: &mut Out, line: u64, column: u64) -> Result<(), NoMemory>
     out.put(b"\n")
 }
 
+/// Appends the fact that shows a line, with bytes that can't be shown masked.
 #[tactic(auto, unfolding(crate::specs::ValueLines::text_fact))]
-fn put_text(out: &mut Out, line: &[u8]) -> Result<(), NoMemory>
+pub fn put_text(out: &mut Out, line: &[u8]) -> Result<(), NoMemory>
     ensures { OnOk result (out.new ≡ out.old ++ text_fact line.now) }
 {
     out.put(b"  text ")?;
@@ -46,8 +46,9 @@ fn put_times(out: &mut Out, byte: u8, count: usize) -> Result<(), NoMemory>
     Ok(())
 }
 
+/// Appends the fact that marks so many columns of the line above, behind so many others.
 #[tactic(auto, unfolding(crate::specs::ValueLines::mark_fact))]
-fn put_mark(out: &mut Out, before: usize, width: usize) -> Result<(), NoMemory>
+pub fn put_mark(out: &mut Out, before: usize, width: usize) -> Result<(), NoMemory>
     ensures { OnOk result (out.new ≡ out.old ++ mark_fact before width) }
 {
     out.put(b"  mark ")?;

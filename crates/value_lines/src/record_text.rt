@@ -5,7 +5,7 @@ ghost use Rattle.value_lines.specs.RecordText.{record_text, text_columns};
 
 use iges_base::{Bytes, NoMemory, Out};
 use std::alloc::Global;
-use where_file::{from_line, line_of};
+use where_places::{from_line, line_of};
 
 // The first of these bytes.
 fn first_bytes(bytes: &[u8], count: usize) -> &[u8]

@@ -5,7 +5,7 @@ use Rattle.iges_lines.specs.declared.reason.Reason.{Reason}
 use Rattle.iges_lines.specs.declared.reason.Reason.TheVariants as reason
 use Rattle.where_file.specs.declared.look.FileKind.{FileKind}
 use Rattle.where_file.specs.declared.look.LineKind.{LineKind}
-use Rattle.where_file.specs.FileLine.{from_line, has_lf, line_of}
+use Rattle.where_places.specs.FileLine.{from_line, has_lf, line_of}
 use Rattle.where_file.specs.LineFacts.{field_of, line_facts, line_head}
 use Rattle.where_file.specs.Looks.{file_kind_text, is_of_whole, kind_of_file, kind_of_line, line_kind_text}
 

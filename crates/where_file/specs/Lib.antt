@@ -1,4 +1,3 @@
-pub mod FileLine
 pub mod LineFacts
 pub mod Looks
 pub mod BadFile

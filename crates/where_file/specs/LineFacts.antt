@@ -1,11 +1,12 @@
 -- The facts of a line of the file that fails.
-use Rattle.std.specs.Prelude.{ℕ, ◌+◌, ◌-◌, ◌/◌, ◌%◌, Bool, true, false, List, [], ◌∷◌, ◌++◌, length, take, drop, flat_map, replicate, nat_lt, Option, Some, None, if◌then◌else◌}
+use Rattle.std.specs.Prelude.{ℕ, ◌+◌, ◌-◌, ◌/◌, ◌%◌, Bool, true, false, List, [], ◌∷◌, ◌++◌, length, take, drop, flat_map, nat_lt, Option, Some, None, if◌then◌else◌}
 use Rattle.std.specs.Prelude.{codes, decimal}
 use Rattle.iges_lines.specs.declared.reason.Reason.{Reason}
 use Rattle.iges_lines.specs.declared.reason.Reason.TheVariants as reason
-use Rattle.where_text.specs.Spelled.{masked, space_word}
+use Rattle.where_text.specs.Spelled.{space_word}
 use Rattle.where_file.specs.declared.fields.Field.{Field}
-use Rattle.where_file.specs.FileLine.{has_cr, has_lf, line_of}
+use Rattle.where_places.specs.FileLine.{has_cr, has_lf, line_of}
+use Rattle.value_lines.specs.ValueLines.{mark_fact, text_fact}
 
 -- how a line ends: with LF or CR LF, or, at the end of the file, with a CR alone or without anything
 abbrev pub end_word : Bool → Bool → List ℕ
@@ -52,20 +53,17 @@ start_of (Some f) = f.column - 1
 unfoldable pub hex_fact : List ℕ → List ℕ
 hex_fact bytes = codes "  hex" ++ hex_words (take 16 bytes) ++ codes "\n"
 
-unfoldable pub text_fact : List ℕ → List ℕ
-text_fact line = codes "  text" ++ space_word (masked (take 80 line)) ++ codes "\n"
-
 abbrev pub column_fact : Option Field → List ℕ
 column_fact None = []
 column_fact (Some f) = codes "  column" ++ space_word (decimal f.column) ++ codes "\n"
 
 -- below the columns of the field
-abbrev pub mark_fact : Option Field → List ℕ
-mark_fact None = []
-mark_fact (Some f) = codes "  mark " ++ replicate (f.column - 1) 32 ++ replicate f.width 94 ++ codes "\n"
+abbrev pub field_mark : Option Field → List ℕ
+field_mark None = []
+field_mark (Some f) = mark_fact (f.column - 1) f.width
 
 -- of a line that isn't empty: bytes from the field on, its column, the first 80 bytes, and a mark below the field
 unfoldable pub line_facts : Option Field → List ℕ → List ℕ
 line_facts field [] = []
 line_facts field (b ∷ line) =
-    hex_fact (drop (start_of field) (b ∷ line)) ++ column_fact field ++ text_fact (b ∷ line) ++ mark_fact field
+    hex_fact (drop (start_of field) (b ∷ line)) ++ column_fact field ++ text_fact (take 80 (b ∷ line)) ++ field_mark field

@@ -6,13 +6,13 @@ ghost use Rattle.where_file.specs.Looks.{is_of_whole};
 
 use crate::facts::{put_line_facts, put_line_head};
 use crate::fields::field_of;
-use crate::file_line::{from_line, has_lf, line_of};
 use crate::line_kinds::kind_of_line;
 use crate::look::{FileKind, LineKind};
 use crate::texts::{put_file_kind, put_line_kind};
 use crate::whole::kind_of_file;
 use iges_fields::{NoMemory, Out};
 use iges_lines::{LineFault, Reason};
+use where_places::{from_line, has_lf, line_of};
 
 #[tactic(auto, unfolding(crate::specs::BadFile::line_text))]
 fn put_line(out: &mut Out, fault: LineFault, rest: &[u8]) -> Result<(), NoMemory>

@@ -1,12 +1,13 @@
 //! The facts of a line of the file that fails.
 
-ghost use Rattle.std.specs.Prelude.{◌≡◌, ◌<◌, ◌++◌, ◌∷◌, OnOk, drop, replicate, take};
-ghost use Rattle.where_file.specs.LineFacts.{column_fact, end_word, hex_byte, hex_digit, hex_fact, hex_words, line_facts, line_head, mark_fact, start_of, text_fact};
+ghost use Rattle.std.specs.Prelude.{◌≡◌, ◌<◌, ◌++◌, ◌∷◌, OnOk, drop, take};
+ghost use Rattle.where_file.specs.LineFacts.{column_fact, end_word, hex_byte, hex_digit, hex_fact, hex_words, field_mark, line_facts, line_head, start_of};
 
 use crate::fields::Field;
-use crate::file_line::{has_cr, has_lf, line_of};
 use iges_fields::{NoMemory, Out};
-use where_text::{put_masked, put_number, put_word};
+use value_lines::{put_mark, put_text};
+use where_places::{has_cr, has_lf, line_of};
+use where_text::{put_number, put_word};
 
 fn end_word(lf: bool, cr: bool) -> &'static str
     ensures { result.now ≡ end_word lf cr }
@@ -74,15 +75,6 @@ fn put_hex(out: &mut Out, bytes: &[u8]) -> Result<(), NoMemory>
     out.put(b"\n")
 }
 
-#[tactic(auto, unfolding(crate::specs::LineFacts::text_fact))]
-fn put_text(out: &mut Out, line: &[u8]) -> Result<(), NoMemory>
-    ensures { OnOk result (out.new ≡ out.old ++ text_fact line.now) }
-{
-    out.put(b"  text ")?;
-    put_masked(out, first_bytes(line, 80))?;
-    out.put(b"\n")
-}
-
 fn put_column(out: &mut Out, field: Option<Field>) -> Result<(), NoMemory>
     ensures { OnOk result (out.new ≡ out.old ++ column_fact field) }
 {
@@ -94,27 +86,13 @@ fn put_column(out: &mut Out, field: Option<Field>) -> Result<(), NoMemory>
     out.put(b"\n")
 }
 
-fn put_times(out: &mut Out, byte: u8, count: usize) -> Result<(), NoMemory>
-    ensures { OnOk result (out.new ≡ out.old ++ replicate count byte) }
+fn put_field_mark(out: &mut Out, field: Option<Field>) -> Result<(), NoMemory>
+    ensures { OnOk result (out.new ≡ out.old ++ field_mark field) }
 {
-    let mut left = count;
-    'times: while left > 0 {
-        out.put(&[byte])?;
-        left -= 1;
+    match field {
+        Some(field) => put_mark(out, field.column.saturating_sub(1), field.width),
+        None => Ok(()),
     }
-    Ok(())
-}
-
-fn put_mark(out: &mut Out, field: Option<Field>) -> Result<(), NoMemory>
-    ensures { OnOk result (out.new ≡ out.old ++ mark_fact field) }
-{
-    let Some(field) = field else {
-        return Ok(());
-    };
-    out.put(b"  mark ")?;
-    put_times(out, b' ', field.column.saturating_sub(1))?;
-    put_times(out, b'^', field.width)?;
-    out.put(b"\n")
 }
 
 fn start_of(field: Option<Field>) -> usize
@@ -144,6 +122,6 @@ pub fn put_line_facts(out: &mut Out, line: &[u8], field: Option<Field>) -> Resul
     }
     put_hex(out, behind(line, start_of(field)))?;
     put_column(out, field)?;
-    put_text(out, line)?;
-    put_mark(out, field)
+    put_text(out, first_bytes(line, 80))?;
+    put_field_mark(out, field)
 }

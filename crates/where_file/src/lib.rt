@@ -4,7 +4,6 @@
 mod bad_file;
 mod facts;
 mod fields;
-mod file_line;
 mod line_kinds;
 mod look;
 mod texts;
@@ -12,5 +11,4 @@ mod whole;
 
 pub use bad_file::put_bad_file;
 pub use fields::Field;
-pub use file_line::{from_line, line_of};
 pub use look::{FileKind, LineKind};

@@ -1,3 +1,4 @@
+pub mod Counting
 pub mod FieldNumbers
 pub mod Pairs
 pub mod Put

@@ -1,3 +1,4 @@
+pub mod FileLine
 pub mod Places
 pub mod PlaceLines
 pub mod PlacedFiles

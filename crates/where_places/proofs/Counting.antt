@@ -2,7 +2,7 @@
 use Rattle.std.specs.Prelude.{◌≡◌, ◌<◌, ◌≤◌, ◌-◌, ℕ, zero, suc, List}
 use Rattle.std.proofs.Common.{arith, ap, ◌∙◌, subst}
 use Rattle.std.specs.Io.BufRead.{drop_through}
-use Rattle.where_file.specs.FileLine.{from_line}
+use Rattle.where_places.specs.FileLine.{from_line}
 
 pub line_more : (n : ℕ) (rest after all : List ℕ) → 0 < n → after ≡ drop_through 10 rest → from_line n rest ≡ all → from_line (n - 1) after ≡ all
 unfolding from_line

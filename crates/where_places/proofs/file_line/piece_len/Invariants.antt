@@ -1,6 +1,6 @@
 use Rattle.std.proofs.Common.{length, ◌+◌, ◌-◌, ◌≡◌, ◌≤◌, ◌==◌, drop, not}
 use Rattle.std.specs.List.{prefix_len}
-use Rattle.where_file.proofs.file_line.piece_len.Given as goal
+use Rattle.where_places.proofs.file_line.piece_len.Given as goal
 
 abbrev pub invariant-bytes : goal.invariant-bytes
 invariant-bytes l = record {

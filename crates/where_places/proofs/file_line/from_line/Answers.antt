@@ -1,6 +1,6 @@
-use Rattle.where_file.specs.FileLine.{from_line}
-use Rattle.where_file.proofs.Counting.{line_more, line_last}
-use Rattle.where_file.proofs.file_line.from_line.Goals as goal
+use Rattle.where_places.specs.FileLine.{from_line}
+use Rattle.where_places.proofs.Counting.{line_more, line_last}
+use Rattle.where_places.proofs.file_line.from_line.Goals as goal
 
 -- src/file_line.rt:47:5
 pub lines-preserved : goal.lines-preserved

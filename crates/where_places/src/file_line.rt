@@ -4,7 +4,7 @@ ghost use Rattle.std.specs.List.{prefix_len};
 ghost use Rattle.std.specs.Io.BufRead.{drop_through};
 ghost use Rattle.std.specs.Prelude.{◌≡◌, ◌≤◌, ◌==◌, length, not};
 ghost use Rattle.std.specs.Str.Lines.{strip_carriage_return};
-ghost use Rattle.where_file.specs.FileLine.{from_line, has_cr, has_lf, line_of, piece_of};
+ghost use Rattle.where_places.specs.FileLine.{from_line, has_cr, has_lf, line_of, piece_of};
 
 fn piece_len(bytes: &[u8]) -> usize
     ensures is { result ≡ prefix_len (λ b. not (b == 10)) bytes.now }
