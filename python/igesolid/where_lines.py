@@ -89,6 +89,9 @@ vertex <V> fans <fans> points <points>
   more <more>
 item <entity> <place>
   value <value> found <found>
+  line <line> column <column>
+  text <text>
+  mark <mark>
   due <due>
   why <why>
   entry <entry> <type> form <form>
@@ -105,6 +108,7 @@ solid <solid> closed
 solid <solid> fail <rule> <entity> <place>
 entity <entity> <type>
 entity <entity> <type> surface <surface> <surface_type>
+  lines directory <directory> record <first> <last>
   level <level>
   colour <colour> <red> <green> <blue> <name>
   colour <colour> <red> <green> <blue>
