@@ -24,7 +24,9 @@ use Rattle.shell_rims.specs.Rims.{AreRims, Rims, ShareEnd}
 use Rattle.open_hint.specs.Missing.{AreMissing, all_faces}
 
 pub number_step : (i : ℕ) (old new : List ℕ) → old ≡ numbers_from 0 i → new ≡ old ++ i ∷ [] → new ≡ numbers_from 0 (i + 1)
-number_step i old new is e = e ∙ (ap (λ ns. ns ++ i ∷ []) is ∙ sym (numbers_more 0 i))
+number_step i old new is e =
+    let z : i ≡ 0 + i = omega arith in
+    e ∙ (ap (λ ns. ns ++ i ∷ []) is ∙ (ap (λ n. numbers_from 0 i ++ n ∷ []) z ∙ sym (numbers_more 0 i)))
 
 pub some_faces : (s : SolidData) (k : ℕ) (h : Shell) → IsNumberedSolid s → slice_get s.shells k ≡ Some h → 0 < length (all_faces h)
 some_faces s k h n at =

@@ -179,14 +179,14 @@ or_else said (Some x) rest = said x
 
 -- Faces left over and bodies, copies of faces, faces that are missing: the first that there is is told alone. Where there is none, each kind of edge and of
 -- vertex is told by itself.
-abbrev pub missing_text : Listing → Contents → SolidData → Shell → ℕ → List Gap → Hints → List ℕ
-missing_text listing f s h k gaps x = or_else (missing_lines listing f s h k) x.missing (each_text listing f h k gaps x)
+abbrev pub after_doubled_text : Listing → Contents → SolidData → Shell → ℕ → List Gap → Hints → List ℕ
+after_doubled_text listing f s h k gaps x = or_else (missing_lines listing f s h k) x.missing (each_text listing f h k gaps x)
 
-abbrev pub doubled_text : Listing → Contents → SolidData → Shell → ℕ → List Gap → Hints → List ℕ
-doubled_text listing f s h k gaps x = or_else (doubled_lines listing f h k) x.doubled (missing_text listing f s h k gaps x)
+abbrev pub after_pieces_text : Listing → Contents → SolidData → Shell → ℕ → List Gap → Hints → List ℕ
+after_pieces_text listing f s h k gaps x = or_else (doubled_lines listing f h k) x.doubled (after_doubled_text listing f s h k gaps x)
 
 abbrev pub first_text : Listing → Contents → SolidData → Shell → ℕ → List Gap → Hints → List ℕ
-first_text listing f s h k gaps x = or_else (pieces_text listing f h k) x.bodies (doubled_text listing f s h k gaps x)
+first_text listing f s h k gaps x = or_else (pieces_text listing f h k) x.bodies (after_pieces_text listing f s h k gaps x)
 
 -- The hints on shell k, from 0, whose loops have these gaps. That on shells that touch is always written.
 unfoldable pub hints_text : Listing → Contents → SolidData → Shell → ℕ → List Gap → Hints → List ℕ
@@ -233,11 +233,11 @@ rim_named listing h x rim = flat_map (edge_named h x) (shown listing (rim_rows x
 abbrev pub missing_named : Listing → Shell → Rims → List EntryNo
 missing_named listing h x = flat_map (rim_named listing h x) (shown listing (classes_of x.firsts))
 
-abbrev pub missing_faces : Listing → Shell → List Gap → Hints → List EntryNo
-missing_faces listing h gaps x = or_else (missing_named listing h) x.missing (turns_named listing h gaps x.turns)
+abbrev pub after_doubled_named : Listing → Shell → List Gap → Hints → List EntryNo
+after_doubled_named listing h gaps x = or_else (missing_named listing h) x.missing (turns_named listing h gaps x.turns)
 
-abbrev pub doubled_faces : Listing → Shell → List Gap → Hints → List EntryNo
-doubled_faces listing h gaps x = or_else (doubled_named listing h) x.doubled (missing_faces listing h gaps x)
+abbrev pub after_pieces_named : Listing → Shell → List Gap → Hints → List EntryNo
+after_pieces_named listing h gaps x = or_else (doubled_named listing h) x.doubled (after_doubled_named listing h gaps x)
 
 unfoldable pub hints_named : Listing → Shell → List Gap → Hints → List EntryNo
-hints_named listing h gaps x = or_else (pieces_named listing h) x.bodies (doubled_faces listing h gaps x)
+hints_named listing h gaps x = or_else (pieces_named listing h) x.bodies (after_pieces_named listing h gaps x)

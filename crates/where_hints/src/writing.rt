@@ -1,7 +1,7 @@
 //! The hints on a shell.
 
 ghost use Rattle.std.specs.Prelude.{◌≡◌, ◌++◌, OnOk};
-ghost use Rattle.where_hints.specs.Lines.{doubled_faces, doubled_text, each_text, first_text, hints_named, hints_text, missing_faces, missing_text, or_else, pieces_named, pieces_text, turns_named};
+ghost use Rattle.where_hints.specs.Lines.{after_pieces_named, after_pieces_text, each_text, first_text, hints_named, hints_text, after_doubled_named, after_doubled_text, or_else, pieces_named, pieces_text, turns_named};
 
 use crate::bodies::{put_bodies, put_strays};
 use crate::counts::put_counted_if;
@@ -38,7 +38,7 @@ fn put_each(
 }
 
 // Faces that are missing, else each kind of edge and of vertex.
-fn put_missing_or(
+fn put_after_doubled(
     out: &mut Out,
     named: &mut EntryNumbers,
     on: &Subject<'_>,
@@ -46,9 +46,9 @@ fn put_missing_or(
     hints: &Hints,
 ) -> Result<(), NoMemory>
     ensures text { OnOk result (out.new ≡ out.old
-        ++ missing_text on.now.listing on.now.file.now on.now.solid.now on.now.shell.now on.now.at.0 gaps.now hints.now) }
+        ++ after_doubled_text on.now.listing on.now.file.now on.now.solid.now on.now.shell.now on.now.at.0 gaps.now hints.now) }
     ensures named { OnOk result (named.new
-        ≡ named.old ++ missing_faces on.now.listing on.now.shell.now gaps.now hints.now) }
+        ≡ named.old ++ after_doubled_named on.now.listing on.now.shell.now gaps.now hints.now) }
 {
     match &hints.missing {
         None => put_each(out, named, on, gaps, hints),
@@ -57,7 +57,7 @@ fn put_missing_or(
 }
 
 // Copies of faces, else what comes after.
-fn put_doubled_or(
+fn put_after_pieces(
     out: &mut Out,
     named: &mut EntryNumbers,
     on: &Subject<'_>,
@@ -65,12 +65,12 @@ fn put_doubled_or(
     hints: &Hints,
 ) -> Result<(), NoMemory>
     ensures text { OnOk result (out.new ≡ out.old
-        ++ doubled_text on.now.listing on.now.file.now on.now.solid.now on.now.shell.now on.now.at.0 gaps.now hints.now) }
+        ++ after_pieces_text on.now.listing on.now.file.now on.now.solid.now on.now.shell.now on.now.at.0 gaps.now hints.now) }
     ensures named { OnOk result (named.new
-        ≡ named.old ++ doubled_faces on.now.listing on.now.shell.now gaps.now hints.now) }
+        ≡ named.old ++ after_pieces_named on.now.listing on.now.shell.now gaps.now hints.now) }
 {
     match &hints.doubled {
-        None => put_missing_or(out, named, on, gaps, hints),
+        None => put_after_doubled(out, named, on, gaps, hints),
         Some(found) => put_doubled(out, named, on, found.pairs()),
     }
 }
@@ -101,10 +101,10 @@ fn put_first(
     ensures text { OnOk result (out.new ≡ out.old
         ++ first_text on.now.listing on.now.file.now on.now.solid.now on.now.shell.now on.now.at.0 gaps.now hints.now) }
     ensures named { OnOk result (named.new ≡ named.old
-        ++ or_else (pieces_named on.now.listing on.now.shell.now) hints.now.bodies (doubled_faces on.now.listing on.now.shell.now gaps.now hints.now)) }
+        ++ or_else (pieces_named on.now.listing on.now.shell.now) hints.now.bodies (after_pieces_named on.now.listing on.now.shell.now gaps.now hints.now)) }
 {
     match &hints.bodies {
-        None => put_doubled_or(out, named, on, gaps, hints),
+        None => put_after_pieces(out, named, on, gaps, hints),
         Some(found) => put_pieces(out, named, on, found),
     }
 }
