@@ -41,7 +41,12 @@ fn answer_where(closed: bool) -> Answer
     if closed { Answer::Done } else { Answer::No }
 }
 
-fn solid_reply(alloc: Global, placed: &PlacedFile, no: u32, listing: Listing) -> Result<Reply, NoMemory>
+fn solid_reply(
+    alloc: Global,
+    placed: &PlacedFile,
+    no: u32,
+    listing: Listing,
+) -> Result<Reply, NoMemory>
     ensures { IfOk result (λ reply. OfSolid no listing placed.now reply.answer reply.text) }
 {
     let told = tell(alloc, placed, EntryNo(no), listing)?;

@@ -65,7 +65,12 @@ fn put_head(
 }
 
 #[tactic(auto, unfolding(crate::specs::Entities::record_text))]
-fn put_entity(alloc: Global, out: &mut Out, placed: &PlacedFile, no: EntryNo) -> Result<(), NoMemory>
+fn put_entity(
+    alloc: Global,
+    out: &mut Out,
+    placed: &PlacedFile,
+    no: EntryNo,
+) -> Result<(), NoMemory>
     ensures { OnOk result (out.new ≡ out.old ++ entity_text placed.now no) }
 {
     let Some(record) = record_of(&placed.file, no) else {
@@ -76,7 +81,12 @@ fn put_entity(alloc: Global, out: &mut Out, placed: &PlacedFile, no: EntryNo) ->
     put_facts(alloc, out, &placed.file, record.entry, record.values)
 }
 
-fn put_each(alloc: Global, out: &mut Out, placed: &PlacedFile, list: &EntryNumbers) -> Result<(), NoMemory>
+fn put_each(
+    alloc: Global,
+    out: &mut Out,
+    placed: &PlacedFile,
+    list: &EntryNumbers,
+) -> Result<(), NoMemory>
     ensures { OnOk result (out.new ≡ out.old ++ flat_map (entity_text placed.now) list.now) }
 {
     'entities: for no in list.as_slice() {

@@ -81,7 +81,12 @@ fn put_lines(
     put_more_items(out, failing - shown)
 }
 
-fn put_texts(alloc: Global, out: &mut Out, placed: &PlacedFile, texts: &ShellTexts) -> Result<(), NoMemory>
+fn put_texts(
+    alloc: Global,
+    out: &mut Out,
+    placed: &PlacedFile,
+    texts: &ShellTexts,
+) -> Result<(), NoMemory>
     ensures { OnOk result (out.new ≡ out.old
         ++ (texts.now.page.out ++ entities_text placed.now texts.now.page.named)) }
 {
@@ -151,7 +156,12 @@ fn of_shells(
 /// The verdict on the solid with this number, and where it fails. Where a rule on its records fails, that is reported
 /// alone; else all that fails in its shells. It errs only where memory runs out. The solid's records are walked once,
 /// and the uses of each failing shell that is described a few times.
-pub fn tell(alloc: Global, placed: &PlacedFile, no: EntryNo, listing: Listing) -> Result<Told, NoMemory>
+pub fn tell(
+    alloc: Global,
+    placed: &PlacedFile,
+    no: EntryNo,
+    listing: Listing,
+) -> Result<Told, NoMemory>
     ensures { IfOk result (λ told. IsToldOf listing placed.now no told.verdict told.text) }
 {
     match walk(alloc, &placed.file, no) {
