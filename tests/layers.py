@@ -27,7 +27,7 @@ WAYS = "A byte of a record, to `fail PAIR`", "An E line of a certificate, to `ac
 CHAIN, LINES, FUNCTIONS = 8, 1500, 100
 # The longer chains: where's text goes through record_paths and where_records, which say in which face a record fails; the laws of
 # reoriented files stand on those of extracted ones, and nothing on them. See docs/DECISIONS.md.
-LONGER = {"where_command": 9, "where_laws": 10, "reorient_laws": 9}
+LONGER = {"where_solids": 9, "where_command": 10, "where_laws": 11, "reorient_laws": 9}
 # What says yes to certificates and orientations, and what makes them or parts of them.
 CHECKS = "cert_state", "topo_certificate", "cert_accept", "open_certificate", "orient_certificate"
 MAKES = {"vertex_link", "shell_flood", "shell_reach", "cert_maker", "open_shells", "face_orient"}
