@@ -7,7 +7,7 @@ use Rattle.std.specs.Ordering.{int_cmp, is_lt}
 use Rattle.iges_base.specs.Word.{column_number}
 use Rattle.line_layout.specs.declared.change.Change.{Change}
 use Rattle.line_layout.specs.declared.change.Change.TheVariants as change
-use Rattle.line_layout.specs.declared.change.Tally.{Tally}
+use Rattle.line_layout.specs.declared.change.ChangeCount.{ChangeCount}
 use Rattle.line_layout.specs.declared.counting.LineCounts.{LineCounts}
 use Rattle.line_layout.specs.declared.judging.Judged.{Judged}
 use Rattle.line_layout.specs.declared.judging.Judged.TheVariants as judged
@@ -117,12 +117,12 @@ unfoldable pub changed_lines : Change → List ℕ → List ℕ
 changed_lines k bytes = changed_from k (cuts (end_byte bytes) bytes) 1 no_lines
 
 -- how many they are, and the first; 0 where there is none
-abbrev pub tally_of : List ℕ → Tally
+abbrev pub tally_of : List ℕ → ChangeCount
 tally_of [] = record { times = 0; first = 0 }
 tally_of (n ∷ ns) = record { times = length ns + 1; first = n }
 
 -- with so many more, of one number
-abbrev pub noted : Tally → ℕ → ℕ → Tally
+abbrev pub noted : ChangeCount → ℕ → ℕ → ChangeCount
 noted t n m = if m == 0 then t else record { times = t.times + m; first = if t.times == 0 then n else t.first }
 
 -- seven columns can hold the number of the line

@@ -23,7 +23,7 @@ pub enum Change {
 
 /// How often something is changed, and the first line of the file where it is; 0 where there is none.
 #[derive(Clone, Copy, Debug, PartialEq, Eq)]
-pub struct Tally {
+pub struct ChangeCount {
     pub times: u64,
     pub first: u64,
 }

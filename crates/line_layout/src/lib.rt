@@ -15,7 +15,7 @@ mod relaying;
 mod row;
 mod tallying;
 
-pub use change::{Change, Tally};
+pub use change::{Change, ChangeCount};
 pub use counting::LineCounts;
 pub use fault::{LayoutFault, LayoutReason, RelaidFault};
 pub use judging::Judged;

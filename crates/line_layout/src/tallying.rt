@@ -2,14 +2,14 @@ ghost use Rattle.iges_base.specs.declared.TheConstants.{FILE_LIMIT};
 ghost use Rattle.line_layout.specs.Changes.{changed_lines, noted, once, tally_of};
 ghost use Rattle.std.specs.Prelude.{◌≡◌, ◌+◌, ◌≤◌, ◌<◌, ◌^◌, length};
 
-use crate::change::{Change, Tally};
+use crate::change::{Change, ChangeCount};
 use crate::changing::{dropped, happens, has_feed, is_of_counts, lines_after};
 use crate::counting::no_lines;
 use crate::judging::judge;
 use crate::piece::{end_byte, first_piece};
 
 // With so many more, in one line.
-fn noted(tally: Tally, line: u64, times: u64) -> Tally
+fn noted(tally: ChangeCount, line: u64, times: u64) -> ChangeCount
     requires { tally.times + times < 2 ^ 64 }
     ensures is { result ≡ noted tally line times }
     ensures times { result.times ≡ tally.times + times }
@@ -18,7 +18,7 @@ fn noted(tally: Tally, line: u64, times: u64) -> Tally
         return tally;
     }
     let first = if tally.times == 0 { line } else { tally.first };
-    Tally {
+    ChangeCount {
         times: tally.times + times,
         first,
     }
@@ -33,12 +33,12 @@ fn once(happens: bool) -> u64
 
 /// How often `relaid` changes this, where it makes a file, and the first line of the file where it does. Of a blank line
 /// after the terminate line, and of all that follows it, it counts the bytes alone.
-pub fn tally(bytes: &[u8], change: Change) -> Tally
+pub fn tally(bytes: &[u8], change: Change) -> ChangeCount
     requires { length bytes.now ≤ FILE_LIMIT }
     ensures { result ≡ tally_of (changed_lines change bytes.now) }
 {
     let ending = end_byte(bytes);
-    let mut found = Tally { times: 0, first: 0 };
+    let mut found = ChangeCount { times: 0, first: 0 };
     let mut counts = no_lines();
     let mut number = 1;
     let mut left = bytes;

@@ -2,7 +2,7 @@
 use Rattle.std.specs.Prelude.{ℕ, ◌==◌, List, [], ◌++◌, codes, decimal, if◌then◌else◌}
 use Rattle.line_layout.specs.declared.change.Change.{Change}
 use Rattle.line_layout.specs.declared.change.Change.TheVariants.{Mark, Blank, End, Letter, Past, Number, Ahead, Counts, After}
-use Rattle.line_layout.specs.declared.change.Tally.{Tally}
+use Rattle.line_layout.specs.declared.change.ChangeCount.{ChangeCount}
 use Rattle.line_layout.specs.declared.fault.LayoutFault.{LayoutFault}
 use Rattle.line_layout.specs.declared.fault.LayoutReason.{LayoutReason}
 use Rattle.line_layout.specs.declared.fault.LayoutReason.TheVariants as reason
@@ -39,7 +39,7 @@ change_word Counts = codes "counts"
 change_word After = codes "after"
 
 -- how often, and the first line; nothing where it doesn't happen
-abbrev pub tally_line : List ℕ → Tally → List ℕ
+abbrev pub tally_line : List ℕ → ChangeCount → List ℕ
 tally_line word t = if t.times == 0 then [] else word ++ codes " " ++ decimal t.times ++ codes " line " ++ decimal t.first ++ codes "\n"
 
 unfoldable pub change_line : List ℕ → Change → List ℕ

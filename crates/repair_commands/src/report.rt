@@ -5,7 +5,7 @@ ghost use Rattle.repair_commands.specs.Texts.{bad_layout_line, change_line, chan
 ghost use Rattle.std.specs.Prelude.{◌≡◌, ◌++◌, ◌≤◌, OnOk, length};
 
 use iges_base::{NoMemory, Out, write_number};
-use line_layout::{Change, LayoutFault, LayoutReason, Tally, tally};
+use line_layout::{Change, ChangeCount, LayoutFault, LayoutReason, tally};
 
 fn layout_word(reason: LayoutReason) -> &'static str
     ensures { result.now ≡ layout_word reason }
@@ -51,7 +51,7 @@ fn change_word(change: Change) -> &'static str
     }
 }
 
-fn put_tally(out: &mut Out, word: &str, tally: Tally) -> Result<(), NoMemory>
+fn put_tally(out: &mut Out, word: &str, tally: ChangeCount) -> Result<(), NoMemory>
     ensures { OnOk result (out.new ≡ out.old ++ tally_line word.now tally) }
 {
     if tally.times == 0 {
