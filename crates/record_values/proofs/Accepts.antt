@@ -14,8 +14,8 @@ use Rattle.brep_lists.specs.declared.groups.Slot.{Slot as Standing}
 use Rattle.brep_lists.specs.declared.groups.Slot.TheVariants as stand
 use Rattle.brep_lists.proofs.Stride.{shell_counted, edges_counted, vertices_counted, solid_tested, face_tested}
 use Rattle.brep_lists.proofs.Tuples.{loop_tested}
-use Rattle.record_values.specs.declared.due.Slot.{Slot}
-use Rattle.record_values.specs.declared.due.Slot.TheVariants as slot
+use Rattle.record_values.specs.declared.due.ValueKind.{ValueKind}
+use Rattle.record_values.specs.declared.due.ValueKind.TheVariants as slot
 use Rattle.record_values.specs.declared.due.Counted.{Counted}
 use Rattle.record_values.specs.declared.due.Counted.TheVariants as counted
 use Rattle.record_values.specs.Expected.{Expected, single, count_of_items, layout, item_layout, times, counted_layout, fills, counts, may_come, after}
@@ -33,17 +33,17 @@ accepts es (v ∷ vs) = may_come es v && accepts (after es v) vs
 
 -- ---- groups of values
 
-abbrev stands : Slot → Standing
+abbrev stands : ValueKind → Standing
 stands slot.Pointer = stand.Whole
 stands slot.Index = stand.Whole
 stands slot.Flag = stand.Flag
 stands slot.Type = stand.Flag
 stands slot.Coordinate = stand.Coordinate
 
-abbrev shape_of : List Slot → List Standing
+abbrev shape_of : List ValueKind → List Standing
 shape_of ss = map stands ss
 
-fills_is : (s : Slot) (v : Value) → fills s v ≡ passes (stands s) v
+fills_is : (s : ValueKind) (v : Value) → fills s v ≡ passes (stands s) v
 fills_is slot.Pointer v = refl
 fills_is slot.Index v = refl
 fills_is slot.Flag v = refl
@@ -54,7 +54,7 @@ and3 : (a b c : Bool) → (a && (b && c)) ≡ ((a && b) && c)
 and3 true b c = refl
 and3 false b c = refl
 
-group_accepts : (ss : List Slot) (es : List Expected) (vs : List Value)
+group_accepts : (ss : List ValueKind) (es : List Expected) (vs : List Value)
     → accepts (map single ss ++ es) vs ≡ (group_passes (shape_of ss) vs && accepts es (drop (length (shape_of ss)) vs))
 group_accepts [] es vs = refl
 group_accepts (s ∷ ss) es [] = refl
@@ -63,7 +63,7 @@ group_accepts (s ∷ ss) es (v ∷ vs) =
     ∙ ap (λ b. passes (stands s) v && b) (group_accepts ss es vs)
     ∙ and3 (passes (stands s) v) (group_passes (shape_of ss) vs) (accepts es (drop (length (shape_of ss)) vs))
 
-items_accept : (ss : List Slot) (n : ℕ) (es : List Expected) (vs : List Value) → accepts (times n (map single ss) ++ es) vs
+items_accept : (ss : List ValueKind) (n : ℕ) (es : List Expected) (vs : List Value) → accepts (times n (map single ss) ++ es) vs
     ≡ (groups_pass (shape_of ss) n vs && accepts es (drop (n * length (shape_of ss)) vs))
 items_accept ss zero es vs = let none : 0 ≡ 0 * length (shape_of ss) = omega arith in ap (λ k. accepts es (drop k vs)) none
 items_accept ss (suc n) es vs =
@@ -81,7 +81,7 @@ rest_accepts [] = refl
 rest_accepts (v ∷ vs) = ap (λ b. may_come [] v && b) (rest_accepts vs)
 
 -- so many items, and then the rest of the record
-last_items : (ss : List Slot) (n k : ℕ) (all vs : List Value) → drop (n * length (shape_of ss)) vs ≡ drop k all → accepts (times n (map single ss) ++ []) vs
+last_items : (ss : List ValueKind) (n k : ℕ) (all vs : List Value) → drop (n * length (shape_of ss)) vs ≡ drop k all → accepts (times n (map single ss) ++ []) vs
     ≡ (groups_pass (shape_of ss) n vs && meets_all [] (drop k all))
 last_items ss n k all vs e =
     items_accept ss n [] vs ∙ ap (λ b. groups_pass (shape_of ss) n vs && b) (rest_accepts (drop (n * length (shape_of ss)) vs))
@@ -92,7 +92,7 @@ last_items ss n k all vs e =
 abbrev starts : Value → Bool
 starts v = meets (at_least_one (count_of v)) v
 
-counted_accepts : (c : Counted) (ss : List Slot) (v : Value) (vs : List Value) → counts c v ≡ starts v
+counted_accepts : (c : Counted) (ss : List ValueKind) (v : Value) (vs : List Value) → counts c v ≡ starts v
     → counted_layout c (count_of v) ≡ times (count_of v) (map single ss)
     → (counts c v && accepts (counted_layout c (count_of v) ++ []) vs) ≡ is_counted (shape_of ss) (v ∷ vs)
 counted_accepts c ss v vs k e =

@@ -8,7 +8,7 @@ use Rattle.brep_lists.specs.Record.{count_of, count_at, value_or_default}
 use Rattle.brep_lists.specs.declared.entity_kind.EntityKind.{EntityKind}
 use Rattle.brep_lists.proofs.Places.{open_at, none_at, got}
 use Rattle.record_values.specs.declared.due.Counted.{Counted}
-use Rattle.record_values.specs.declared.due.Slot.{Slot}
+use Rattle.record_values.specs.declared.due.ValueKind.{ValueKind}
 use Rattle.record_values.specs.declared.misfit.Misfit.{Misfit}
 use Rattle.record_values.specs.Expected.{Expected, single, count_of_items, times, counted_layout, counts, may_come, after, next_due, first_misfit, layout}
 use Rattle.record_values.specs.Expected.{misfit_from, GoesOn, IsCounted}
@@ -50,7 +50,7 @@ gets_stop vs at next m es before xs left g e h rest =
     g rest ∙ ap (λ bs. misfit_from next (bs ++ rest) (drop next vs)) e
     ∙ ap (λ ys. misfit_from next ys (drop next vs)) (append_assoc xs left rest) ∙ h (left ++ rest)
 
-pub one_slot : (shape : List Slot) (i : ℕ) (s : Slot) → drop i shape ≡ s ∷ drop (i + 1) shape → map single (drop i shape) ≡ (single s ∷ [])
+pub one_slot : (shape : List ValueKind) (i : ℕ) (s : ValueKind) → drop i shape ≡ s ∷ drop (i + 1) shape → map single (drop i shape) ≡ (single s ∷ [])
     ++ map single (drop (i + 1) shape)
 one_slot shape i s e = ap (map single) e
 

@@ -6,7 +6,7 @@ use Rattle.iges_fields.specs.declared.value.Value.{Value}
 use Rattle.iges_fields.specs.declared.value.Value.TheVariants.{Int}
 use Rattle.brep_lists.specs.declared.entity_kind.EntityKind.{EntityKind}
 use Rattle.brep_lists.proofs.Decided.{decided}
-use Rattle.record_values.specs.declared.due.Slot.TheVariants as slot
+use Rattle.record_values.specs.declared.due.ValueKind.TheVariants as slot
 use Rattle.record_values.specs.declared.due.Counted.TheVariants as counted
 use Rattle.record_values.specs.declared.misfit.Misfit.{Misfit}
 use Rattle.record_values.specs.Begins.{Begins, IsFirstMisfit, MisfitsAreFirst}

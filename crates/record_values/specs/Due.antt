@@ -5,8 +5,8 @@ use Rattle.brep_lists.specs.declared.entity_kind.EntityKind.TheVariants.{Solid a
 use Rattle.brep_lists.specs.declared.entity_kind.EntityKind.TheVariants.{VertexList as vertices}
 use Rattle.record_values.specs.declared.due.Due.{Due}
 use Rattle.record_values.specs.declared.due.Due.TheVariants as due
-use Rattle.record_values.specs.declared.due.Slot.{Slot}
-use Rattle.record_values.specs.declared.due.Slot.TheVariants as slot
+use Rattle.record_values.specs.declared.due.ValueKind.{ValueKind}
+use Rattle.record_values.specs.declared.due.ValueKind.TheVariants as slot
 
 -- the entity and the forms of which one is due
 abbrev pub kind_word : EntityKind → List ℕ
@@ -17,7 +17,7 @@ kind_word «loop» = codes "loop form 0 1"
 kind_word edges = codes "edge-list form 0 1"
 kind_word vertices = codes "vertex-list form 0 1"
 
-abbrev pub slot_word : Slot → List ℕ
+abbrev pub slot_word : ValueKind → List ℕ
 slot_word slot.Pointer = codes "pointer"
 slot_word slot.Index = codes "index"
 slot_word slot.Flag = codes "flag"

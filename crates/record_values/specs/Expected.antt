@@ -11,15 +11,15 @@ use Rattle.brep_lists.specs.Groups.{passes}
 use Rattle.brep_lists.specs.declared.groups.Slot.TheVariants as stands
 use Rattle.record_values.specs.declared.due.Due.{Due}
 use Rattle.record_values.specs.declared.due.Due.TheVariants as due
-use Rattle.record_values.specs.declared.due.Slot.{Slot}
-use Rattle.record_values.specs.declared.due.Slot.TheVariants as slot
+use Rattle.record_values.specs.declared.due.ValueKind.{ValueKind}
+use Rattle.record_values.specs.declared.due.ValueKind.TheVariants as slot
 use Rattle.record_values.specs.declared.due.Counted.{Counted}
 use Rattle.record_values.specs.declared.due.Counted.TheVariants as counted
 use Rattle.record_values.specs.declared.misfit.Misfit.{Misfit}
 
 -- one value that is due: one that is no count, or the count of what follows
 pub data Expected : Type 0 where
-  single : Slot → Expected
+  single : ValueKind → Expected
   count_of_items : Counted → Expected
 
 -- the layout of a record, up to what its counts bring
@@ -52,7 +52,7 @@ counted_layout counted.Loops n = single slot.Flag ∷ times n (item_layout count
 counted_layout c n = times n (item_layout c)
 
 -- whether the value may be in the slot
-abbrev pub fills : Slot → Value → Bool
+abbrev pub fills : ValueKind → Value → Bool
 fills slot.Pointer v = passes stands.Whole v
 fills slot.Index v = passes stands.Whole v
 fills slot.Flag v = passes stands.Flag v

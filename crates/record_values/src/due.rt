@@ -7,7 +7,7 @@ use brep_lists::EntityKind;
 
 /// One value of a record that is no count.
 #[derive(Clone, Copy, Debug, PartialEq, Eq)]
-pub enum Slot {
+pub enum ValueKind {
     /// The number of an entry: an integer.
     Pointer,
     /// An index in a list: an integer.
@@ -40,7 +40,7 @@ pub enum Due {
     /// The number of a curve or of a surface.
     Geometry,
     /// One value that is no count.
-    Single(Slot),
+    Single(ValueKind),
     /// A count of items.
     Count,
     /// One of the integers and left-out values that follow the own values of a type.
@@ -61,17 +61,17 @@ fn kind_word(kind: EntityKind) -> &'static str
     }
 }
 
-impl Slot {
+impl ValueKind {
     /// The word that is printed.
     pub fn word(self) -> &'static str
         ensures { result.now ≡ slot_word self }
     {
         match self {
-            Slot::Pointer => "pointer",
-            Slot::Index => "index",
-            Slot::Flag => "flag",
-            Slot::Type => "type",
-            Slot::Coordinate => "coordinate",
+            ValueKind::Pointer => "pointer",
+            ValueKind::Index => "index",
+            ValueKind::Flag => "flag",
+            ValueKind::Type => "type",
+            ValueKind::Coordinate => "coordinate",
         }
     }
 }

@@ -9,7 +9,7 @@ mod named;
 mod naming;
 
 pub use bad_values::{BadValue, bad_value};
-pub use due::{Counted, Due, Slot};
+pub use due::{Counted, Due, ValueKind};
 pub use law::misfits_are_first;
 pub use misfit::{Misfit, first_misfit};
 pub use named::{entry_named, item_count, values_named};

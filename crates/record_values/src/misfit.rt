@@ -7,7 +7,7 @@ ghost use Rattle.brep_lists.specs.declared.entity_kind.EntityKind.TheVariants.{S
 ghost use Rattle.record_values.specs.Expected.{GoesOn, IsCounted, counted_layout, counts, count_of_items, fills, first_misfit, item_layout, layout, misfit_from, single, times};
 ghost use Rattle.record_values.specs.declared.due.Counted.TheVariants.{Tuples};
 
-use crate::due::{Counted, Due, Slot};
+use crate::due::{Counted, Due, ValueKind};
 use brep_lists::{EntityKind, item_count, optional_count};
 use iges_fields::{Value, Values};
 
@@ -21,18 +21,18 @@ pub struct Misfit {
     pub due: Due,
 }
 
-fn fills(slot: Slot, value: &Value) -> bool
+fn fills(slot: ValueKind, value: &Value) -> bool
     ensures { result ≡ fills slot value.now }
 {
     match slot {
-        Slot::Pointer | Slot::Index => matches!(value, Value::Int(_)),
-        Slot::Flag | Slot::Type => matches!(value, Value::Int(0 | 1)),
-        Slot::Coordinate => !matches!(value, Value::Text(_)),
+        ValueKind::Pointer | ValueKind::Index => matches!(value, Value::Int(_)),
+        ValueKind::Flag | ValueKind::Type => matches!(value, Value::Int(0 | 1)),
+        ValueKind::Coordinate => !matches!(value, Value::Text(_)),
     }
 }
 
 // The place after one value.
-fn after_value(values: &Values, at: usize, slot: Slot) -> Result<usize, Misfit>
+fn after_value(values: &Values, at: usize, slot: ValueKind) -> Result<usize, Misfit>
     ensures { GoesOn values.now at (single slot ∷ []) result }
 {
     let misfit = Misfit {
@@ -49,7 +49,7 @@ fn after_value(values: &Values, at: usize, slot: Slot) -> Result<usize, Misfit>
 }
 
 // The place after a group of values.
-fn after_group(values: &Values, at: usize, shape: &[Slot]) -> Result<usize, Misfit>
+fn after_group(values: &Values, at: usize, shape: &[ValueKind]) -> Result<usize, Misfit>
     ensures { GoesOn values.now at (map single shape.now) result }
 {
     let mut next = at;
@@ -60,7 +60,12 @@ fn after_group(values: &Values, at: usize, shape: &[Slot]) -> Result<usize, Misf
 }
 
 // The place after so many groups of values.
-fn after_groups(values: &Values, at: usize, count: usize, shape: &[Slot]) -> Result<usize, Misfit>
+fn after_groups(
+    values: &Values,
+    at: usize,
+    count: usize,
+    shape: &[ValueKind],
+) -> Result<usize, Misfit>
     ensures { GoesOn values.now at (times count (map single shape.now)) result }
 {
     let mut next = at;
@@ -104,7 +109,7 @@ fn after_items(
     values: &Values,
     at: usize,
     counted: Counted,
-    shape: &[Slot],
+    shape: &[ValueKind],
 ) -> Result<usize, Misfit>
     requires { (n : ℕ) → counted_layout counted n ≡ times n (map single shape.now) }
     ensures { GoesOn values.now at (count_of_items counted ∷ []) result }
@@ -116,7 +121,7 @@ fn after_items(
 fn after_solid(values: &Values) -> Result<usize, Misfit>
     ensures { GoesOn values.now 0 (layout solid) result }
 {
-    let pair = [Slot::Pointer, Slot::Flag];
+    let pair = [ValueKind::Pointer, ValueKind::Flag];
     let at = after_group(values, 0, &pair)?;
     after_items(values, at, Counted::Voids, &pair)
 }
@@ -124,18 +129,28 @@ fn after_solid(values: &Values) -> Result<usize, Misfit>
 fn after_face(values: &Values) -> Result<usize, Misfit>
     ensures { GoesOn values.now 0 (layout face) result }
 {
-    let at = after_value(values, 0, Slot::Pointer)?;
+    let at = after_value(values, 0, ValueKind::Pointer)?;
     let count = count_of(values, at, Counted::Loops)?;
-    let at = after_value(values, at + 1, Slot::Flag)?;
-    after_groups(values, at, count, &[Slot::Pointer])
+    let at = after_value(values, at + 1, ValueKind::Flag)?;
+    after_groups(values, at, count, &[ValueKind::Pointer])
 }
 
 fn after_tuple(values: &Values, at: usize) -> Result<usize, Misfit>
     ensures { GoesOn values.now at (item_layout Tuples) result }
 {
-    let use_of = [Slot::Type, Slot::Pointer, Slot::Index, Slot::Flag];
+    let use_of = [
+        ValueKind::Type,
+        ValueKind::Pointer,
+        ValueKind::Index,
+        ValueKind::Flag,
+    ];
     let at = after_group(values, at, &use_of)?;
-    after_items(values, at, Counted::Curves, &[Slot::Flag, Slot::Pointer])
+    after_items(
+        values,
+        at,
+        Counted::Curves,
+        &[ValueKind::Flag, ValueKind::Pointer],
+    )
 }
 
 fn after_loop(values: &Values) -> Result<usize, Misfit>
@@ -154,11 +169,11 @@ fn after_edges(values: &Values) -> Result<usize, Misfit>
     ensures { GoesOn values.now 0 (layout edges) result }
 {
     let edge = [
-        Slot::Pointer,
-        Slot::Pointer,
-        Slot::Index,
-        Slot::Pointer,
-        Slot::Index,
+        ValueKind::Pointer,
+        ValueKind::Pointer,
+        ValueKind::Index,
+        ValueKind::Pointer,
+        ValueKind::Index,
     ];
     after_items(values, 0, Counted::Edges, &edge)
 }
@@ -167,8 +182,12 @@ fn after_edges(values: &Values) -> Result<usize, Misfit>
 fn after_own(values: &Values, kind: EntityKind) -> Result<usize, Misfit>
     ensures { GoesOn values.now 0 (layout kind) result }
 {
-    let pair = [Slot::Pointer, Slot::Flag];
-    let vertex = [Slot::Coordinate, Slot::Coordinate, Slot::Coordinate];
+    let pair = [ValueKind::Pointer, ValueKind::Flag];
+    let vertex = [
+        ValueKind::Coordinate,
+        ValueKind::Coordinate,
+        ValueKind::Coordinate,
+    ];
     match kind {
         EntityKind::Solid => after_solid(values),
         EntityKind::Shell => after_items(values, 0, Counted::Faces, &pair),

@@ -1,7 +1,7 @@
 use Rattle.std.proofs.Common.{[], ◌∷◌, ◌+◌, drop, map}
 use Rattle.std.proofs.lemmas.List.{drop_more}
 use Rattle.std.proofs.lemmas.Result.{err_from_is_err_and}
-use Rattle.record_values.specs.declared.due.Slot.TheVariants as slot
+use Rattle.record_values.specs.declared.due.ValueKind.TheVariants as slot
 use Rattle.record_values.specs.Expected.{single}
 use Rattle.record_values.proofs.Going.{gets_stop, one_slot}
 use Rattle.record_values.proofs.misfit.after_group.Goals as goal
