@@ -35,13 +35,14 @@ hints_more s ks i k old new x at long is each last j y there =
 -- numbers of failing shells are numbers of shells
 failing_inside : (xs : List Faults) (k i d : ℕ) → i < length (failing_from k xs) → get_or (failing_from k xs) i d < k + length xs
 failing_inside [] k i d lt = absurd (omega (arith, lt))
-failing_inside (x ∷ xs) k i d lt = by_first (is_failing x) i lt
+failing_inside (x ∷ xs) k i d lt = by_first (is_failing x) i (λ j below. failing_inside xs (k + 1) j d below) lt
   where
-    by_first : (b : Bool) (i : ℕ) → i < length ((if b then k ∷ [] else []) ++ failing_from (k + 1) xs)
+    by_first : (b : Bool) (i : ℕ) → ((j : ℕ) → j < length (failing_from (k + 1) xs) → get_or (failing_from (k + 1) xs) j d < k + 1 + length xs)
+        → i < length ((if b then k ∷ [] else []) ++ failing_from (k + 1) xs)
         → get_or ((if b then k ∷ [] else []) ++ failing_from (k + 1) xs) i d < k + suc (length xs)
-    by_first true zero lt = omega arith
-    by_first true (suc i) lt = let n = failing_inside xs (k + 1) i d (omega (arith, lt)) in omega (arith, n)
-    by_first false i lt = let n = failing_inside xs (k + 1) i d lt in omega (arith, n)
+    by_first true zero later lt = omega arith
+    by_first true (suc i) later lt = let n = later i (omega (arith, lt)) in omega (arith, n)
+    by_first false i later lt = let n = later i lt in omega (arith, n)
 
 shown_inside : (listing : Listing) (ks : List ℕ) (n : ℕ) → ((i d : ℕ) → i < length ks → get_or ks i d < n) → (i d : ℕ) → i < length (shown listing ks)
     → get_or (shown listing ks) i d < n

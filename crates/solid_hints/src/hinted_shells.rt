@@ -6,8 +6,8 @@ ghost use Rattle.std.specs.Prelude.{◌≡◌, ◌++◌, ◌<◌, All, IfOk, Lis
 ghost use Rattle.solid_hints.specs.AllFaults.{AreAllFaults};
 ghost use Rattle.solid_hints.specs.ShellHints.{AreHintsOf, AreShellHints, IsHint, hint_faces_at, hints_at};
 
-use crate::all_faults::AllFaults;
 use crate::flags::{pair_fails, put_flags, tells_flags, unset_flags};
+use crate::shell_faults::AllFaults;
 use edge_uses::rows;
 use iges_fields::{ItemList, NoMemory, Out};
 use iges_params::File;

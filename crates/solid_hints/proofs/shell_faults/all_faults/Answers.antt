@@ -1,7 +1,7 @@
 use Rattle.std.proofs.Common.{◌<◌, ◌^◌, arith, length, rules}
 use Rattle.solid_faults.proofs.Definite.{few_shells}
 use Rattle.solid_hints.proofs.Gathered.{faults_more, longer}
-use Rattle.solid_hints.proofs.all_faults.all_faults.Goals as goal
+use Rattle.solid_hints.proofs.shell_faults.all_faults.Goals as goal
 
 pub overflow_cast-at : goal.overflow_cast-at
 overflow_cast-at c =

@@ -2,7 +2,7 @@ use Rattle.std.proofs.Common.{◌≡◌, ℕ, Some, length, slice_get}
 use Rattle.edge_uses.specs.Before.{AreBelow}
 use Rattle.solid_data.specs.declared.solid.Shell.{Shell}
 use Rattle.solid_faults.specs.Faults.{AreFaults, Faults}
-use Rattle.solid_hints.proofs.all_faults.all_faults.Given as goal
+use Rattle.solid_hints.proofs.shell_faults.all_faults.Given as goal
 
 abbrev pub invariant-shells : goal.invariant-shells
 invariant-shells l = record {
