@@ -9,15 +9,16 @@ ghost use Rattle.std.specs.Prelude.{◌≡◌, ◌≤◌, IfOk, MatchResult, OnO
 ghost use Rattle.where_command.specs.Due.{OfNoFile, bad_file_text};
 ghost use Rattle.where_command.specs.Outcome.{IsPlacedTold};
 ghost use Rattle.where_places.specs.PlacedFiles.{IsPlacedFile};
+ghost use Rattle.where_places.specs.Places.{HasPlaces};
 
 use command_replies::{Answer, Reply, Stop, bad_file, bytes_in};
 use iges_fields::{Bytes, FILE_LIMIT, NoMemory, Out};
 use iges_io::Source;
 use iges_lines::LineFault;
-use iges_params::ReadFileFault;
+use iges_params::{File, ReadFileFault};
 use std::alloc::Global;
 use where_file::put_bad_file;
-use where_places::{PlacedFile, read_placed_file};
+use where_places::{PlacedFile, Places, read_placed_file};
 use where_text::put_reason_sentence;
 
 fn bad_file_reply(alloc: Global, bytes: &[u8], fault: LineFault) -> Result<Reply, NoMemory>
@@ -35,6 +36,24 @@ fn bad_file_reply(alloc: Global, bytes: &[u8], fault: LineFault) -> Result<Reply
     })
 }
 
+// What the bytes contain and where its entries stand, or the reply where they are no file.
+fn contents_of(
+    alloc: Global,
+    bytes: &[u8],
+) -> Result<Result<(File, Places), Reply>, NoMemory>
+    requires { length bytes.now ≤ FILE_LIMIT }
+    ensures found { IfOk result (λ r. MatchResult r (λ p. HasPlaces bytes.now p.0 p.1)
+        (λ reply. OfNoFile bytes.now reply.answer reply.text)) }
+    ensures bad { IfOk result (λ r. MatchResult r (λ _. Unit {0})
+        (λ reply. reply.answer ≡ Answer.BadFile)) }
+{
+    match read_placed_file(alloc, bytes) {
+        Ok(parts) => Ok(Ok(parts)),
+        Err(ReadFileFault::Bad(fault)) => Ok(Err(bad_file_reply(alloc, bytes, fault)?)),
+        Err(ReadFileFault::NoMemory) => Err(NoMemory),
+    }
+}
+
 fn file_of(alloc: Global, bytes: Bytes) -> Result<Result<PlacedFile, Reply>, NoMemory>
     requires { length bytes ≤ FILE_LIMIT }
     ensures found { IfOk result (λ r. MatchResult r (IsPlacedFile bytes)
@@ -42,14 +61,13 @@ fn file_of(alloc: Global, bytes: Bytes) -> Result<Result<PlacedFile, Reply>, NoM
     ensures bad { IfOk result (λ r. MatchResult r (λ _. Unit {0})
         (λ reply. reply.answer ≡ Answer.BadFile)) }
 {
-    match read_placed_file(alloc, bytes.as_slice()) {
+    match contents_of(alloc, bytes.as_slice())? {
         Ok((file, places)) => Ok(Ok(PlacedFile {
             bytes,
             file,
             places,
         })),
-        Err(ReadFileFault::Bad(fault)) => Ok(Err(bad_file_reply(alloc, bytes.as_slice(), fault)?)),
-        Err(ReadFileFault::NoMemory) => Err(NoMemory),
+        Err(reply) => Ok(Err(reply)),
     }
 }
 
