@@ -53,7 +53,7 @@ class Lattice:
         outer = [(cell, corners) for cell, corners in sides if corners not in within]
         self.faces = [Face(corners, 0 if is_one else cells.index(cell), number) for number, (cell, corners) in enumerate(outer)]
         self.walls = within
-        self.harm(rng.choice([1, 1, 30, 60]) if is_long else 1)
+        self.harm(rng.choice([1, 30, 90]) if is_long else 1)
         bodies = sorted({face.body for face in self.faces})
         is_split = rng.random() < IS_SPLIT
         self.shells = [[face for face in self.faces if face.body == body] for body in bodies] if is_split else [self.faces]
@@ -62,7 +62,7 @@ class Lattice:
 
     def harm(self, often):
         """One kind of harm, so often, in most solids; in some several kinds, or none."""
-        harms = self.leave_out, self.double, self.turn, self.add_wall, self.loosen, self.leave_over
+        harms = self.leave_out, self.double, self.turn, self.turn, self.add_wall, self.loosen, self.leave_over
         for kind in self.rng.choices(harms, k=self.rng.choice([0, 1, 1, 1, 1, 2, 3])):
             for _ in range(often):
                 kind()
