@@ -150,6 +150,17 @@ def of_pinched_edge(browser, folder):
     yield "browser: a link to a fault", browser.run("view.chosen === view.faults[0]") and is_quiet(browser)
 
 
+def of_hint(browser, folder):
+    """The button of a hint shows the faces that it names, and hides them again."""
+    text = re.sub(r"(?m)^body \d faces 4 first", "remove", (RECORDED / "two_tetrahedra.1.txt").read_text())
+    open_page(browser, written(folder, "two_tetrahedra", 1, text, example("two_tetrahedra").read_bytes()))
+    browser.run("document.querySelector('.hint button').click()")
+    yield "browser: the faces of a hint", browser.run("view.chosen.faces.map(([face]) => face.entity).join()") == "13,29"
+    yield "browser: a hint is told", browser.run("document.getElementById('spoken').textContent") == "bodies shell 1 pieces 2"
+    browser.run("document.querySelector('.hint button').click()")
+    yield "browser: the faces of a hint are hidden again", browser.run("view.chosen === null") and is_quiet(browser)
+
+
 def of_fingers(browser, folder):
     """A tap, one finger that turns, two that move and pinch."""
     open_page(browser, written(folder, "touched", 3, (RECORDED / "77_pinched_edge.3.txt").read_text(), example("77_pinched_edge").read_bytes()))
@@ -487,7 +498,7 @@ def checks(folder, programs, skipped):
         return
     browser = chromium.Browser()
     try:
-        for run in (of_recorded, of_pinched_edge, of_fingers, of_media, of_outlines, of_zoom, of_markup):
+        for run in (of_recorded, of_pinched_edge, of_hint, of_fingers, of_media, of_outlines, of_zoom, of_markup):
             yield from run(browser, folder)
         yield from of_surfaces(browser, folder, programs.where)
         yield from of_index(browser, folder, programs)

@@ -4,13 +4,16 @@ PLANE = 108, 0, [0, 0, 1, 0, 0, 0, 0, 0, 0]
 
 
 def filled(words, width):
-    """The words on lines of so many columns; a word that doesn't fit begins the next line."""
+    """The words on lines of so many columns; a word that doesn't fit begins the next line, and one that is longer goes on there."""
     line = ""
     for word in words:
-        if len(line) + len(word) > width:
+        if line and len(line) + len(word) > width:
             yield line.ljust(width)
             line = ""
         line += word
+        while len(line) > width:
+            yield line[:width]
+            line = line[width:]
     yield line.ljust(width)
 
 

@@ -1,12 +1,20 @@
 """`igesolid-where`: the second checker's text, the shapes of its lines (docs/WHERE.md), and `certify`'s verdict as its first line.
 
 Over the examples, the inputs of the tests, the harmed files of `layout`, files that are made at random (tests/surfaces.py, some of solids that
-share shells, and tests/lattices.py) and files that are changed at random.
+share shells, and tests/lattices.py), files that are changed at random, and solids that are made at random and mostly broken.
+
+  python3 tests/where.py [--count N] [--seed S] [--jobs N]             N files
+  python3 tests/where.py --solids [--count N] [--seed S] [--jobs N]    N solids
+
+These print each check that fails, how many texts have each hint, and 'N passed, M failed' last. Case I of seed S is always the same.
 """
 import argparse
+import collections
+import concurrent.futures
 import itertools
 import pathlib
 import random
+import re
 import sys
 import tempfile
 
@@ -21,10 +29,13 @@ from surfaces import surface_text
 
 TOP = pathlib.Path(__file__).resolve().parent.parent
 DOCS = TOP / "docs"
-LARGEST, RANDOM_CASES, MORE_CASES = 60_000, 200, 200
+LARGEST, RANDOM_CASES, MORE_CASES, SOLIDS, MORE_SOLIDS = 60_000, 200, 200, 100, 900
 USAGE = b"usage: igesolid-where FILE [N [all]]\n"
 
 FIRST_WORDS = "closed", "fail", "bad", "solids"
+HINT = re.compile(rb"(?m)^hint ([a-z-]+)")
+# The hints on shells of the page.
+SHELL_HINT = re.compile(r"(?m)^\| \d \| `hint ([a-z-]+)")
 
 
 def has_shape(text, sentences):
@@ -59,6 +70,7 @@ class Wheres:
     def __init__(self, folder, program, certifier):
         self.file = folder / "where.igs"
         self.runner, self.certifier = Runner(program), Runner(certifier)
+        self.hints = collections.Counter()
         where.sentences(DOCS)
         self.sentences = {sentence for sentence in where.DOC.values() if isinstance(sentence, str)}
 
@@ -70,11 +82,17 @@ class Wheres:
                 yield f"{name}: where FILE {' '.join(words)}", self.is_owed(words, data)
             yield f"{name}: the first line of where FILE {number}", self.is_verdict(number)
 
+    def solid_checks(self, name, data):
+        """Of a file of one solid, entry 1."""
+        self.file.write_bytes(data)
+        for words in (["1"], ["1", "all"]):
+            yield f"{name}: where FILE {' '.join(words)}", self.is_owed(words, data)
+
     def is_owed(self, words, data):
         status, text, error = self.runner.run([str(self.file), *words])
-        if (status, text) != where.answer(words, data) or error:
-            return False
-        return has_shape(text, self.sentences)
+        owed = where.answer(words, data)
+        self.hints.update(set(HINT.findall(owed[1])))
+        return (status, text) == owed and not error and has_shape(text, self.sentences)
 
     def is_verdict(self, number):
         status, text, _ = self.runner.run([str(self.file), str(number)])
@@ -108,6 +126,14 @@ def random_files(cases, seed):
         yield f"case {case} of seed {seed}", data if rng.random() < 0.4 else changed_file(rng, data)
 
 
+def solids(cases, seed):
+    """Files of one solid, which is broken in most of them."""
+    for case in cases:
+        rng = random.Random(f"solid {seed} {case}")
+        made = rng.choice([lattice_text, lattice_text, lattice_text, surface_text])
+        yield f"solid {case} of seed {seed}", made(rng)
+
+
 def words_checks(runner, file):
     """Words of no form give the usage line; a file that isn't there can't be read."""
     for words in ([], ["a", "0"], ["a", "1", "each"], ["a", "1", "all", "x"], ["a", "x"], ["a", "12345678"]):
@@ -120,32 +146,58 @@ def random_checks(wheres, cases, seed=1):
         yield from wheres.checks(name, data)
 
 
+def solids_checks(wheres, cases, seed=1):
+    for name, data in solids(cases, seed):
+        yield from wheres.solid_checks(name, data)
+
+
 def checks(folder, certifier, program):
     wheres = Wheres(folder, program, certifier)
     for name, data in itertools.chain(files(), bad_files()):
         yield from wheres.checks(name, data)
     yield from random_checks(wheres, range(RANDOM_CASES))
+    yield from solids_checks(wheres, range(SOLIDS))
     yield from words_checks(wheres.runner, wheres.file)
 
 
 def more_checks(folder, certifier, program):
-    """Further cases."""
-    return random_checks(Wheres(folder, program, certifier), range(RANDOM_CASES, RANDOM_CASES + MORE_CASES))
+    """Further cases; each hint on shells is due in some of the solids."""
+    wheres = Wheres(folder, program, certifier)
+    yield from random_checks(wheres, range(RANDOM_CASES, RANDOM_CASES + MORE_CASES))
+    yield from solids_checks(wheres, range(SOLIDS, SOLIDS + MORE_SOLIDS))
+    for hint in SHELL_HINT.findall((DOCS / "WHERE.md").read_text()):
+        yield f"solids of which hint {hint} is due", wheres.hints[hint.encode()] > 0
+
+
+def run_cases(run, cases, seed):
+    """What these cases give: the names of the checks that fail, how many pass, and how often each hint is due."""
+    failed, passed, chosen = [], 0, programs.chosen()
+    with tempfile.TemporaryDirectory(prefix="igesolid-where-") as folder:
+        wheres = Wheres(pathlib.Path(folder), chosen.where, chosen.igesolid)
+        for name, held in run(wheres, cases, seed):
+            passed += bool(held)
+            failed += [] if held else [name]
+    return failed, passed, wheres.hints
 
 
 def main():
     parser = argparse.ArgumentParser(description="Runs random cases alone: case I of seed S is always the same.")
     parser.add_argument("--count", type=int, default=RANDOM_CASES + MORE_CASES)
     parser.add_argument("--seed", type=int, default=1)
+    parser.add_argument("--jobs", type=int, default=1)
+    parser.add_argument("--solids", action="store_true", help="solids alone, most of them broken")
     options = parser.parse_args()
-    passed = failed = 0
-    with tempfile.TemporaryDirectory(prefix="igesolid-where-") as folder:
-        chosen = programs.chosen()
-        wheres = Wheres(pathlib.Path(folder), chosen.where, chosen.igesolid)
-        for name, held in random_checks(wheres, range(options.count), options.seed):
-            passed, failed = passed + bool(held), failed + (not held)
-            if not held:
+    run = solids_checks if options.solids else random_checks
+    failed = passed = 0
+    hints = collections.Counter()
+    with concurrent.futures.ProcessPoolExecutor(options.jobs) as pool:
+        shares = [pool.submit(run_cases, run, range(options.count)[job :: options.jobs], options.seed) for job in range(options.jobs)]
+        for share in concurrent.futures.as_completed(shares):
+            names, held, due = share.result()
+            failed, passed, hints = failed + len(names), passed + held, hints + due
+            for name in names:
                 print(name)
+    print(", ".join(f"{hint.decode()} {count}" for hint, count in hints.most_common()))
     print(f"{passed} passed, {failed} failed")
     return 1 if failed else 0
 

@@ -389,6 +389,16 @@ export function* faults({ file, texts }) {
   }
 }
 
+/** The faces that a hint names are shown; of bodies, which have many, none. */
+export function* hints({ file, texts }) {
+  const { name, number, text } = texts.find(it => it.name === "two_tetrahedra");
+  const facesOf = told => sceneOf(name, number, told, file(name)).hints
+    .map(it => it.faces.map(([face]) => face.entity).join());
+  const told = text.replace(/^body \d faces 4 first (.*)$/gm, "remove $1\n  same edges face $1");
+  yield ["picture: the faces that a hint names", facesOf(told).join(";") === "13,29"];
+  yield ["picture: the faces of bodies", facesOf(text).join(";") === ""];
+}
+
 function markedIn({ first, lines, marks }) {
   return marks.map(([line, column, length]) => lines[line - first]
     .slice(column - 1, column - 1 + length)).join("");

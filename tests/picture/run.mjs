@@ -4,7 +4,7 @@
  * is changed at random. Prints a line for each check: its name, a tab, and whether it holds.
  */
 import { readdirSync, readFileSync } from "node:fs";
-import { areas, curves, faults, offsets, randomGeometry, vertices } from "./checks.mjs";
+import { areas, curves, faults, hints, offsets, randomGeometry, vertices } from "./checks.mjs";
 import { refinement } from "./refinement.mjs";
 
 const top = new URL("../../", import.meta.url);
@@ -27,6 +27,7 @@ const context = {
     return { name, number: Number(number), text: readFileSync(new URL(it, recorded), "utf8") };
   }),
 };
-for (const checks of [curves, areas, offsets, vertices, refinement, faults, randomGeometry]) {
+const all = [curves, areas, offsets, vertices, refinement, faults, hints, randomGeometry];
+for (const checks of all) {
   for (const [name, holds] of checks(context)) console.log(`${name}\t${holds ? "yes" : "no"}`);
 }

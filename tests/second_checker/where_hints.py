@@ -191,9 +191,10 @@ def doubled_hints(view, text):
 
 
 def extra_hints(view, text):
-    """The piece is looked for among all, as the page has it."""
-    count = len(view.shell.faces)
-    pieces = [piece for piece in pieces_of(view) if 2 * len(piece) < count] if view.unpaired else []
+    """A piece without a row of some edge that isn't paired is passed over: without it that edge is as before."""
+    count, torn = len(view.shell.faces), [faces_at(view, edge) for edge in view.unpaired]
+    pieces = [piece for piece in pieces_of(view) if 2 * len(piece) < count] if torn else []
+    pieces = [piece for piece in pieces if all(not set(piece).isdisjoint(faces) for faces in torn)]
     found = [(len(piece), -piece[0], piece) for piece in pieces if are_closed(view, others(view, piece))]
     if found:
         piece = min(found)[2]
