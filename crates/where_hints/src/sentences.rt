@@ -53,7 +53,7 @@ fn hint_sentence(hint: Hint) -> &'static str
             "  Only faces are missing: taken as an open shell this one is sound, as\n  igesolid open certifies. Each rim is a ring of edges with a face on one side\n  only. Fill it with a face; two rims may also be the ends of one missing\n  wall.\n"
         }
         Hint::Turned => {
-            "  These faces are inside out against the others that edges join them to: with\n  their flags changed (their normals reversed) each edge there that is used\n  twice is used once each way. This is the smaller of the two sides; igesolid\n  reorient FILE N writes the file with these flags.\n"
+            "  These faces are inside out against the others that edges join them to: with\n  their flags changed (their normals reversed) each edge there that is used\n  twice is used once each way. This is the smaller of the two sides; igesolid\n  reorient FILE N writes the solid with flags that fit, if some do.\n"
         }
         Hint::Touching => {
             "  These edges are used more than twice, as often along as against: bodies, or\n  two sides of one, touch along the edge, and there is no thickness there.\n  Some systems accept this. Part the sides, or let them overlap; if the touch\n  is meant, give each two faces that bound the same side an edge of their own.\n"
