@@ -104,13 +104,19 @@ one_more : (faces : List FaceUse) (n : ℕ) (f : FaceUse) → slice_get faces n 
 one_more faces n f at (first, x, found) = by_copy (may_decided faces f)
   where
     by_first : (key : List ℕ) → MayBeCopy faces f → IsKey (face_edges f) key → (o : Option ℕ) → first key ≡ o → Found faces (n + 1)
-    by_first key may is (Some i) e =
-        (first, x ++ (n, i) ∷ [], face_added faces n f (Some key) first first x (x ++ (n, i) ∷ []) at (may, is) found
-        (subst (λ (o : Option ℕ). AddsTo n key o first first x (x ++ (n, i) ∷ [])) (sym e) ((λ q. refl), refl)))
+    by_first key may is (Some i) e = (
+      first,
+      x ++ (n, i) ∷ [],
+      face_added faces n f (Some key) first first x (x ++ (n, i) ∷ []) at (may, is) found
+          (subst (λ (o : Option ℕ). AddsTo n key o first first x (x ++ (n, i) ∷ [])) (sym e) ((λ q. refl), refl)),
+    )
     by_first key may is None e =
-        let next : List ℕ → Option ℕ = λ q. if pointwise ◌==◌ key q then Some n else first q in
-        (next, x, face_added faces n f (Some key) first next x x at (may, is) found
-        (subst (λ (o : Option ℕ). AddsTo n key o first next x x) (sym e) ((λ q. refl), refl)))
+        let next : List ℕ → Option ℕ = λ q. if pointwise ◌==◌ key q then Some n else first q in (
+          next,
+          x,
+          face_added faces n f (Some key) first next x x at (may, is) found
+              (subst (λ (o : Option ℕ). AddsTo n key o first next x x) (sym e) ((λ q. refl), refl)),
+        )
 
     by_copy : Decided (MayBeCopy faces f) → Found faces (n + 1)
     by_copy (inl may) = let k = some_key (face_edges f) in by_first k.0 may k.1 (first k.0) refl

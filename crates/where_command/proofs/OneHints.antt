@@ -37,21 +37,21 @@ one_shell s k h x y (a, missing_a) (b, missing_b) =
     let pinched : x.pinched ≡ y.pinched = one_exactly (ArePinched s h) x.pinched y.pinched a.pinched b.pinched in
     let shared : x.shared ≡ y.shared = one_exactly (AreShared s k d) x.shared y.shared a.shared b.shared in
     ap (λ z. record { bodies = z; doubled = x.doubled; missing = x.missing; turns = x.turns; touching = x.touching; crowded = x.crowded; pinched = x.pinched; shared = x.shared })
-        bodies
+    bodies
     ∙ (ap (λ z. record { bodies = y.bodies; doubled = z; missing = x.missing; turns = x.turns; touching = x.touching; crowded = x.crowded; pinched = x.pinched; shared = x.shared })
-        doubled
+    doubled
     ∙ (ap (λ z. record { bodies = y.bodies; doubled = y.doubled; missing = z; turns = x.turns; touching = x.touching; crowded = x.crowded; pinched = x.pinched; shared = x.shared })
-        missing
+    missing
     ∙ (ap (λ z. record { bodies = y.bodies; doubled = y.doubled; missing = y.missing; turns = z; touching = x.touching; crowded = x.crowded; pinched = x.pinched; shared = x.shared })
-        turns
+    turns
     ∙ (ap (λ z. record { bodies = y.bodies; doubled = y.doubled; missing = y.missing; turns = y.turns; touching = z; crowded = x.crowded; pinched = x.pinched; shared = x.shared })
-        touching
+    touching
     ∙ (ap (λ z. record { bodies = y.bodies; doubled = y.doubled; missing = y.missing; turns = y.turns; touching = y.touching; crowded = z; pinched = x.pinched; shared = x.shared })
-        crowded
+    crowded
     ∙ (ap (λ z. record { bodies = y.bodies; doubled = y.doubled; missing = y.missing; turns = y.turns; touching = y.touching; crowded = y.crowded; pinched = z; shared = x.shared })
-        pinched
+    pinched
     ∙ ap (λ z. record { bodies = y.bodies; doubled = y.doubled; missing = y.missing; turns = y.turns; touching = y.touching; crowded = y.crowded; pinched = y.pinched; shared = z })
-        shared))))))
+    shared))))))
 
 one_of_shells : (s : SolidData) (ks : List ℕ) (xs ys : List Hints) → All (λ k. k < length s.shells) ks → AreHintsOf s ks xs → AreHintsOf s ks ys → xs ≡ ys
 one_of_shells s ks xs ys inside a b =

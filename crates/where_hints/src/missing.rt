@@ -100,12 +100,7 @@ fn put_at_line(out: &mut Out, file: &File, key: VertexKey) -> Result<(), NoMemor
 }
 
 // The least vertex of a rim.
-fn put_least(
-    out: &mut Out,
-    on: &Subject<'_>,
-    found: &Rims,
-    rim: u32,
-) -> Result<(), NoMemory>
+fn put_least(out: &mut Out, on: &Subject<'_>, found: &Rims, rim: u32) -> Result<(), NoMemory>
     ensures { OnOk result (out.new ≡ out.old
         ++ at_line_if on.now.file.now on.now.solid.now (least_of (rim_ends found.now.rows found.now.firsts rim))) }
 {
