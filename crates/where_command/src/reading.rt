@@ -37,10 +37,7 @@ fn bad_file_reply(alloc: Global, bytes: &[u8], fault: LineFault) -> Result<Reply
 }
 
 // What the bytes contain and where its entries stand, or the reply where they are no file.
-fn contents_of(
-    alloc: Global,
-    bytes: &[u8],
-) -> Result<Result<(File, Places), Reply>, NoMemory>
+fn contents_of(alloc: Global, bytes: &[u8]) -> Result<Result<(File, Places), Reply>, NoMemory>
     requires { length bytes.now ≤ FILE_LIMIT }
     ensures found { IfOk result (λ r. MatchResult r (λ p. HasPlaces bytes.now p.0 p.1)
         (λ reply. OfNoFile bytes.now reply.answer reply.text)) }
