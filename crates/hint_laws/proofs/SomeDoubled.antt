@@ -95,7 +95,8 @@ some_key xs =
 may_decided : (faces : List FaceUse) (f : FaceUse) → Decided (MayBeCopy faces f)
 may_decided faces f =
     decided_alike (λ (some, crowded). record { some = some; crowded = crowded }) (λ m. (m.some, m.crowded))
-    (decided_both (decided_below 0 (length (face_edges f))) (decided_all (IsCrowded faces) (λ e. decided_below 2 (count_of e (flat_map face_edges faces))) (face_edges f)))
+    (decided_both (decided_below 0 (length (face_edges f)))
+    (decided_all (IsCrowded faces) (λ e. decided_below 2 (count_of e (flat_map face_edges faces))) (face_edges f)))
 
 abbrev Found : List FaceUse → ℕ → Type 0
 Found faces n = (first : List ℕ → Option ℕ) × (x : List (ℕ × ℕ)) × AreFound faces n first x

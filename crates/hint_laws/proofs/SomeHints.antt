@@ -18,7 +18,8 @@ use Rattle.hint_laws.proofs.SomeDoubled.{some_doubled}
 use Rattle.hint_laws.proofs.SomeMissing.{some_missing}
 use Rattle.hint_laws.proofs.SomeTurns.{some_turning}
 
-pub some_hints : (s : SolidData) (k : ℕ) (h : Shell) → IsNumberedSolid s → slice_get s.shells k ≡ Some h → (x : Hints) × AreHints s k h x × IsExactly (AreMissing s h) x.missing
+pub some_hints : (s : SolidData) (k : ℕ) (h : Shell) → IsNumberedSolid s → slice_get s.shells k ≡ Some h
+    → (x : Hints) × AreHints s k h x × IsExactly (AreMissing s h) x.missing
 some_hints s k h numbered at =
     let d : ShellRows = shell_rows s h in
     let rows : AreRows d = rows_whole s k h numbered at in

@@ -63,7 +63,8 @@ some_rims rows =
 sound_decided : (s : SolidData) (h : Shell) → Decided (IsSoundOpen s h)
 sound_decided s h = by_first (all_or_first_false (by_themselves s h (all_faces h)))
   where
-    by_first : AllHold (open_obligations (by_themselves s h (all_faces h))) ⊎ ((x : OpenFailing) × FirstFalse (open_obligations (by_themselves s h (all_faces h))) x)
+    by_first : AllHold (open_obligations (by_themselves s h (all_faces h)))
+        ⊎ ((x : OpenFailing) × FirstFalse (open_obligations (by_themselves s h (all_faces h))) x)
         → Decided (IsSoundOpen s h)
     by_first (inl all) = inl all
     by_first (inr (x, first)) = inr (λ all. no_first_false (open_obligations (by_themselves s h (all_faces h))) x all first)

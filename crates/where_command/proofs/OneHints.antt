@@ -12,8 +12,9 @@ use Rattle.shell_classes.specs.Exactly.{IsExactly}
 use Rattle.shell_hints.specs.Counted.{AreCrowded, ArePinched, AreShared, AreTouching}
 use Rattle.doubled_faces.specs.Doubled.{AreDoubled}
 use Rattle.open_hint.specs.Missing.{AreMissing}
-use Rattle.face_hints.specs.Bodies.{AreBodies}
-use Rattle.turn_hint.specs.Turns.{AreTurns}
+use Rattle.shell_rims.specs.Rims.{Rims}
+use Rattle.face_hints.specs.Bodies.{AreBodies, Bodies}
+use Rattle.turn_hint.specs.Turns.{AreTurns, Turns}
 use Rattle.solid_faults.specs.Faults.{Faults}
 use Rattle.where_hints.specs.Facts.{Hints}
 use Rattle.where_text.specs.declared.listing.Listing.{Listing}
@@ -24,6 +25,18 @@ one_exactly : {A : Type 0} (P : A → Type 0) (a b : Option A) → IsExactly P a
 one_exactly P None None p q = refl
 one_exactly P (Some x) b p q = let here = p x in let there = q x in sym (there.1 (here.0 refl))
 one_exactly P None (Some y) p q = let here = p y in let there = q y in here.1 (there.0 refl)
+
+abbrev hints : Option Bodies → Option (List (ℕ × ℕ)) → Option Rims → Option Turns → Option ℕ → Option ℕ → Option ℕ → Option ℕ → Hints
+hints bodies doubled missing turns touching crowded pinched shared = record {
+  bodies = bodies;
+  doubled = doubled;
+  missing = missing;
+  turns = turns;
+  touching = touching;
+  crowded = crowded;
+  pinched = pinched;
+  shared = shared;
+}
 
 one_shell : (s : SolidData) (k : ℕ) (h : Shell) (x y : Hints) → AreShellHints s k h x → AreShellHints s k h y → x ≡ y
 one_shell s k h x y (a, missing_a) (b, missing_b) =
@@ -36,22 +49,14 @@ one_shell s k h x y (a, missing_a) (b, missing_b) =
     let crowded : x.crowded ≡ y.crowded = one_exactly (AreCrowded d) x.crowded y.crowded a.crowded b.crowded in
     let pinched : x.pinched ≡ y.pinched = one_exactly (ArePinched s h) x.pinched y.pinched a.pinched b.pinched in
     let shared : x.shared ≡ y.shared = one_exactly (AreShared s k d) x.shared y.shared a.shared b.shared in
-    ap (λ z. record { bodies = z; doubled = x.doubled; missing = x.missing; turns = x.turns; touching = x.touching; crowded = x.crowded; pinched = x.pinched; shared = x.shared })
-    bodies
-    ∙ (ap (λ z. record { bodies = y.bodies; doubled = z; missing = x.missing; turns = x.turns; touching = x.touching; crowded = x.crowded; pinched = x.pinched; shared = x.shared })
-    doubled
-    ∙ (ap (λ z. record { bodies = y.bodies; doubled = y.doubled; missing = z; turns = x.turns; touching = x.touching; crowded = x.crowded; pinched = x.pinched; shared = x.shared })
-    missing
-    ∙ (ap (λ z. record { bodies = y.bodies; doubled = y.doubled; missing = y.missing; turns = z; touching = x.touching; crowded = x.crowded; pinched = x.pinched; shared = x.shared })
-    turns
-    ∙ (ap (λ z. record { bodies = y.bodies; doubled = y.doubled; missing = y.missing; turns = y.turns; touching = z; crowded = x.crowded; pinched = x.pinched; shared = x.shared })
-    touching
-    ∙ (ap (λ z. record { bodies = y.bodies; doubled = y.doubled; missing = y.missing; turns = y.turns; touching = y.touching; crowded = z; pinched = x.pinched; shared = x.shared })
-    crowded
-    ∙ (ap (λ z. record { bodies = y.bodies; doubled = y.doubled; missing = y.missing; turns = y.turns; touching = y.touching; crowded = y.crowded; pinched = z; shared = x.shared })
-    pinched
-    ∙ ap (λ z. record { bodies = y.bodies; doubled = y.doubled; missing = y.missing; turns = y.turns; touching = y.touching; crowded = y.crowded; pinched = y.pinched; shared = z })
-    shared))))))
+    ap (λ z. hints z x.doubled x.missing x.turns x.touching x.crowded x.pinched x.shared) bodies
+    ∙ (ap (λ z. hints y.bodies z x.missing x.turns x.touching x.crowded x.pinched x.shared) doubled
+    ∙ (ap (λ z. hints y.bodies y.doubled z x.turns x.touching x.crowded x.pinched x.shared) missing
+    ∙ (ap (λ z. hints y.bodies y.doubled y.missing z x.touching x.crowded x.pinched x.shared) turns
+    ∙ (ap (λ z. hints y.bodies y.doubled y.missing y.turns z x.crowded x.pinched x.shared) touching
+    ∙ (ap (λ z. hints y.bodies y.doubled y.missing y.turns y.touching z x.pinched x.shared) crowded
+    ∙ (ap (λ z. hints y.bodies y.doubled y.missing y.turns y.touching y.crowded z x.shared) pinched
+    ∙ ap (λ z. hints y.bodies y.doubled y.missing y.turns y.touching y.crowded y.pinched z) shared))))))
 
 one_of_shells : (s : SolidData) (ks : List ℕ) (xs ys : List Hints) → All (λ k. k < length s.shells) ks → AreHintsOf s ks xs → AreHintsOf s ks ys → xs ≡ ys
 one_of_shells s ks xs ys inside a b =
