@@ -93,10 +93,14 @@ body_text listing f h k firsts bodies = if nat_lt 1 (length bodies) then body_li
 abbrev pub double_lines : Contents → Shell → ℕ × ℕ → List ℕ
 double_lines f h p = numbered_line (codes "remove") f h p.0 ++ numbered_line (codes "  same edges face") f h p.1
 
+-- these copies, as many as are listed
+abbrev pub doubles_text : Listing → Contents → Shell → List (ℕ × ℕ) → List ℕ
+doubles_text listing f h doubles = flat_map (double_lines f h) (shown listing doubles) ++ more_items listing (length doubles)
+
 unfoldable pub doubled_lines : Listing → Contents → Shell → ℕ → List (ℕ × ℕ) → List ℕ
 doubled_lines listing f h k doubles =
     hint_head hint.DoubledFaces k ++ number_words (codes " faces") (length doubles) ++ hint_end hint.DoubledFaces
-    ++ flat_map (double_lines f h) (shown listing doubles) ++ more_items listing (length doubles)
+    ++ doubles_text listing f h doubles
 
 -- an edge, its list and its index there, and the face on its one side
 unfoldable pub edge_line : Contents → EdgeKey → EntryNo → List ℕ
@@ -135,12 +139,19 @@ rim_lines listing f s h x (i, rim) =
     rim_head (i + 1) (length (rim_rows x.firsts rim)) ++ at_line_if f s (least_of (rim_ends x.rows x.firsts rim))
     ++ edges_text listing f s h x (rim_rows x.firsts rim)
 
+-- these rims, as many as are listed
+abbrev pub rims_text : Listing → Contents → SolidData → Shell → Rims → List ℕ → List ℕ
+rims_text listing f s h x rims = flat_map (rim_lines listing f s h x) (enumerate_from 0 (shown listing rims)) ++ more_items listing (length rims)
+
+-- the head, with the numbers of edges and rims, and the sentence
+unfoldable pub missing_head : ℕ → ℕ → ℕ → List ℕ
+missing_head k edges rims =
+    hint_head hint.MissingFaces k ++ number_words (codes " edges") edges ++ number_words (codes " rims") rims ++ hint_end hint.MissingFaces
+
 -- the rims where faces are missing
 unfoldable pub missing_lines : Listing → Contents → SolidData → Shell → ℕ → Rims → List ℕ
 missing_lines listing f s h k x =
-    hint_head hint.MissingFaces k ++ number_words (codes " edges") (length x.rows) ++ number_words (codes " rims") (length (classes_of x.firsts))
-    ++ hint_end hint.MissingFaces ++ flat_map (rim_lines listing f s h x) (enumerate_from 0 (shown listing (classes_of x.firsts)))
-    ++ more_items listing (length (classes_of x.firsts))
+    missing_head k (length x.rows) (length (classes_of x.firsts)) ++ rims_text listing f s h x (classes_of x.firsts)
 
 -- the faces to turn in a patch
 unfoldable pub turn_lines : Listing → Contents → Shell → ℕ → List ℕ → Turn → List ℕ

@@ -1,7 +1,7 @@
 //! Faces that are there twice.
 
 ghost use Rattle.std.specs.Prelude.{◌≡◌, ◌++◌, ◌<◌, OnOk, Some, flat_map, length, slice_get};
-ghost use Rattle.where_hints.specs.Lines.{double_lines, double_named, doubled_lines, doubled_named};
+ghost use Rattle.where_hints.specs.Lines.{double_lines, double_named, doubled_lines, doubled_named, doubles_text};
 
 use crate::counts::{put_count, put_end, put_head};
 use crate::naming::{Subject, put_numbered};
@@ -47,6 +47,21 @@ fn put_each_double(
     Ok(())
 }
 
+fn put_doubles(
+    out: &mut Out,
+    named: &mut EntryNumbers,
+    on: &Subject<'_>,
+    pairs: &[(u32, u32)],
+) -> Result<(), NoMemory>
+    ensures text { OnOk result (out.new
+        ≡ out.old ++ doubles_text on.now.listing on.now.file.now on.now.shell.now pairs.now) }
+    ensures named { OnOk result (named.new
+        ≡ named.old ++ doubled_named on.now.listing on.now.shell.now pairs.now) }
+{
+    put_each_double(out, named, on, shown_members(on.listing, pairs))?;
+    put_more_items(out, pairs.len() - on.listing.count(pairs.len()))
+}
+
 /// The copies, each with the first such face.
 #[tactic(auto, unfolding(crate::specs::Lines::doubled_lines))]
 pub(crate) fn put_doubled(
@@ -63,6 +78,5 @@ pub(crate) fn put_doubled(
     put_head(out, Hint::DoubledFaces, on.at)?;
     put_count(out, " faces", pairs.len())?;
     put_end(out, Hint::DoubledFaces)?;
-    put_each_double(out, named, on, shown_members(on.listing, pairs))?;
-    put_more_items(out, pairs.len() - on.listing.count(pairs.len()))
+    put_doubles(out, named, on, pairs)
 }

@@ -1,10 +1,10 @@
 //! The rims where faces are missing.
 
-ghost use Rattle.std.specs.Prelude.{◌≡◌, ◌++◌, ◌∷◌, [], ◌<◌, ◌^◌, OnOk, Some, flat_map};
+ghost use Rattle.std.specs.Prelude.{◌≡◌, ◌++◌, ◌∷◌, [], ◌<◌, ◌^◌, OnOk, Some, flat_map, slice_get};
 ghost use Rattle.std.specs.List.{enumerate_from};
 ghost use Rattle.shell_rims.specs.Rims.{least_of, rim_ends};
 ghost use Rattle.where_text.specs.Listing.{shown};
-ghost use Rattle.where_hints.specs.Lines.{at_line, at_line_if, edge_line, edge_named, edge_of, edges_text, missing_lines, missing_named, rim_head, rim_lines, rim_named, row_line, row_named};
+ghost use Rattle.where_hints.specs.Lines.{at_line, at_line_if, edge_line, edge_named, edge_of, edges_text, missing_head, missing_lines, missing_named, rim_head, rim_lines, rim_named, rims_text, row_line, row_named};
 
 use crate::counts::{put_count, put_end, put_head};
 use crate::naming::Subject;
@@ -13,7 +13,7 @@ use edge_uses::Row;
 use iges_base::{EntryNo, NoMemory, Out};
 use iges_params::File;
 use shell_rims::Rims;
-use solid_data::{EdgeKey, VertexKey};
+use solid_data::{EdgeKey, ShellAt, VertexKey};
 use where_text::{
     EntryNumbers, put_face, put_more_facts, put_more_items, put_number, put_vertex, shown_members,
 };
@@ -37,6 +37,12 @@ fn put_edge_line(
     out.put(b"\n")
 }
 
+fn row_at(found: &Rims, r: u32) -> Option<Row>
+    ensures { result ≡ slice_get found.now.rows r }
+{
+    found.rows().get(r as usize).copied()
+}
+
 fn put_row(
     out: &mut Out,
     named: &mut EntryNumbers,
@@ -54,6 +60,22 @@ fn put_row(
     }
 }
 
+fn put_row_if(
+    out: &mut Out,
+    named: &mut EntryNumbers,
+    on: &Subject<'_>,
+    row: Option<Row>,
+) -> Result<(), NoMemory>
+    ensures text { OnOk result (out.new ≡ out.old
+        ++ row_line on.now.file.now on.now.solid.now on.now.shell.now row) }
+    ensures named { OnOk result (named.new ≡ named.old ++ row_named on.now.shell.now row) }
+{
+    match row {
+        None => Ok(()),
+        Some(row) => put_row(out, named, on, row),
+    }
+}
+
 // The edge of a row, which is told by its place.
 fn put_edge(
     out: &mut Out,
@@ -66,10 +88,7 @@ fn put_edge(
         ++ edge_of on.now.file.now on.now.solid.now on.now.shell.now found.now r) }
     ensures named { OnOk result (named.new ≡ named.old ++ edge_named on.now.shell.now found.now r) }
 {
-    match found.rows().get(r as usize) {
-        None => Ok(()),
-        Some(row) => put_row(out, named, on, *row),
-    }
+    put_row_if(out, named, on, row_at(found, r))
 }
 
 fn put_each_edge(
@@ -173,6 +192,32 @@ fn put_each_rim(
     Ok(())
 }
 
+fn put_rims(
+    out: &mut Out,
+    named: &mut EntryNumbers,
+    on: &Subject<'_>,
+    found: &Rims,
+    rims: &[u32],
+) -> Result<(), NoMemory>
+    ensures text { OnOk result (out.new ≡ out.old
+        ++ rims_text on.now.listing on.now.file.now on.now.solid.now on.now.shell.now found.now rims.now) }
+    ensures named { OnOk result (named.new ≡ named.old
+        ++ flat_map (rim_named on.now.listing on.now.shell.now found.now) (shown on.now.listing rims.now)) }
+{
+    put_each_rim(out, named, on, found, shown_members(on.listing, rims))?;
+    put_more_items(out, rims.len() - on.listing.count(rims.len()))
+}
+
+#[tactic(auto, unfolding(crate::specs::Lines::missing_head))]
+fn put_missing_head(out: &mut Out, at: ShellAt, edges: usize, rims: usize) -> Result<(), NoMemory>
+    ensures { OnOk result (out.new ≡ out.old ++ missing_head at.0 edges rims) }
+{
+    put_head(out, Hint::MissingFaces, at)?;
+    put_count(out, " edges", edges)?;
+    put_count(out, " rims", rims)?;
+    put_end(out, Hint::MissingFaces)
+}
+
 /// The rims, each with its edges.
 #[tactic(auto, unfolding(crate::specs::Lines::missing_lines))]
 pub(crate) fn put_missing(
@@ -186,10 +231,6 @@ pub(crate) fn put_missing(
     ensures named { OnOk result (named.new ≡ named.old ++ missing_named on.now.listing on.now.shell.now found.now) }
 {
     let rims = found.rims();
-    put_head(out, Hint::MissingFaces, on.at)?;
-    put_count(out, " edges", found.rows().len())?;
-    put_count(out, " rims", rims.len())?;
-    put_end(out, Hint::MissingFaces)?;
-    put_each_rim(out, named, on, found, shown_members(on.listing, rims))?;
-    put_more_items(out, rims.len() - on.listing.count(rims.len()))
+    put_missing_head(out, on.at, found.rows().len(), rims.len())?;
+    put_rims(out, named, on, found, rims)
 }
