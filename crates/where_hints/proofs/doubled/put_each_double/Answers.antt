@@ -9,7 +9,7 @@ pairs-preserved c =
     let pairs = c.args.pairs.now in
     let pair = c.pair_at.result in
     let same : pair ≡ get_or pairs c.pairs.i pair =
-        same_Some pair (get_or pairs c.pairs.i pair) (sym c.pair_at.ensures ∙ slice_get-get_or pairs c.pairs.i pair c.pairs-test.true) in
+    same_Some pair (get_or pairs c.pairs.i pair) (sym c.pair_at.ensures ∙ slice_get-get_or pairs c.pairs.i pair c.pairs-test.true) in
     let lines = double_lines c.args.on.now.file.now c.args.on.now.shell.now in
     let faces = double_named c.args.on.now.shell.now in
     record {
