@@ -183,3 +183,13 @@ module _ (s : SolidData) (h : Shell) (x : Faults) (y : Failing) where
       let r = failing_faces h.faces x.firsts in
       let t = failing_vertices s x.linking in
       first_here (p ++ q ++ r ++ t) (map (shared_failing s) x.shared) y (behind (p ++ q ++ r) t y (both_none (p ++ q) r (both_none p q none no_pair) no_face) b)
+
+pub shared_first : (s : SolidData) (h : Shell) (x : Faults) (o : Option Failing) → map gap_failing x.gaps ≡ [] → map (unpaired_failing s) x.unpaired ≡ []
+    → failing_faces h.faces x.firsts ≡ [] → failing_vertices s x.linking ≡ [] → Firsts (map (shared_failing s) x.shared) o → Firsts (failing_of s h x) o
+shared_first s h x o none no_pair no_face no_vertex b =
+    let p = map gap_failing x.gaps in
+    let q = map (unpaired_failing s) x.unpaired in
+    let r = failing_faces h.faces x.firsts in
+    let t = failing_vertices s x.linking in
+    first_later (p ++ q ++ r ++ t) (map (shared_failing s) x.shared) o
+    (both_none (p ++ q ++ r) t (both_none (p ++ q) r (both_none p q none no_pair) no_face) no_vertex) b

@@ -1,4 +1,4 @@
-use Rattle.where_solids.proofs.FirstFailing.{face_first, gap_first, pair_first, vertex_first}
+use Rattle.where_solids.proofs.FirstFailing.{face_first, gap_first, pair_first, shared_first, vertex_first}
 use Rattle.where_solids.proofs.verdicts.first_failing.Goals as goal
 
 pub returns-in-Some : goal.returns-in-Some
@@ -20,3 +20,10 @@ returns-in-Some-first_unlinked c =
     vertex_first c.args.solid.now c.args.shell.now c.args.faults.now c.in-Some-first_unlinked.failing (rw c.gaps.ensures at c.in_default.ensures)
     (rw c.unpaired.ensures at c.in_default-first_unpaired.ensures)
     (rw (c.as_slice.ensures, c.firsts.ensures) at c.in_default-first_apart.ensures) (rw c.linking.ensures at c.in-Some-first_unlinked.ensures)
+
+pub returns : goal.returns
+returns c =
+    shared_first c.args.solid.now c.args.shell.now c.args.faults.now c.first_shared.result (rw c.gaps.ensures at c.in_default.ensures)
+    (rw c.unpaired.ensures at c.in_default-first_unpaired.ensures)
+    (rw (c.as_slice.ensures, c.firsts.ensures) at c.in_default-first_apart.ensures)
+    (rw c.linking.ensures at c.in_default-first_unlinked.ensures) (rw c.shared.ensures at c.first_shared.ensures)
