@@ -76,11 +76,17 @@ fn next_verdict(
     }
 }
 
-fn verdicts(alloc: Global, file: &File, solids: &[EntryNo]) -> Result<ItemList<Verdict>, NoMemory>
+// The verdict on each of these solids.
+fn judge_each(
+    alloc: Global,
+    walker: &mut Walker<'_>,
+    last: &mut LastNaming,
+    file: &File,
+    solids: &[EntryNo],
+) -> Result<ItemList<Verdict>, NoMemory>
+    requires { walker.old ≡ file.now }
     ensures { IfOk result (AreVerdicts file.now solids.now) }
 {
-    let mut walker = Walker::new(alloc, file);
-    let mut last = LastNaming::new(alloc, file.entry_count())?;
     let mut verdicts = ItemList::with_room(alloc, solids.len())?;
     'solids: for i in 0..solids.len() {
         let judged = Judged {
@@ -88,9 +94,18 @@ fn verdicts(alloc: Global, file: &File, solids: &[EntryNo]) -> Result<ItemList<V
             solids,
             verdicts: verdicts.as_slice(),
         };
-        let verdict = next_verdict(alloc, &mut walker, &mut last, &judged, solids[i])?;
+        let verdict = next_verdict(alloc, walker, last, &judged, solids[i])?;
         verdicts.push(verdict)?;
     }
+    Ok(verdicts)
+}
+
+fn verdicts(alloc: Global, file: &File, solids: &[EntryNo]) -> Result<ItemList<Verdict>, NoMemory>
+    ensures { IfOk result (AreVerdicts file.now solids.now) }
+{
+    let mut walker = Walker::new(alloc, file);
+    let mut last = LastNaming::new(alloc, file.entry_count())?;
+    let verdicts = judge_each(alloc, &mut walker, &mut last, file, solids)?;
     Ok(verdicts)
 }
 

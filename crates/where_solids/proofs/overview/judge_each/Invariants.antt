@@ -2,7 +2,7 @@ use Rattle.std.proofs.Common.{◌≡◌, ℕ, Some, length, slice_get}
 use Rattle.iges_base.specs.declared.entry_no.EntryNo.{EntryNo}
 use Rattle.solid_verdict.specs.Closed.{IsVerdictOn}
 use Rattle.solid_data.specs.declared.verdict.Verdict.{Verdict}
-use Rattle.where_solids.proofs.overview.verdicts.Given as goal
+use Rattle.where_solids.proofs.overview.judge_each.Given as goal
 
 abbrev pub invariant-solids : goal.invariant-solids
 invariant-solids l = record {

@@ -5,7 +5,7 @@ use Rattle.iges_base.specs.declared.entry_no.EntryNo.{EntryNo}
 use Rattle.iges_params.specs.Contents.{Contents}
 use Rattle.solid_verdict.specs.Closed.{IsVerdictOn}
 use Rattle.solid_data.specs.declared.verdict.Verdict.{Verdict}
-use Rattle.where_solids.proofs.overview.verdicts.Goals as goal
+use Rattle.where_solids.proofs.overview.judge_each.Goals as goal
 
 -- a verdict of a list with one more is among those before, or it is the last
 get_pushed : (xs : List Verdict) (x y : Verdict) (i : ℕ) → slice_get (xs ++ x ∷ []) i ≡ Some y → (slice_get xs i ≡ Some y) ⊎ ((i ≡ length xs) × (x ≡ y))
