@@ -1,0 +1,5 @@
+pub mod MateLemmas
+pub mod TornLemmas
+pub mod BodyLemmas
+pub mod AmongLemmas
+pub mod FoundLemmas

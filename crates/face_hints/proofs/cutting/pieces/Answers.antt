@@ -1,0 +1,25 @@
+use Rattle.std.proofs.Common.{sym, ◌∙◌, subst, ◌≡◌}
+use Rattle.shell_components.specs.Components.{AreInside, AreComponents}
+use Rattle.solid_faults.specs.Tallied.{AreTallied}
+use Rattle.face_hints.specs.Pieces.{mate_pairs}
+use Rattle.face_hints.proofs.MateLemmas.{mates_inside, pieces_of_labels}
+use Rattle.face_hints.proofs.cutting.pieces.Goals as goal
+
+pub components-requires-clause-inside : goal.components-requires-clause-inside
+components-requires-clause-inside c =
+    let t : AreTallied c.args.rows.now c.in_ok-tally.tally.span c.in_ok-tally.tally.seen =
+    record { rows = c.in_ok-tally.ensures.kept; span = c.in_ok-tally.ensures.span; tally = c.in_ok-tally.ensures.tally } in
+    let is : c.as_slice.result.now ≡ mate_pairs c.args.rows.now c.in_ok-tally.tally.span c.in_ok-tally.tally.seen = c.as_slice.ensures.value
+    ∙ c.in_ok-pairs.ensures in
+    subst (λ n. AreInside c.as_slice.result.now n) (sym c.face_count.ensures)
+    (subst (λ ps. AreInside ps c.args.rows.now.face_count) (sym is) (mates_inside c.args.rows.now c.in_ok-tally.tally.span c.in_ok-tally.tally.seen t))
+
+pub returns : goal.returns
+returns c =
+    let t : AreTallied c.args.rows.now c.in_ok-tally.tally.span c.in_ok-tally.tally.seen =
+    record { rows = c.in_ok-tally.ensures.kept; span = c.in_ok-tally.ensures.span; tally = c.in_ok-tally.ensures.tally } in
+    let is : c.as_slice.result.now ≡ mate_pairs c.args.rows.now c.in_ok-tally.tally.span c.in_ok-tally.tally.seen = c.as_slice.ensures.value
+    ∙ c.in_ok-pairs.ensures in
+    pieces_of_labels c.args.rows.now c.in_ok-tally.tally.span c.in_ok-tally.tally.seen c.in_ok-firsts.firsts.items t
+    (subst (λ ps. AreComponents ps c.args.rows.now.face_count c.in_ok-firsts.firsts.items) is
+    (subst (λ n. AreComponents c.as_slice.result.now n c.in_ok-firsts.firsts.items) c.face_count.ensures c.in_ok-firsts.ensures))

@@ -1,0 +1,5 @@
+pub mod Options
+pub mod SomeCounts
+pub mod SomeBodies
+pub mod SomeTurns
+pub mod SomeHints

@@ -1,0 +1,12 @@
+//! The hints on a shell can always be told.
+
+ghost use Rattle.solid_data.specs.Numbering.{IsNumberedSolid};
+ghost use Rattle.solid_data.specs.SolidData.{SolidData};
+ghost use Rattle.solid_data.specs.declared.solid.Shell.{Shell as AnyShell};
+ghost use Rattle.std.specs.Prelude.{◌≡◌, Some, slice_get, ℕ};
+ghost use Rattle.where_hints.specs.Facts.{AreHints, Hints};
+
+/// Of each shell of a solid each hint can be told: there are data of which its condition holds, or there are none.
+pub fn something_is_hinted()
+    ensures { (s : SolidData) (k : ℕ) (h : AnyShell) → IsNumberedSolid s → slice_get s.shells k ≡ Some h → (x : Hints) × AreHints s k h x }
+{}

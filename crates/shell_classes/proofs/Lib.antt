@@ -1,0 +1,4 @@
+pub mod Steps
+pub mod LeastLemmas
+pub mod Those
+pub mod PlaceLemmas

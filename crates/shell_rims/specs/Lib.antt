@@ -1,0 +1,3 @@
+pub mod LoneRows
+pub mod Only
+pub mod Rims

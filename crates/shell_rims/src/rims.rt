@@ -1,0 +1,205 @@
+//! The rims of a shell.
+
+ghost use Rattle.std.specs.Prelude.{◌≡◌, ◌++◌, ◌+◌, ◌<◌, ◌≤◌, ◌^◌, ◌==◌, ◌∷◌, [], All, Contains, IfOk, IfSome, IsNone, MatchOption, ◌↔◌, Some, length, map, slice_get, take};
+ghost use Rattle.std.specs.List.{AllByRecursion};
+ghost use Rattle.std.specs.List.Sorted.{IsStrictlyIncreasing};
+ghost use Rattle.edge_uses.specs.declared.row.Row.{Row as AnyRow};
+ghost use Rattle.solid_data.specs.Ring.{place_of as place_in};
+ghost use Rattle.shell_rims.specs.LoneRows.{lone_rows as all_lone};
+ghost use Rattle.shell_rims.specs.Only.{row_ends, end_pairs as all_end_pairs};
+ghost use Rattle.shell_rims.specs.Rims.{AreRims, IsLeast, ends_at};
+
+use crate::lone::lone_rows;
+use edge_uses::{Row, Rows, place_of};
+use iges_base::NoMemory;
+use shell_classes::{classes, grouped_leasts};
+use shell_components::{Groups, components};
+use solid_data::VertexId;
+use std::alloc::Global;
+use std::marker::Model;
+
+/// The edges of a shell that have one row each, and their rims: edges of which common ends make one group.
+#[derive(Drop)]
+pub struct Rims {
+    rows: Vec<Row>,
+    firsts: Vec<u32>,
+    groups: Groups,
+}
+
+impl Model for Rims {
+    ghost use Rattle.std.specs.Prelude.{◌≡◌};
+    ghost use Rattle.shell_rims.specs.Rims.{Rims as Found};
+
+    ghost Value = { Found };
+
+    ghost view = { λ r. record { rows = r.rows.items; firsts = r.firsts.items } };
+
+    ghost invariant = { λ r. r.groups ≡ r.firsts.items };
+}
+
+fn found_at(vertices: &[u32], v: u32) -> usize
+    requires rise { IsStrictlyIncreasing vertices.now }
+    requires known { Contains vertices.now v }
+    ensures { slice_get vertices.now result ≡ Some v }
+{
+    place_of(vertices, v).unwrap()
+}
+
+// The place of a vertex among those of the shell.
+fn rank_of(vertices: &[u32], v: u32) -> usize
+    requires rise { IsStrictlyIncreasing vertices.now }
+    requires known { Contains vertices.now v }
+    ensures place { result ≡ place_in ◌==◌ vertices.now v }
+    ensures within { result < length vertices.now }
+{
+    found_at(vertices, v)
+}
+
+fn row_in(rows: &[Row], i: usize) -> Row
+    requires { i < length rows.now }
+    ensures { slice_get rows.now i ≡ Some result }
+{
+    rows[i]
+}
+
+// Appends a pair for each end of a row: the row's place, and after all rows the place of the vertex.
+fn push_ends(
+    vertices: &[u32],
+    base: usize,
+    i: u32,
+    row: Row,
+    out: &mut Vec<(u32, u32)>,
+) -> Result<(), NoMemory>
+    requires rise { IsStrictlyIncreasing vertices.now }
+    requires from { Contains vertices.now row.from.0 }
+    requires to { Contains vertices.now row.to.0 }
+    requires few { base + length vertices.now < 2 ^ 32 }
+    ensures { IfOk result (λ _. out.new.items ≡ out.old.items ++ row_ends base vertices.now (i, row)) }
+{
+    out.push((i, (base + rank_of(vertices, row.from.0)) as u32))?;
+    out.push((i, (base + rank_of(vertices, row.to.0)) as u32))?;
+    Ok(())
+}
+
+fn end_pairs(alloc: Global, rows: &[Row], vertices: &[u32]) -> Result<Vec<(u32, u32)>, NoMemory>
+    requires rise { IsStrictlyIncreasing vertices.now }
+    requires known { AllByRecursion (λ (r : AnyRow). Contains vertices.now r.from.0 × Contains vertices.now r.to.0) rows.now }
+    requires few { length rows.now + length vertices.now < 2 ^ 32 }
+    ensures { IfOk result (λ pairs. pairs.items ≡ all_end_pairs (length rows.now) vertices.now rows.now) }
+{
+    let mut out = Vec::new(alloc);
+    'rows: for i in 0..rows.len() {
+        let row = row_in(rows, i);
+        push_ends(vertices, rows.len(), i as u32, row, &mut out)?;
+    }
+    Ok(out)
+}
+
+// For each row the first of its rim.
+fn firsts_of(alloc: Global, rows: &[Row], vertices: &[u32]) -> Result<Vec<u32>, NoMemory>
+    requires rise { IsStrictlyIncreasing vertices.now }
+    requires known { AllByRecursion (λ (r : AnyRow). Contains vertices.now r.from.0 × Contains vertices.now r.to.0) rows.now }
+    requires few { length rows.now + length vertices.now < 2 ^ 32 }
+    ensures { IfOk result (λ firsts. AreRims rows.now firsts.items) }
+{
+    let pairs = end_pairs(alloc, rows, vertices)?;
+    let mut firsts = components(alloc, rows.len() + vertices.len(), pairs.as_slice())?;
+    firsts.truncate(rows.len());
+    Ok(firsts)
+}
+
+/// The rims of a shell whose rows are given.
+pub fn rims_of(alloc: Global, rows: &Rows) -> Result<Rims, NoMemory>
+    ensures rows { IfOk result (λ rims. rims.rows ≡ all_lone rows.now) }
+    ensures rims { IfOk result (λ rims. AreRims rims.rows rims.firsts) }
+{
+    let lone = lone_rows(alloc, rows)?;
+    let vertices = rows.vertex_slice();
+    if lone.len().saturating_add(vertices.len()) > u32::MAX as usize {
+        return Err(NoMemory);
+    }
+    let firsts = firsts_of(alloc, lone.as_slice(), vertices)?;
+    let groups = grouped_leasts(alloc, firsts.as_slice())?;
+    Ok(Rims {
+        rows: lone,
+        firsts,
+        groups,
+    })
+}
+
+fn push_row_ends(rows: &[Row], i: u32, out: &mut Vec<u32>) -> Result<(), NoMemory>
+    ensures { IfOk result (λ _. out.new.items ≡ out.old.items ++ ends_at rows.now i) }
+{
+    if let Some(row) = rows.get(i as usize) {
+        out.push(row.from.0)?;
+        out.push(row.to.0)?;
+    }
+    Ok(())
+}
+
+fn least_of(numbers: &[u32]) -> Option<u32>
+    ensures low { IfSome result (λ m. All (λ n. m ≤ n) numbers.now) }
+    ensures among { IfSome result (Contains numbers.now) }
+    ensures none { IsNone result ↔ (numbers.now ≡ []) }
+{
+    numbers.iter().copied().min()
+}
+
+fn least_in(numbers: &[u32]) -> Option<u32>
+    ensures { MatchOption result (numbers.now ≡ []) (IsLeast numbers.now) }
+{
+    least_of(numbers)
+}
+
+impl Rims {
+    ghost use Rattle.std.specs.Prelude.{◌≡◌, ◌<◌, ◌^◌, [], IfOk, MatchOption, length};
+    ghost use Rattle.std.specs.List.{AllByRecursion};
+    ghost use Rattle.shell_classes.specs.Leasts.{classes_of};
+    ghost use Rattle.shell_rims.specs.Rims.{rim_rows, rim_ends, IsLeast};
+
+    /// The rows that are alone, by rising edge. A row is told below by its place in this list, from 0.
+    pub fn rows(&self) -> &[Row]
+        ensures { result.now ≡ self.now.rows }
+    {
+        self.rows.as_slice()
+    }
+
+    /// The rims, each by its first row, in order.
+    pub fn rims(&self, alloc: Global) -> Result<Vec<u32>, NoMemory>
+        requires { length self.now.firsts < 2 ^ 32 }
+        ensures { IfOk result (λ rims. rims.items ≡ classes_of self.now.firsts) }
+    {
+        classes(alloc, self.firsts.as_slice())
+    }
+
+    /// The rows of a rim, which is told by its first row, in order.
+    pub fn rows_on(&self, rim: u32) -> &[u32]
+        ensures { result.now ≡ rim_rows self.now.firsts rim }
+    {
+        self.groups.places(rim)
+    }
+
+    // The ends of the rows of a rim.
+    fn ends_on(&self, alloc: Global, rim: u32) -> Result<Vec<u32>, NoMemory>
+        ensures { IfOk result (λ ends. ends.items ≡ rim_ends self.now.rows self.now.firsts rim) }
+    {
+        let places = self.groups.places(rim);
+        let mut ends = Vec::new(alloc);
+        'rows: for i in 0..places.len() {
+            push_row_ends(self.rows.as_slice(), places[i], &mut ends)?;
+        }
+        Ok(ends)
+    }
+
+    /// The least vertex at which a row of a rim starts or ends; None if the rim has no row.
+    pub fn least_vertex(&self, alloc: Global, rim: u32) -> Result<Option<VertexId>, NoMemory>
+        ensures { IfOk result (λ least. let ends = rim_ends self.now.rows self.now.firsts rim in
+            MatchOption least (ends ≡ []) (λ v. IsLeast ends v.0)) }
+    {
+        let ends = self.ends_on(alloc, rim)?;
+        match least_in(ends.as_slice()) {
+            None => Ok(None),
+            Some(v) => Ok(Some(VertexId(v))),
+        }
+    }
+}

@@ -1,0 +1,5 @@
+pub mod WalkLemmas
+pub mod SideLemmas
+pub mod TwoLemmas
+pub mod EdgeRows
+pub mod TurnLemmas

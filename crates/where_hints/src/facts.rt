@@ -1,0 +1,65 @@
+//! What is found of a shell, for its hints.
+
+ghost use Rattle.std.specs.Prelude.{◌≡◌, ◌<◌, IfOk, Some, length, slice_get};
+ghost use Rattle.solid_data.specs.declared.solid.Shell.{Shell as AnyShell};
+ghost use Rattle.edge_uses.specs.ShellRows.{rows_of};
+ghost use Rattle.solid_faults.specs.Faults.{AreFaults};
+ghost use Rattle.where_hints.specs.Facts.{AreHints};
+
+use edge_uses::Rows;
+use face_hints::{Bodies, bodies_of};
+use iges_base::NoMemory;
+use shell_hints::{crowded, pinch, touching, touching_shells};
+use solid_data::{ShellAt, Solid};
+use solid_faults::ShellFaults;
+use std::alloc::Global;
+use std::marker::Model;
+use turn_hint::{Turns, turns_of};
+
+/// The data of each hint on a shell, where its condition holds.
+#[derive(Drop)]
+pub struct Hints {
+    pub(crate) bodies: Option<Bodies>,
+    pub(crate) turns: Option<Turns>,
+    pub(crate) touching: Option<usize>,
+    pub(crate) crowded: Option<usize>,
+    pub(crate) pinched: Option<usize>,
+    pub(crate) shared: Option<usize>,
+}
+
+impl Model for Hints {
+    ghost use Rattle.where_hints.specs.Facts.{Hints as Found};
+
+    ghost Value = { Found };
+
+    ghost view = { λ x. record { bodies = x.bodies; turns = x.turns; touching = x.touching; crowded = x.crowded; pinched = x.pinched; shared = x.shared } };
+}
+
+/// What the hints on a shell are, whose rows and faults are given. It takes time in proportion to the shell.
+pub fn hints_of(
+    alloc: Global,
+    solid: &Solid,
+    shell: ShellAt,
+    rows: &Rows,
+    faults: &ShellFaults,
+) -> Result<Hints, NoMemory>
+    requires shell { shell.0 < length solid.now.shells }
+    requires rows { rows.now ≡ rows_of solid.now (slice_get solid.now.shells shell.0) }
+    requires faults { (h : AnyShell) → slice_get solid.now.shells shell.0 ≡ Some h
+        → AreFaults solid.now shell.0 h faults.now }
+    ensures { IfOk result (λ x. (h : AnyShell) → slice_get solid.now.shells shell.0 ≡ Some h
+        → AreHints solid.now shell.0 h x) }
+{
+    solid.recall_numbering();
+    let unpaired = faults.unpaired();
+    let bodies = bodies_of(alloc, solid, shell, rows)?;
+    let turns = turns_of(alloc, rows)?;
+    Ok(Hints {
+        bodies,
+        turns,
+        touching: touching(unpaired),
+        crowded: crowded(unpaired),
+        pinched: pinch(faults),
+        shared: touching_shells(faults),
+    })
+}

@@ -1,0 +1,68 @@
+//! The words of hints, and their sentences.
+
+ghost use Rattle.std.specs.Prelude.{◌≡◌, ◌++◌, OnOk};
+ghost use Rattle.where_hints.specs.Sentences.{hint_sentence as sentence_of, hint_word as word_of};
+
+use iges_base::{NoMemory, Out};
+
+/// A hint on a shell.
+#[derive(Clone, Copy, Debug, PartialEq, Eq)]
+pub enum Hint {
+    StrayFaces,
+    Bodies,
+    Turned,
+    Touching,
+    Crowded,
+    Pinch,
+    TouchingShells,
+}
+
+pub(crate) fn hint_word(hint: Hint) -> &'static str
+    ensures { result.now ≡ word_of hint }
+{
+    match hint {
+        Hint::StrayFaces => "stray-faces",
+        Hint::Bodies => "bodies",
+        Hint::Turned => "turned",
+        Hint::Touching => "touching",
+        Hint::Crowded => "crowded",
+        Hint::Pinch => "pinch",
+        Hint::TouchingShells => "touching-shells",
+    }
+}
+
+#[tactic(auto, unfolding(crate::specs::Sentences::hint_sentence))]
+fn hint_sentence(hint: Hint) -> &'static str
+    ensures { result.now ≡ sentence_of hint }
+{
+    match hint {
+        Hint::StrayFaces => {
+            "  No edge that is used once each way joins these faces to the rest of the\n  shell, and the rest is closed without them. They're left over: a copy of a\n  face, a patch that was replaced, a rib that juts out. Delete them; there is\n  no hole to fill.\n"
+        }
+        Hint::Bodies => {
+            "  Cut at the edges that aren't paired, the shell falls into pieces, and each\n  of these is closed by itself. Write each as a solid of its own, with edges\n  and vertices of its own; if one lies inside of another, write it as a void\n  of that solid.\n"
+        }
+        Hint::Turned => {
+            "  These faces are inside out against the others that edges join them to: with\n  their flags changed (their normals reversed) each edge there that is used\n  twice is used once each way. This is the smaller of the two sides; igesolid\n  reorient FILE N writes the file with these flags.\n"
+        }
+        Hint::Touching => {
+            "  These edges are used more than twice, as often along as against: bodies, or\n  two sides of one, touch along the edge, and there is no thickness there.\n  Some systems accept this. Part the sides, or let them overlap; if the touch\n  is meant, give each two faces that bound the same side an edge of their own.\n"
+        }
+        Hint::Crowded => {
+            "  These edges are used more than twice, but not as often along as against: a\n  face stands inside of the body, juts out of it, or is there twice. Delete\n  it, or split the solid along it.\n"
+        }
+        Hint::Pinch => {
+            "  Here the body touches itself at a point only, and has no thickness. Part the\n  sides that meet, or let them overlap. If the touch is meant, give each fan a\n  vertex of its own with the same coordinates: then LINK holds.\n"
+        }
+        Hint::TouchingShells => {
+            "  This shell touches an earlier one of the solid, so there is no thickness\n  between them. Move it away, or merge the two into one void. If the touch is\n  meant, give it edges and vertices of its own: then the shells share none.\n"
+        }
+    }
+}
+
+/// Appends the sentence of a hint as facts of at most 78 columns.
+pub(crate) fn put_hint_sentence(out: &mut Out, hint: Hint) -> Result<(), NoMemory>
+    ensures { OnOk result (out.new ≡ out.old ++ sentence_of hint) }
+{
+    out.put(hint_sentence(hint).as_bytes())
+}
