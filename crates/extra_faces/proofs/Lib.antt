@@ -1,0 +1,3 @@
+pub mod ExtraLemmas
+pub mod ExactLemmas
+pub mod NextLemmas
