@@ -1,1 +1,2 @@
 pub mod SeamLemmas
+pub mod DefiniteLemmas

@@ -1,6 +1,7 @@
--- The seams of a shell. For each vertex number of the solid a list has the least vertex of the shell alike it: X, Y and Z are spelled the same.
-use Rattle.std.specs.Prelude.{◌≡◌, ◌<◌, ◌⊎◌, ℕ, not, List, length, Some, slice_get, get_or}
+-- The seams of a shell. Vertices are alike if their X, Y and Z are spelled the same. For each vertex number of the solid a list has the least vertex alike it.
+use Rattle.std.specs.Prelude.{◌≡◌, ◌<◌, ◌≤◌, ◌⊎◌, ℕ, not, List, length, Some, slice_get, get_or}
 use Rattle.solid_data.specs.Ring.{numbers_from}
+use Rattle.solid_data.proofs.Members.{Has}
 use Rattle.edge_uses.specs.declared.row.Row.{Row}
 use Rattle.sewn_shell.specs.declared.seam.Seam.{Seam}
 use Rattle.shell_classes.specs.Exactly.{AreFound, HoldsOf}
@@ -8,6 +9,19 @@ use Rattle.shell_classes.specs.Exactly.{AreFound, HoldsOf}
 -- the least vertex alike the vertex; itself where the list has none
 abbrev pub least_alike : List ℕ → ℕ → ℕ
 least_alike alike v = get_or alike v v
+
+-- m is the least vertex of the shell that is spelled as v is
+pub record IsLeastAlike (spelled : List (List ℕ)) (vertices : List ℕ) (v m : ℕ) : Type 0 where
+  pub among : Has vertices m
+  pub alike : slice_get spelled m ≡ slice_get spelled v
+  pub least : (w : ℕ) → Has vertices w → slice_get spelled w ≡ slice_get spelled v → m ≤ w
+
+-- For each vertex of the solid the first list has its spelling: X, Y and Z as the file has them. The last list has for each the least vertex of the shell alike
+-- it, of one that isn't in the shell itself.
+pub record AreLeastsAlike (spelled : List (List ℕ)) (vertices alike : List ℕ) : Type 0 where
+  pub each : length alike ≡ length spelled
+  pub least : (v : ℕ) → Has vertices v → IsLeastAlike spelled vertices v (least_alike alike v)
+  pub others : (v : ℕ) → ¬ Has vertices v → least_alike alike v ≡ v
 
 -- Both rows start alike and end alike; and: each starts alike where the other ends.
 abbrev pub RunTogether : List ℕ → Row → Row → Type 0

@@ -13,7 +13,7 @@ use Rattle.shell_rims.specs.LoneRows.{lone_rows}
 use Rattle.shell_alone.specs.Alone.{solid_of_faces}
 use Rattle.solid_faults.specs.Gaps.{gaps_of}
 use Rattle.sewn_shell.specs.declared.seam.Seam.{Seam}
-use Rattle.sewn_shell.specs.Seams.{least_alike, AreSeams, AreAlike}
+use Rattle.sewn_shell.specs.Seams.{least_alike, AreLeastsAlike, AreSeams, AreAlike}
 
 -- each vertex is replaced by the least one alike it: of edges both ends
 abbrev pub sewn_edge : List ℕ → Edge → Edge
@@ -55,9 +55,11 @@ pub record Counts : Type 0 where
   pub alike : ℕ
   pub gaps : ℕ
 
--- unsewn: An edge has one row, or a loop has a gap, and the sewn shell is closed.
-pub record AreUnsewn (s : SolidData) (h : Shell) (alike : List ℕ) (x : Counts) : Type 0 where
+-- unsewn: An edge has one row, or a loop has a gap, and the sewn shell is closed. Each vertex of the solid has its spelling in a list.
+pub record AreUnsewn (s : SolidData) (h : Shell) (spelled : List (List ℕ)) (x : Counts) : Type 0 where
+  pub alike : List ℕ
   pub seams : List Seam
+  pub leasts : AreLeastsAlike spelled (shell_rows s h).vertices alike
   pub edges : x.edges ≡ length (lone_rows (shell_rows s h))
   pub each_alike : AreAlike alike (lone_rows (shell_rows s h)) x.alike
   pub gaps : x.gaps ≡ length (gaps_of s h)

@@ -4,8 +4,10 @@
 #![tactic(auto)]
 
 mod alike;
+mod law;
 mod moving;
 mod seam;
 
+pub use law::unsewn_is_definite;
 pub use moving::{Thread, sewn_faces};
 pub use seam::Seam;
