@@ -3,3 +3,4 @@ pub mod SomeCounts
 pub mod SomeBodies
 pub mod SomeTurns
 pub mod SomeHints
+pub mod SomeExtra

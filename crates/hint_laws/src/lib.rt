@@ -3,4 +3,4 @@
 
 mod law;
 
-pub use law::something_is_hinted;
+pub use law::{extra_is_told, something_is_hinted};
