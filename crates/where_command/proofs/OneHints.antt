@@ -1,7 +1,7 @@
 -- The hints on shells are definite.
 use Rattle.std.specs.Prelude.{◌≡◌, ◌⊎◌, ℕ, ◌<◌, List, All, length, flat_map, zip, Option, Some, None, slice_get}
-use Rattle.std.proofs.Common.{inl, inr, refl, sym, ap, ◌∙◌, arith}
-use Rattle.std.proofs.lemmas.Option.{slice_get_within, slice_get-get_or}
+use Rattle.std.proofs.Common.{inl, inr, refl, sym, ap, ◌∙◌, arith, get_or, subst}
+use Rattle.std.proofs.lemmas.Option.{same_Some, slice_get_within, slice_get-get_or}
 use Rattle.iges_base.specs.declared.entry_no.EntryNo.{EntryNo}
 use Rattle.iges_params.specs.Contents.{Contents}
 use Rattle.solid_data.specs.SolidData.{SolidData}
@@ -64,7 +64,8 @@ one_of_shells s ks xs ys inside a b =
     (λ i x y at there.
     let below : i < length ks = omega (arith, slice_get_within xs i x at, a.each) in
     let k = get_some ks i below in
-    let h = get_some s.shells k.0 (let low = inside i k.0 below in let same = slice_get-get_or ks i k.0 below in cc) in
+    let same : get_or ks i k.0 ≡ k.0 = same_Some (get_or ks i k.0) k.0 (sym (slice_get-get_or ks i k.0 below) ∙ k.1) in
+    let h = get_some s.shells k.0 (subst (λ (m : ℕ). m < length s.shells) same (inside i k.0 below)) in
     one_shell s k.0 h.0 x y (a.shell i x at k.0 h.0 k.1 h.1) (b.shell i y there k.0 h.0 k.1 h.1))
 
 pub one_hint : (listing : Listing) (f : Contents) (s : SolidData) (faults : List Faults) (ks h k : List ℕ) (a b : List EntryNo)
