@@ -138,7 +138,8 @@ def editions(top):
 def sentences(top):
     """The sentences and the words for types in the tables beside docs/WHERE.md are those in the definitions of `where`."""
     table, types = ([tuple(line.split("\t")) for line in (top / "docs" / f"where_{name}.tsv").read_text().splitlines()] for name in ("sentences", "types"))
-    said = {" ".join(it.replace("\\n", " ").split()) for path in top.glob("crates/where_*/specs/*.antt") for it in SAID.findall(path.read_text())}
+    texts = [path.read_text() for name in ("where_*", "solid_hints") for path in top.glob(f"crates/{name}/specs/*.antt")]
+    said = {" ".join(it.replace("\\n", " ").split()) for text in texts for it in SAID.findall(text)}
     for name, sentence in table:
         yield f"docs/where_sentences.tsv: {name}", sentence in said
     for sentence in sorted(said - {sentence for _, sentence in table}):
