@@ -362,7 +362,7 @@ def inputs(copy):
         ("what is left of a file", f"{{ echo first; cat {cube}; }} >part; {{ read line; ./igesolid solids -; }} <part; rm part", (0, "1\n", "")),
         ("FILE of two", f"./igesolid verify - examples/cube.cert2 <{cube}", (0, "accepted 1\n", "")),
         ("CERT", f"./igesolid verify {cube} - <examples/cube.cert2", (0, "accepted 1\n", "")),
-        ("where", f"./igesolid where - <{cube}", (0, "solids 1 failing 0\nsolid 1 closed\n", "")),
+        ("where", f"./igesolid where - <{cube}", (0, "solids 1 failing 0\nsolid 1 closed\n  lines directory 4 record 72 72\n", "")),
         ("closed", "./igesolid solids - <&-", (4, "", closed)),
         ("closed, page", "./igesolid page - 1 <&-", (4, "", closed)),
         ("a folder", "./igesolid solids - <docs", (4, "", "igesolid: standard input: is a folder\n")),

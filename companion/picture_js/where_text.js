@@ -54,7 +54,8 @@ const FACTS = {
   item: `value (?<value>${N}) found (?<found>.*)|due (?:${FORMS_DUE}|${VALUES_DUE})`
     + `|why (?:zero|negative|even|beyond|null)|entry ${N} ${T} form -?${N}|values ${N}`
     + `|first ${N} item ${N}|list ${N} ${T} items ${N}`
-    + `|in (?:solid ${N}|(?:shell|face|loop) ${N} item ${N})`,
+    + `|in (?:solid ${N}|(?:shell|face|loop) ${N} item ${N})`
+    + `|line ${N} column ${N}|text .*|mark  *\\^+`,
   line: `hex(?: [0-9a-f]{2})+|column ${N}|text .*|mark  *\\^+`,
   gap: `${FACE}|(?<which>this|next) tuple (?<tuple>${N}) (?:${EDGE} flag (?<flag>[01]) ${CURVE}`
     + `|vertex ${N} ${N})|(?:ends|starts) (?<vertex>${VERTEX})`,
@@ -63,7 +64,7 @@ const FACTS = {
   part: `(?:at|(?<touches>touches)) (?<vertex>${VERTEX})|${FACE}|more ${N}`,
   vertex: `fan (?<fan>${N}) ${USE} ${EDGE} to ${N} ${N} ${WORD} ${WORD} ${WORD}`
     + `|(?<point>point) ${FACE} loop ${N}|in shell (?<shell>${N}) ${FACE}|more ${N}`,
-  entity: `level -?${N}|colour -?${N}.*|matrix -?${N}`
+  entity: `lines directory ${N} record ${N} ${N}|level -?${N}|colour -?${N}.*|matrix -?${N}`
     + `|label .*|subscript -?${N}|name .*|more ${N}`,
 };
 
