@@ -18,7 +18,7 @@ TOP = pathlib.Path(__file__).resolve().parent.parent
 SCHEMA = TOP / "docs" / "where.schema.json"
 RANDOM_CASES, SEED = 300, 2
 # One text in so many is compared with the schema, which takes long.
-STEP = 8
+STEP = 40
 NUMBER = {"type": "integer", "minimum": 0}
 
 
