@@ -28,6 +28,8 @@ hint face-flags faces <faces>
 hint stray-faces shell <shell> faces <faces> of <of>
 hint bodies shell <shell> pieces <pieces>
 hint doubled-faces shell <shell> faces <faces>
+hint extra-faces shell <shell> faces <faces> of <of>
+hint unsewn shell <shell> edges <edges> alike <alike> gaps <gaps>
 hint missing-faces shell <shell> edges <edges> rims <rims>
 hint turned shell <shell> faces <faces> of <of>
 hint touching shell <shell> edges <edges>

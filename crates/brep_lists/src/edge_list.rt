@@ -10,7 +10,7 @@ use std::marker::Model;
 
 /// An edge of an edge list as its record spells it: the entry of its curve, and for its start and its end the entry of
 /// a vertex list and an index in it, from 1 (IGES 5.3, 4.146). None of these numbers is judged.
-#[derive(Clone, Copy, Debug, PartialEq, Eq)]
+#[derive(Clone, Copy)]
 pub struct EdgeTuple {
     /// The directory number of the curve.
     pub curve: i64,

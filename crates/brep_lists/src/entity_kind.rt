@@ -7,7 +7,7 @@ ghost use Rattle.brep_lists.specs.declared.entity_kind.EntityKind.{EntityKind};
 /// A type of entity that describes a part of a solid: the manifold solid B-rep object, type 186 (IGES 5.3, 4.49), the
 /// shell, 514 (4.149), the face, 510 (4.148), the loop, 508 (4.147), the list of edges, 504 (4.146), and the list of
 /// vertices, 502 (4.145).
-#[derive(Clone, Copy, Debug, PartialEq, Eq)]
+#[derive(Clone, Copy)]
 pub enum EntityKind {
     Solid,
     Shell,

@@ -5,7 +5,7 @@ use solid_data::Failing;
 use std::alloc::{AllocError, AllocFailed};
 
 /// Why a walk ended without a solid.
-#[derive(Clone, Copy, Debug, PartialEq, Eq)]
+#[derive(Clone, Copy)]
 pub enum WalkFault {
     /// The first obligation on the records' places that doesn't hold, depth first.
     Fails(Failing),

@@ -31,7 +31,7 @@ fn is_geometry(entry: &Entry) -> bool
 }
 
 /// An entry that a number names, and the values of its record.
-#[derive(Clone, Copy, Debug)]
+#[derive(Clone, Copy)]
 pub struct Named<'a> {
     pub no: EntryNo,
     pub values: &'a Values,

@@ -6,7 +6,7 @@ use iges_fields::EntryNo;
 use solid_data::{Failing, Rule};
 
 /// A place that may name an entry: an item of an entity's record, from 1, or 0 for the entity itself.
-#[derive(Clone, Copy, Debug, PartialEq, Eq)]
+#[derive(Clone, Copy)]
 pub struct Place {
     pub entity: EntryNo,
     pub item: u32,

@@ -1,7 +1,7 @@
 //! The counts of a shell in its lines.
 
 /// The counts of a SHELL line: how many rows, edges, corner and point lines, and faces the shell has.
-#[derive(Clone, Copy, Debug, PartialEq, Eq)]
+#[derive(Clone, Copy)]
 pub struct ShellCounts {
     /// How many edge uses it has.
     pub rows: u32,
@@ -14,7 +14,7 @@ pub struct ShellCounts {
 }
 
 /// The counts of a TALLY line: how many vertices, edges, faces and loops the shell has.
-#[derive(Clone, Copy, Debug, PartialEq, Eq)]
+#[derive(Clone, Copy)]
 pub struct TallyCounts {
     pub vertices: u32,
     pub edges: u32,

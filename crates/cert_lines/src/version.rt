@@ -5,7 +5,7 @@ ghost use Rattle.cert_lines.specs.Line.{words, head};
 
 /// The version of a certificate, which its first line names. In version 2 each shell ends in a line of its counts;
 /// version 3 is a book of such certificates, a part for each solid.
-#[derive(Clone, Copy, Debug, PartialEq, Eq)]
+#[derive(Clone, Copy)]
 pub enum Version {
     One,
     Two,

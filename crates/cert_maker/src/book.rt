@@ -27,7 +27,7 @@ use topo_certificate::{Certificate, Certificates};
 const USE_LIMIT: u64 = 6_000_000;
 
 /// Why not all solids of a file are certified.
-#[derive(Clone, Copy, Debug, PartialEq, Eq)]
+#[derive(Clone, Copy)]
 pub enum BookFault {
     /// The file has no solid.
     NoSolid,
@@ -98,6 +98,35 @@ fn solid_part(
     Ok((certificate, used))
 }
 
+// The certificates of all solids of a file, by a walker of it.
+fn certify_each(
+    alloc: Global,
+    file: &File,
+    walker: &mut Walker<'_>,
+) -> Result<Certificates, BookFault>
+    requires { walker.old ≡ file.now }
+    ensures parts { IfOk result (AllZip (IsCertificateOf file.now) (solids_of file.now)) }
+    ensures some { IfOk result (λ parts. 0 < length parts) }
+    ensures book { IfOk result (λ parts. IsAccepted file.now
+        (text_of (book_lines parts)) EditionThree (solids_of file.now)) }
+    ensures made { OnOk result (AllMade file.now 0 (solids_of file.now)) }
+    ensures fault { IfErr result (IsBookFault file.now) }
+{
+    let mut parts = Certificates::new(alloc);
+    let mut used = 0;
+    'entries: for i in 0..file.entry_count() {
+        if file.is_solid_at(i) {
+            let (part, with) = solid_part(alloc, walker, file.entry_no(i), used)?;
+            parts.push(part)?;
+            used = with;
+        }
+    }
+    if parts.len() == 0 {
+        return Err(BookFault::NoSolid);
+    }
+    Ok(parts)
+}
+
 /// The certificates of all solids of a file, of version 2, in directory order; or the first solid that can't be
 /// certified: one that isn't closed, or with which there are more than 6,000,000 loop uses. Their text as a book is
 /// accepted and names all solids of the file.
@@ -109,18 +138,8 @@ pub fn certify_all(alloc: Global, file: &File) -> Result<Certificates, BookFault
     ensures made { OnOk result (AllMade file.now 0 (solids_of file.now)) }
     ensures fault { IfErr result (IsBookFault file.now) }
 {
-    let mut parts = Certificates::new(alloc);
     let mut walker = Walker::new(alloc, file);
-    let mut used = 0;
-    'entries: for i in 0..file.entry_count() {
-        if file.is_solid_at(i) {
-            let (part, with) = solid_part(alloc, &mut walker, file.entry_no(i), used)?;
-            parts.push(part)?;
-            used = with;
-        }
-    }
-    if parts.len() == 0 {
-        return Err(BookFault::NoSolid);
-    }
-    Ok(parts)
+    let parts = certify_each(alloc, file, &mut walker);
+    drop(walker);
+    parts
 }

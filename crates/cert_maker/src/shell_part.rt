@@ -3,7 +3,8 @@
 ghost use Rattle.std.specs.Prelude.{◌≡◌, ◌+◌, ◌<◌, ◌^◌, length, Some, IfOk, IfErr, OnOk, slice_get};
 ghost use Rattle.solid_data.specs.Obligations.{AllHold};
 ghost use Rattle.edge_uses.specs.Before.{AreBelow};
-ghost use Rattle.edge_uses.specs.ShellRows.{shell_rows};
+ghost use Rattle.edge_uses.specs.Joins.{join_obligations};
+ghost use Rattle.edge_uses.specs.ShellRows.{EndsMeet, rows_of, shell_rows};
 ghost use Rattle.shell_rules.specs.ShellObligations.{shell_obligations};
 ghost use Rattle.vertex_link.specs.Corners.{AreLinks};
 ghost use Rattle.shell_flood.specs.Reaching.{ReachesAll, row_numbers, IsBreadthFirst};
@@ -15,7 +16,7 @@ use crate::fault::MakeFault;
 use crate::judging::{linked, mated, reached};
 use crate::pairs::edge_pairs;
 use cert_state::loop_count;
-use edge_uses::{Paired, VerticesBefore, rows};
+use edge_uses::{Paired, Rows, VerticesBefore, rows};
 use iges_fields::NoMemory;
 use shell_reach::ReachList;
 use shell_rules::{apart, join};
@@ -60,6 +61,33 @@ fn loops_in(solid: &Solid, at: ShellAt, shell: &Shell) -> u32
     loop_count(shell) as u32
 }
 
+// The part of a shell with these rows, whose loops join, where the further rules hold: PAIR, REACH, LINK, APART in order.
+fn closed_part(
+    alloc: Global,
+    solid: &Solid,
+    at: ShellAt,
+    shell: &Shell,
+    before: VerticesBefore,
+    rows: &Rows,
+) -> Result<ShellPart, MakeFault>
+    requires at { slice_get solid.now.shells at.0 ≡ Some shell.now }
+    requires before { AreBelow solid.now at.0 before }
+    requires rows { rows.now ≡ rows_of solid.now (slice_get solid.now.shells at.0) }
+    requires joined { AllHold (join_obligations solid.now shell.now) }
+    requires meet { EndsMeet rows.now }
+    ensures part { IfOk result (IsPart (shell_rows solid.now shell.now)
+        (loops_of (Some shell.now))) }
+    ensures holds { OnOk result (AllHold (shell_obligations solid.now (at.0, shell.now))) }
+    ensures fails { IfErr result (IsCheckFault (shell_obligations solid.now (at.0, shell.now))) }
+{
+    solid.recall_numbering();
+    let paired = mated(alloc, solid, rows)?;
+    let reach = reached(alloc, shell, &paired)?;
+    let links = linked(alloc, solid, &paired)?;
+    apart(solid, at, before, rows)?;
+    Ok(part_of(alloc, &paired, reach, links, loops_in(solid, at, shell))?)
+}
+
 /// The part of a closed shell, and the vertices of the shells up to it. The rules come in order: JOIN, PAIR, REACH,
 /// LINK, APART.
 pub(crate) fn shell_part(
@@ -80,10 +108,6 @@ pub(crate) fn shell_part(
     solid.recall_numbering();
     join(solid, at, shell)?;
     let rows = rows(alloc, solid, at)?;
-    let paired = mated(alloc, solid, &rows)?;
-    let reach = reached(alloc, shell, &paired)?;
-    let links = linked(alloc, solid, &paired)?;
-    apart(solid, at, before, &rows)?;
-    let part = part_of(alloc, &paired, reach, links, loops_in(solid, at, shell))?;
+    let part = closed_part(alloc, solid, at, shell, before, &rows)?;
     Ok((part, before.with(&rows)))
 }

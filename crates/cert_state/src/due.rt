@@ -9,7 +9,7 @@ use edge_uses::Rows;
 
 /// How many lines of each kind are still due of a shell; corner and point lines are one kind. The kinds come one
 /// after the other, in the order of the fields.
-#[derive(Clone, Copy, Debug, PartialEq, Eq)]
+#[derive(Clone, Copy)]
 pub struct Due {
     pub edges: u32,
     pub corners: u32,

@@ -2,7 +2,7 @@
 
 /// What is wrong with line 1 or 2 of a certificate: it is spelled as no line, or it is too long or another line than is
 /// due.
-#[derive(Clone, Copy, Debug, PartialEq, Eq)]
+#[derive(Clone, Copy)]
 pub enum Misfit {
     /// The bytes spell none of the kinds of lines, or have no LF.
     Misspelt,
@@ -12,7 +12,7 @@ pub enum Misfit {
 
 /// The first line that keeps a certificate from being legal, by its number from 1: it is spelled as no line, it
 /// doesn't fit where it is, or it isn't there.
-#[derive(Clone, Copy, Debug, PartialEq, Eq)]
+#[derive(Clone, Copy, PartialEq, Eq)]
 pub enum Illegal {
     /// The line spells none of the kinds of lines, or has no LF.
     Misspelt { line: u64 },

@@ -25,7 +25,7 @@ use std::alloc::Global;
 use topo_certificate::{CERT_LIMIT, Checker, PartStep};
 
 /// The line that names the solid of a part has come.
-#[derive(Clone, Copy, Debug)]
+#[derive(Clone, Copy)]
 pub struct PartStart {
     /// The solid.
     pub no: EntryNo,
@@ -40,7 +40,7 @@ pub struct PartStart {
 }
 
 /// How a part of a book ended.
-#[derive(Clone, Copy, Debug)]
+#[derive(Clone, Copy)]
 pub enum PartEnd {
     /// With the line that names the next solid.
     Next(PartStart),
@@ -62,7 +62,7 @@ pub enum PartJudged {
 }
 
 /// Where a piece ended a part: the line that names the next solid.
-#[derive(Clone, Copy, Debug)]
+#[derive(Clone, Copy)]
 pub struct NextSolid {
     /// The directory number on that line.
     pub no: EntryNo,
@@ -213,7 +213,9 @@ fn judge_part<C: Source>(
             return Ok(PartJudged::Decided(reply));
         }
     };
-    judge_part_lines(alloc, &solid, cert, piece, begun)
+    let outcome = judge_part_lines(alloc, &solid, cert, piece, begun);
+    drop(solid);
+    outcome
 }
 
 // The reply for a book whose first part has begun, by a walker of the file.
@@ -258,7 +260,7 @@ fn parts_reply<C: Source>(
 /// end whatever is found.
 pub fn book_reply<C: Source>(
     alloc: Global,
-    file: File,
+    file: &File,
     cert: &mut C,
     piece: &mut [u8],
     begun: PartStart,
@@ -267,12 +269,14 @@ pub fn book_reply<C: Source>(
     requires room { length piece.old ≡ PIECE }
     requires place { IsPlace piece.old begun }
     ensures found { (before : Option (List ℕ))
-        → HasBegun file [] before (C.left cert.old) piece.old begun
-        → IfOk result (IsReply (λ certificate. OfVerify certificate file) before) }
+        → HasBegun file.now [] before (C.left cert.old) piece.old begun
+        → IfOk result (IsReply (λ certificate. OfVerify certificate file.now) before) }
     ensures whole { IfOk result (λ reply. ReadsCertificate (C.left cert.new) reply.answer) }
     ensures reads { ReadsOn (CERT_LIMIT - begun.came) (C.left cert.old) (C.left cert.new)
         (C.faults cert.old) (C.faults cert.new) result }
 {
-    let mut walker = Walker::new(alloc, &file);
-    parts_reply(alloc, &mut walker, cert, piece, begun)
+    let mut walker = Walker::new(alloc, file);
+    let reply = parts_reply(alloc, &mut walker, cert, piece, begun);
+    drop(walker);
+    reply
 }

@@ -93,7 +93,39 @@ fn judge_held(
         Ok(solid) => solid,
         Err(reply) => return Ok(HeldPart::Decided(reply)),
     };
-    judge_held_lines(alloc, &solid, line, rest)
+    let outcome = judge_held_lines(alloc, &solid, line, rest);
+    drop(solid);
+    outcome
+}
+
+// The reply for a book that isn't accepted, by a walker of the file; None for one that is.
+fn parts_refusal(
+    alloc: Global,
+    walker: &mut Walker<'_>,
+    certificate: &[u8],
+    no: EntryNo,
+    rest: &[u8],
+) -> Result<Option<Reply>, NoMemory>
+    requires few { length certificate.now ≤ CERT_LIMIT }
+    requires opens { Opens certificate.now Three no.0 (cut_lines rest.now) }
+    ensures { IfOk result (λ r. MatchOption r
+        ((a : Answered) (t : List ℕ) → OfText certificate.now a t → OfUpgrade certificate.now walker.old a t)
+        (λ reply. OfUpgrade certificate.now walker.old reply.answer reply.text)) }
+{
+    let mut no = no;
+    let mut line = 3;
+    let mut rest = rest;
+    'parts: loop {
+        match judge_held(alloc, walker, no, line, rest)? {
+            HeldPart::Next(next) => {
+                no = next.no;
+                line = next.line;
+                rest = &rest[next.used..];
+            }
+            HeldPart::Last => return Ok(None),
+            HeldPart::Decided(reply) => return Ok(Some(reply)),
+        }
+    }
 }
 
 /// The reply for a book that isn't accepted; None for one that is. After the line that names its first solid it has this
@@ -112,18 +144,7 @@ pub fn book_refusal(
         (λ reply. OfUpgrade certificate.now file.now reply.answer reply.text)) }
 {
     let mut walker = Walker::new(alloc, file);
-    let mut no = no;
-    let mut line = 3;
-    let mut rest = rest;
-    'parts: loop {
-        match judge_held(alloc, &mut walker, no, line, rest)? {
-            HeldPart::Next(next) => {
-                no = next.no;
-                line = next.line;
-                rest = &rest[next.used..];
-            }
-            HeldPart::Last => return Ok(None),
-            HeldPart::Decided(reply) => return Ok(Some(reply)),
-        }
-    }
+    let refusal = parts_refusal(alloc, &mut walker, certificate, no, rest);
+    drop(walker);
+    refusal
 }

@@ -9,7 +9,7 @@ use iges_io::{NextPiece, PIECE, Source, next_piece};
 use topo_certificate::{CERT_LIMIT, Illegal, Opening, OpeningStep, Version};
 
 /// The first two lines of a certificate have come, and are good.
-#[derive(Clone, Copy, Debug)]
+#[derive(Clone, Copy)]
 pub struct Opened {
     /// The version that line 1 names.
     pub version: Version,
@@ -24,7 +24,7 @@ pub struct Opened {
 }
 
 /// What reading the first two lines of a certificate came to.
-#[derive(Clone, Copy, Debug)]
+#[derive(Clone, Copy)]
 pub enum OpeningEnd {
     /// More bytes than a certificate may have came before.
     TooLarge,

@@ -3,10 +3,11 @@ ghost use Rattle.cert_lines.specs.Opening.{Opens};
 ghost use Rattle.cert_lines.specs.declared.version.Version.TheVariants.{Three};
 ghost use Rattle.command_replies.specs.Due.{OfText};
 ghost use Rattle.certificate_commands.specs.Due.{OfUpgrade};
-ghost use Rattle.certificate_commands.specs.Judging.{IsOfOne};
+ghost use Rattle.certificate_commands.specs.Judging.{IsChecked, IsOfOne};
+ghost use Rattle.iges_params.specs.Contents.{Contents};
 ghost use Rattle.command_replies.specs.Outcome.{ReadsCertificate};
 ghost use Rattle.command_replies.specs.Replies.{CountAfterCall, IsReply, TakesWithin};
-ghost use Rattle.std.specs.Prelude.{◌≤◌, length, IfOk, MatchResult};
+ghost use Rattle.std.specs.Prelude.{◌≤◌, ℕ, length, IfOk, MatchResult};
 ghost use Rattle.topo_certificate.specs.Legal.{IsFirstBad, IsLegal};
 ghost use Rattle.topo_certificate.specs.Upgraded.{upgraded};
 
@@ -52,6 +53,26 @@ fn judge_lines(
     Ok(check(&mut checker, rest))
 }
 
+// The reply for a certificate of this solid, of this version, that has this rest after its first two lines.
+fn judged_reply(
+    alloc: Global,
+    solid: &Solid,
+    certificate: &[u8],
+    version: Version,
+    rest: &[u8],
+) -> Result<Reply, NoMemory>
+    requires few { length certificate.now ≤ CERT_LIMIT }
+    requires one { IsOfOne version }
+    ensures { (f : Contents) (n : ℕ) → Opens certificate.now version n (cut_lines rest.now)
+        → IsChecked f n solid.now
+        → IfOk result (λ reply. OfUpgrade certificate.now f reply.answer reply.text) }
+{
+    match judge_lines(alloc, solid, version, rest)? {
+        Ok(()) => upgraded_reply(alloc, solid, certificate),
+        Err(bad) => illegal(alloc, bad),
+    }
+}
+
 // The reply for a certificate of one solid, of this version, that has this rest after its first two lines.
 fn upgrade_alone(
     alloc: Global,
@@ -70,10 +91,9 @@ fn upgrade_alone(
         Ok(solid) => solid,
         Err(reply) => return Ok(reply),
     };
-    match judge_lines(alloc, &solid, version, rest)? {
-        Ok(()) => upgraded_reply(alloc, &solid, certificate),
-        Err(bad) => illegal(alloc, bad),
-    }
+    let reply = judged_reply(alloc, &solid, certificate, version, rest);
+    drop(solid);
+    reply
 }
 
 // The reply for a book, which has this rest after its first two lines.

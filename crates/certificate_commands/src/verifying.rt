@@ -93,7 +93,9 @@ fn verify_alone<C: Source>(
         Ok(solid) => solid,
         Err(reply) => return decided_reply(alloc, cert, piece, opened.came, reply),
     };
-    verify_lines(alloc, &solid, cert, piece, opened)
+    let reply = verify_lines(alloc, &solid, cert, piece, opened);
+    drop(solid);
+    reply
 }
 
 // The reply for a certificate whose first two lines have come and are good.
@@ -123,7 +125,7 @@ fn verify_opened<C: Source>(
         to: opened.to,
         came: opened.came,
     };
-    book_reply(alloc, file, cert, piece, begun)
+    book_reply(alloc, &file, cert, piece, begun)
 }
 
 /// Whether the certificate of a source is accepted for the file; else the first that keeps it from being so. The

@@ -1,5 +1,5 @@
 /// How a command ended.
-#[derive(Clone, Copy, Debug, PartialEq, Eq)]
+#[derive(Clone, Copy)]
 pub enum Answer {
     /// Status 0: what was asked for is written.
     Done,

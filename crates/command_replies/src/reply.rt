@@ -9,7 +9,7 @@ use std::alloc::Global;
 use topo_certificate::Illegal;
 
 /// What is to be answered, and the text that is to be written.
-#[derive(Debug, Drop)]
+#[derive(Drop)]
 pub struct Reply {
     /// How the command ends, where the text can be written.
     pub answer: Answer,
@@ -18,7 +18,7 @@ pub struct Reply {
 }
 
 /// Why there is no reply.
-#[derive(Clone, Copy, Debug, PartialEq, Eq)]
+#[derive(Clone, Copy)]
 pub enum Stop {
     /// A read of the file or of the certificate failed.
     ReadFault,

@@ -15,7 +15,7 @@ pub struct Given<'a> {
 }
 
 /// A kind of call that may fail.
-#[derive(Clone, Copy, PartialEq, Eq)]
+#[derive(Clone, Copy)]
 pub enum Call {
     FileRead,
     CertificateRead,

@@ -4,7 +4,7 @@ use iges_base::NoMemory;
 use solid_data::EdgeId;
 
 /// Why the rows of a shell weren't paired.
-#[derive(Clone, Copy, Debug, PartialEq, Eq)]
+#[derive(Clone, Copy)]
 pub enum PairFault {
     /// The least edge that hasn't exactly two rows, one along it and one against it.
     Unpaired(EdgeId),

@@ -14,7 +14,7 @@ ghost use Rattle.solid_data.specs.declared.TheConstants.{PART_LIMIT};
 use solid_data::{Edge, FaceAt, FaceUse, Loop, LoopAt, LoopUse, Shell, ShellAt, Solid, VertexId};
 
 /// A loop that doesn't join, and the tuple of its first use that doesn't end where the next one starts, from 1.
-#[derive(Clone, Copy, Debug, PartialEq, Eq)]
+#[derive(Clone, Copy)]
 pub struct Unjoined {
     /// The loop, by its face in the shell and its place in the face, both from 0.
     pub at: LoopAt,

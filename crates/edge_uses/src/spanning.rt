@@ -5,7 +5,7 @@ ghost use Rattle.edge_uses.specs.Ranges.{IsSpanOf};
 
 /// The numbers from `least` on, `count` of them. Arrays over the edges or vertices of a shell start at its least one,
 /// so that they are no longer than the shell where it shares none.
-#[derive(Clone, Copy, Debug, PartialEq, Eq)]
+#[derive(Clone, Copy)]
 pub struct Span {
     pub least: u32,
     pub count: usize,

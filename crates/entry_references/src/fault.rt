@@ -4,7 +4,7 @@ use iges_fields::NoMemory;
 use std::alloc::{AllocError, AllocFailed};
 
 /// Why the references of an entry aren't given. Of the first three the first that holds is reported.
-#[derive(Clone, Copy, Debug, PartialEq, Eq)]
+#[derive(Clone, Copy)]
 pub enum RefFault {
     /// The type of the entry isn't one that extraction follows.
     Unlisted,
@@ -17,7 +17,7 @@ pub enum RefFault {
 }
 
 /// Why a solid isn't extracted.
-#[derive(Clone, Copy, Debug, PartialEq, Eq)]
+#[derive(Clone, Copy)]
 pub enum ExtractReason {
     /// The number names no solid.
     NotSolid,

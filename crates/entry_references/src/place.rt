@@ -45,7 +45,7 @@ pub fn count_in(values: &Values, place: usize) -> Option<usize>
 }
 
 /// How each point of copious data is given (IGES 5.3, 4.6).
-#[derive(Clone, Copy, Debug, PartialEq, Eq)]
+#[derive(Clone, Copy)]
 pub enum PointForm {
     /// Two coordinates, beside a third that all points share; written 1.
     Plane,

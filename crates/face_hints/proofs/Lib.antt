@@ -3,3 +3,8 @@ pub mod TornLemmas
 pub mod BodyLemmas
 pub mod AmongLemmas
 pub mod FoundLemmas
+pub mod ExtraLemmas
+pub mod ExactLemmas
+pub mod NextLemmas
+pub mod WithoutLemmas
+pub mod LeastEdge

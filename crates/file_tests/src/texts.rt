@@ -42,7 +42,7 @@ pub fn read(alloc: Global, text: &[u8]) -> Result<File, Fail> {
     if text.len() > 20_000 {
         return Err(Fail::from("too long"));
     }
-    Ok(read_file(alloc, text)?)
+    Ok(read_file(alloc, text).ok().ok_or("no file")?)
 }
 
 /// A file made call by call: two blank start lines and one point.

@@ -2,6 +2,8 @@ pub mod Options
 pub mod SomeCounts
 pub mod SomeBodies
 pub mod SomeDoubled
+pub mod SomeExtra
+pub mod SomeUnsewn
 pub mod SomeMissing
 pub mod SomeTurns
 pub mod SomeHints

@@ -79,7 +79,7 @@ share_below d rows a b h =
     let on = All-at (λ (r : Row). r.at.face.0 < d.face_count) d.rows rows.on_faces h.mates.mate (has_get d.rows h.m h.mates.mate h.mates.at_m) in
     omega (arith, on, h.on_b)
 
-some_pieces : (d : ShellRows) → AreRows d → (firsts : List ℕ) × ArePieces d firsts
+pub some_pieces : (d : ShellRows) → AreRows d → (firsts : List ℕ) × ArePieces d firsts
 some_pieces d rows =
     let found = leasts_of (ShareMates d) (leads_decided (ShareMates d) (share_decided d) d.face_count (share_below d rows)) d.face_count in (
       found.0,

@@ -14,7 +14,7 @@ use Rattle.open_certificate.proofs.Legality.{no_first_false}
 use Rattle.open_certificate.proofs.RulesDecided.{all_or_first_false}
 use Rattle.shell_alone.specs.Alone.{by_themselves}
 use Rattle.shell_classes.specs.Exactly.{IsExactly}
-use Rattle.shell_rims.specs.LoneRows.{lone_rows}
+use Rattle.lone_rows.specs.LoneRows.{lone_rows}
 use Rattle.shell_rims.specs.Rims.{AreRims, IsEnd, Rims, ShareEnd}
 use Rattle.open_hint.specs.Missing.{AreMissing, all_faces}
 use Rattle.open_hint.proofs.Whole.{IsSoundOpen, exactly_missing}

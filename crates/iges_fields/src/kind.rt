@@ -9,7 +9,7 @@ use crate::mantissa::{Mantissa, mantissa_of};
 use iges_base::{is_digits, unsigned};
 
 /// What a word of free text is (IGES 5.3, 2.2.2.1 and 2.2.2.2).
-#[derive(Clone, Copy, Debug)]
+#[derive(Clone, Copy)]
 pub enum WordKind {
     /// An integer of 64 signed bits.
     Whole(i64),

@@ -6,7 +6,7 @@ ghost use Rattle.std.specs.Prelude.{◌≡◌, ◌+◌, ◌*◌, ◌<◌, ◌≤
 const PAST: u64 = 9_223_372_036_854_775_809;
 
 /// The digits and points at the front of a text.
-#[derive(Clone, Copy, Debug)]
+#[derive(Clone, Copy)]
 pub struct Mantissa {
     /// How many bytes they are.
     pub len: usize,

@@ -12,7 +12,7 @@ use crate::value::Value;
 const MOST: usize = 18;
 
 /// Digits at the front of a text: how many, and the number that they write.
-#[derive(Clone, Copy, Debug)]
+#[derive(Clone, Copy)]
 pub struct Digits {
     /// How many bytes these are, from 0 to 18.
     pub len: usize,

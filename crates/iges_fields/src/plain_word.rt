@@ -15,7 +15,7 @@ use crate::reals::{digits_len, power_len};
 use iges_base::unsigned;
 
 /// What a word without spaces is.
-#[derive(Clone, Copy, Debug)]
+#[derive(Clone, Copy)]
 pub enum PlainWord {
     /// No byte.
     Omitted,

@@ -11,7 +11,7 @@ use std::marker::Model;
 
 /// The values of a free text in their order, of which no text holds an LF: a free text lies in lines
 /// (IGES 5.3, 2.2.3).
-#[derive(Debug, Drop)]
+#[derive(Drop)]
 pub struct Values {
     values: ItemList<Value>,
 }

@@ -3,7 +3,7 @@ ghost use Rattle.std.specs.Prelude.{◌≡◌};
 
 /// Why a file is refused. Reasons 1 to 7 are of the pass over the lines, 8 to 11 of that over
 /// the directory, 12 to 14 of that over the global section, and 15 to 17 of that over the records.
-#[derive(Clone, Copy, Debug, PartialEq, Eq)]
+#[derive(Clone, Copy, PartialEq, Eq)]
 pub enum Reason {
     /// The file is of the binary or of the compressed form.
     NotFixed = 1,

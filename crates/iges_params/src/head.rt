@@ -5,7 +5,7 @@ ghost use Rattle.std.specs.Prelude.{◌≡◌, Option, Some, List, ℕ, option_c
 use iges_fields::{Delimiters, without_front_spaces};
 
 /// The delimiters that a global's text names, and the text of its values where values follow.
-#[derive(Clone, Copy, Debug)]
+#[derive(Clone, Copy)]
 pub struct Head<'t> {
     /// The two delimiters (IGES 5.3, 2.2.4.3.1 and 2.2.4.3.2).
     pub delims: Delimiters,

@@ -7,7 +7,7 @@ use iges_fields::NoMemory;
 use iges_lines::{Sections, columns};
 
 /// A section with free text (IGES 5.3, 2.2.4.3 and 2.2.4.5).
-#[derive(Clone, Copy, Debug, PartialEq, Eq)]
+#[derive(Clone, Copy)]
 pub enum Part {
     Global,
     Param,

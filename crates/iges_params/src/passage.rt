@@ -10,7 +10,7 @@ use iges_lines::{LineFault, PassFault, Reason};
 use std::alloc::Global;
 
 /// A free text at the end of the columns that it lies in, which are joined line by line.
-#[derive(Clone, Copy, Debug)]
+#[derive(Clone, Copy)]
 pub struct Passage<'t> {
     /// The bytes of all lines, `width` of each.
     pub columns: &'t [u8],

@@ -1,13 +1,34 @@
+ghost use Rattle.brep_walk.specs.Places.{places};
+ghost use Rattle.brep_walk.specs.SolidOf.{solid_of};
+ghost use Rattle.iges_params.specs.Contents.{Contents};
 ghost use Rattle.iges_solid_cmd.specs.Due.{OfCertify, OfCertifyAll};
-ghost use Rattle.std.specs.Prelude.{IfOk};
+ghost use Rattle.solid_data.specs.Obligations.{AllHold};
+ghost use Rattle.std.specs.Prelude.{◌≡◌, ℕ, IfOk};
 
 use brep_walk::{WalkFault, walk};
 use cert_maker::{BookFault, MakeFault, certify, certify_all};
 use command_replies::{Answer, Reply, failed, no_solid, solid_failed, too_large};
 use iges_fields::{EntryNo, NoMemory};
 use iges_params::File;
+use solid_data::Solid;
 use std::alloc::Global;
 use topo_certificate::{write_book, write_certificate};
+
+// The certificate of a solid that is closed, or the first rule on its shells that fails.
+fn closed_reply(alloc: Global, solid: &Solid) -> Result<Reply, NoMemory>
+    ensures { (f : Contents) (n : ℕ) → AllHold (places f n) → solid.now ≡ solid_of f n
+        → IfOk result (λ reply. OfCertify n f reply.answer reply.text) }
+{
+    let certificate = match certify(alloc, solid) {
+        Ok(certificate) => certificate,
+        Err(MakeFault::Fails(failing)) => return failed(alloc, failing),
+        Err(MakeFault::NoMemory) => return Err(NoMemory),
+    };
+    Ok(Reply {
+        answer: Answer::Done,
+        text: write_certificate(alloc, &certificate)?,
+    })
+}
 
 /// The certificate of a solid that is closed, or the first rule that fails.
 pub fn certify_solid(alloc: Global, file: File, no: u32) -> Result<Reply, NoMemory>
@@ -20,15 +41,9 @@ pub fn certify_solid(alloc: Global, file: File, no: u32) -> Result<Reply, NoMemo
     };
     // The certificate needs the room that the file takes.
     drop(file);
-    let certificate = match certify(alloc, &solid) {
-        Ok(certificate) => certificate,
-        Err(MakeFault::Fails(failing)) => return failed(alloc, failing),
-        Err(MakeFault::NoMemory) => return Err(NoMemory),
-    };
-    Ok(Reply {
-        answer: Answer::Done,
-        text: write_certificate(alloc, &certificate)?,
-    })
+    let reply = closed_reply(alloc, &solid);
+    drop(solid);
+    reply
 }
 
 /// The book with a certificate for each solid of the file, or why there is none: no solid, the first that fails, or too many

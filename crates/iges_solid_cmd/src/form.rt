@@ -7,7 +7,7 @@ ghost use Rattle.std.specs.Str.Parse.{digits_value};
 use crate::form_slot::{ENTRY_NUMBER, FormSlot, Operand, SAMPLE_NUMBER};
 
 /// A command for all of a file.
-#[derive(Clone, Copy, Debug, PartialEq, Eq)]
+#[derive(Clone, Copy)]
 pub enum WholeCommand {
     /// The directory numbers of the solids of a file.
     Solids,
@@ -16,7 +16,7 @@ pub enum WholeCommand {
 }
 
 /// A command for a solid or a shell of a file.
-#[derive(Clone, Copy, Debug, PartialEq, Eq)]
+#[derive(Clone, Copy)]
 pub enum EntityCommand {
     /// What the shells of a solid are made of.
     Show,
@@ -34,7 +34,7 @@ pub enum EntityCommand {
 }
 
 /// A command for a file and a certificate.
-#[derive(Clone, Copy, Debug, PartialEq, Eq)]
+#[derive(Clone, Copy)]
 pub enum CertificateCommand {
     /// Whether a certificate is accepted for a file.
     Verify,
@@ -47,7 +47,7 @@ pub enum CertificateCommand {
 }
 
 /// A command for a file.
-#[derive(Clone, Copy, Debug, PartialEq, Eq)]
+#[derive(Clone, Copy)]
 pub enum FileCommand {
     /// One for all of it.
     Whole(WholeCommand),
@@ -58,7 +58,7 @@ pub enum FileCommand {
 }
 
 /// A command that the words ask for.
-#[derive(Clone, Copy, Debug, PartialEq, Eq)]
+#[derive(Clone, Copy)]
 pub enum Command {
     /// One for a file.
     File(FileCommand),
@@ -67,7 +67,7 @@ pub enum Command {
 }
 
 /// Which command a form asks for, without its number.
-#[derive(Clone, Copy, Debug)]
+#[derive(Clone, Copy)]
 pub enum CommandKind {
     Whole(WholeCommand),
     Entity(EntityCommand),
@@ -76,7 +76,7 @@ pub enum CommandKind {
 }
 
 /// What the words of a command line may be, one by one, and the command that they ask for.
-#[derive(Clone, Copy, Debug)]
+#[derive(Clone, Copy)]
 pub struct Form {
     /// One for each word, in the order of the words.
     pub slots: &'static [FormSlot],

@@ -9,7 +9,7 @@ ghost use Rattle.std.specs.Str.Parse.{digits_value};
 use iges_base::LINE_LIMIT;
 
 /// What a word of a form is.
-#[derive(Clone, Copy, Debug)]
+#[derive(Clone, Copy)]
 pub enum FormSlot {
     /// This very word.
     Word(&'static str),
@@ -26,7 +26,7 @@ pub enum FormSlot {
 }
 
 /// What a command takes from the words.
-#[derive(Clone, Copy, Debug, PartialEq, Eq)]
+#[derive(Clone, Copy)]
 pub enum Operand {
     File,
     Certificate,

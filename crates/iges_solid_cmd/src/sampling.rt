@@ -135,6 +135,48 @@ fn line_of(
     Ok(out.into_bytes())
 }
 
+// The line for the sample's solid, which is certified, and whose file has this text.
+fn solid_reply(alloc: Global, n: u32, solid: &Solid, text: &[u8]) -> Result<Reply, NoMemory>
+    requires size { IsSize n }
+    requires sample { solid.now ≡ solid_of (sample n) 1 }
+    requires text { IsText (sample n) text.now }
+    ensures { IfOk result (λ reply. OfSample n reply.answer reply.text) }
+{
+    let certificate = certificate_text(alloc, solid, n)?;
+    let certificate = certificate.as_slice();
+    check_text(alloc, solid, certificate, n)?;
+    Ok(Reply {
+        answer: Answer::Done,
+        text: line_of(alloc, n, solid, text.len(), certificate.len())?,
+    })
+}
+
+// The line for the sample, whose file has this text and was read from it.
+fn sample_reply(alloc: Global, n: u32, file: &File, text: &[u8]) -> Result<Reply, NoMemory>
+    requires size { IsSize n }
+    requires sample { file.now ≡ sample n }
+    requires text { IsText (sample n) text.now }
+    ensures { IfOk result (λ reply. OfSample n reply.answer reply.text) }
+{
+    let solid = walk_sample(alloc, file, n)?;
+    let reply = solid_reply(alloc, n, &solid, text);
+    drop(solid);
+    reply
+}
+
+// The line for the sample, whose file has this text.
+fn text_reply(alloc: Global, n: u32, text: &[u8]) -> Result<Reply, NoMemory>
+    requires size { IsSize n }
+    requires text { IsText (sample n) text.now }
+    requires within { length text.now ≤ FILE_LIMIT }
+    ensures { IfOk result (λ reply. OfSample n reply.answer reply.text) }
+{
+    let file = read_sample(alloc, text, n)?;
+    let reply = sample_reply(alloc, n, &file, text);
+    drop(file);
+    reply
+}
+
 /// Makes the sample of so many times so many faces, forms its text, reads it, walks and certifies its solid, forms the
 /// certificate's text and checks that; gives the counts of the walked solid and the lengths of both texts.
 pub fn certify_sample(alloc: Global, n: u32) -> Result<Reply, NoMemory>
@@ -142,14 +184,5 @@ pub fn certify_sample(alloc: Global, n: u32) -> Result<Reply, NoMemory>
     ensures { IfOk result (λ reply. OfSample n reply.answer reply.text) }
 {
     let text = sample_text(alloc, n)?;
-    let text = text.as_slice();
-    let file = read_sample(alloc, text, n)?;
-    let solid = walk_sample(alloc, &file, n)?;
-    let certificate = certificate_text(alloc, &solid, n)?;
-    let certificate = certificate.as_slice();
-    check_text(alloc, &solid, certificate, n)?;
-    Ok(Reply {
-        answer: Answer::Done,
-        text: line_of(alloc, n, &solid, text.len(), certificate.len())?,
-    })
+    text_reply(alloc, n, text.as_slice())
 }

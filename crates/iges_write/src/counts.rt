@@ -9,7 +9,7 @@ use crate::page::Page;
 use iges_fields::NoMemory;
 
 /// How many lines each section has.
-#[derive(Clone, Copy, Debug)]
+#[derive(Clone, Copy)]
 pub struct Counts {
     /// The number of start lines (IGES 5.3, 2.2.4.1).
     pub start: u64,

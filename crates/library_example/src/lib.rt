@@ -15,7 +15,7 @@ use std::alloc::Global;
 mod tests;
 
 /// What is said of a solid.
-#[derive(Clone, Copy, Debug, PartialEq, Eq)]
+#[derive(Clone, Copy)]
 pub enum Finding {
     /// The solid is closed.
     Closed,

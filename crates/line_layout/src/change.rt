@@ -1,5 +1,5 @@
 /// What may be changed to make a file.
-#[derive(Clone, Copy, Debug, PartialEq, Eq)]
+#[derive(Clone, Copy)]
 pub enum Change {
     /// A byte order mark or a form feed before a line is dropped.
     Mark,
@@ -22,7 +22,7 @@ pub enum Change {
 }
 
 /// How often something is changed, and the first line of the file where it is; 0 where there is none.
-#[derive(Clone, Copy, Debug, PartialEq, Eq)]
+#[derive(Clone, Copy)]
 pub struct ChangeCount {
     pub times: u64,
     pub first: u64,

@@ -1,7 +1,7 @@
 use iges_base::NoMemory;
 
 /// Why the content of a line can't be told apart for certain.
-#[derive(Clone, Copy, Debug, PartialEq, Eq)]
+#[derive(Clone, Copy)]
 pub enum LayoutReason {
     /// The line begins with the mark of UTF-16.
     Utf16,
@@ -26,14 +26,14 @@ pub enum LayoutReason {
 }
 
 /// A line, counted from 1, and what is wrong there.
-#[derive(Clone, Copy, Debug, PartialEq, Eq)]
+#[derive(Clone, Copy)]
 pub struct LayoutFault {
     pub line: u64,
     pub reason: LayoutReason,
 }
 
 /// Why no file was made.
-#[derive(Clone, Copy, Debug, PartialEq, Eq)]
+#[derive(Clone, Copy)]
 pub enum RelaidFault {
     /// The first line that fails, and why.
     Bad(LayoutFault),

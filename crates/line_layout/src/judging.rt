@@ -10,7 +10,7 @@ use crate::marks::{are_tail, begins_with_two, has_tab, is_blank, unmarked};
 use iges_base::LINE_LIMIT;
 
 /// What a piece between two line ends is.
-#[derive(Clone, Copy, Debug, PartialEq, Eq)]
+#[derive(Clone, Copy)]
 pub enum Judged {
     /// It is blank.
     Blank,

@@ -2,7 +2,7 @@ ghost use Rattle.line_layout.specs.Letters.{is_last, letter_of, section_of};
 ghost use Rattle.std.specs.Prelude.{◌≡◌};
 
 /// The sections of a file, in their order (IGES 5.3, 2.2.4).
-#[derive(Clone, Copy, Debug, PartialEq, Eq)]
+#[derive(Clone, Copy)]
 pub enum Section {
     /// `S` (IGES 5.3, 2.2.4.1).
     Start,

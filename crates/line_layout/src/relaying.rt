@@ -18,7 +18,7 @@ use iges_base::{Bytes, Out};
 use std::alloc::Global;
 
 /// What comes after a piece.
-#[derive(Clone, Copy, Debug)]
+#[derive(Clone, Copy)]
 pub enum Next {
     /// The pieces after it, with these lines before them.
     More(LineCounts),

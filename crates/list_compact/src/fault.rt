@@ -7,7 +7,7 @@ use solid_data::Failing;
 use solid_extract::ExtractFault;
 
 /// Why a solid isn't compacted.
-#[derive(Clone, Copy, Debug, PartialEq, Eq)]
+#[derive(Clone, Copy)]
 pub enum CompactFault {
     /// The entity for which the solid isn't extracted, and why.
     Refused {

@@ -5,7 +5,7 @@ use iges_base::{EntryNo, ItemList};
 use solid_data::{LoopAt, RowId, RowList};
 
 /// The rows of an edge.
-#[derive(Clone, Copy, Debug, PartialEq, Eq)]
+#[derive(Clone, Copy)]
 pub enum OpenEdge {
     /// The only one, which is a border row.
     One(RowId),

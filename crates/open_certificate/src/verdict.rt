@@ -4,10 +4,9 @@ ghost use Rattle.std.specs.Prelude.{◌≡◌};
 ghost use Rattle.open_certificate.specs.Obligations.{rule_name};
 
 use iges_base::EntryNo;
-use std::fmt;
 
 /// What a sound open shell keeps.
-#[derive(Clone, Copy, Debug, PartialEq, Eq)]
+#[derive(Clone, Copy)]
 pub enum OpenRule {
     /// In a loop each use ends where the next one starts.
     Join,
@@ -33,20 +32,8 @@ impl OpenRule {
     }
 }
 
-impl fmt::Display for OpenRule {
-    ghost use Rattle.std.specs.Prelude.{Some};
-    ghost use Rattle.open_certificate.specs.Obligations.{rule_name};
-
-    ghost output = { λ rule. Some (rule_name rule) };
-
-    fn fmt<W: fmt::Write>(&self, f: &mut fmt::Formatter<W>) -> fmt::Result {
-        let name = self.name();
-        write!(f, "{name}")
-    }
-}
-
 /// A rule that fails, the entity, and the item of that entity's record, from 1, or 0 for the entity itself.
-#[derive(Clone, Copy, Debug, PartialEq, Eq)]
+#[derive(Clone, Copy)]
 pub struct OpenFailing {
     pub rule: OpenRule,
     pub entity: EntryNo,

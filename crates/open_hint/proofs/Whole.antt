@@ -19,7 +19,7 @@ use Rattle.open_certificate.specs.Obligations.{AllHold, open_obligations}
 use Rattle.shell_alone.specs.Alone.{faces_at, shell_of_faces, solid_of_faces, by_themselves}
 use Rattle.shell_classes.specs.Exactly.{IsExactly}
 use Rattle.shell_classes.proofs.LeastLemmas.{leasts_one}
-use Rattle.shell_rims.specs.LoneRows.{lone_rows}
+use Rattle.lone_rows.specs.LoneRows.{lone_rows}
 use Rattle.shell_rims.specs.Rims.{AreRims, Rims, ShareEnd}
 use Rattle.open_hint.specs.Missing.{AreMissing, all_faces}
 

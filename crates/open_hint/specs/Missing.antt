@@ -6,7 +6,7 @@ use Rattle.solid_data.specs.declared.solid.Shell.{Shell}
 use Rattle.edge_uses.specs.ShellRows.{shell_rows}
 use Rattle.open_certificate.specs.Obligations.{AllHold, open_obligations}
 use Rattle.shell_alone.specs.Alone.{by_themselves}
-use Rattle.shell_rims.specs.LoneRows.{lone_rows}
+use Rattle.lone_rows.specs.LoneRows.{lone_rows}
 use Rattle.shell_rims.specs.Rims.{AreRims, Rims}
 
 -- all faces of a shell, by number

@@ -20,7 +20,7 @@ use solid_data::{RowId, RowList, VertexId};
 use std::alloc::Global;
 
 /// Why vertices have no fans.
-#[derive(Clone, Copy, Debug, PartialEq, Eq)]
+#[derive(Clone, Copy)]
 pub(crate) enum FanFault {
     /// The least vertex that has neither one fan of rows and no loop without an edge, nor no row and exactly one loop
     /// without an edge.

@@ -4,7 +4,7 @@ use iges_base::NoMemory;
 use open_certificate::OpenFailing;
 
 /// Why no certificate of an open shell was made.
-#[derive(Clone, Copy, Debug, PartialEq, Eq)]
+#[derive(Clone, Copy)]
 pub enum OpenFault {
     /// The shell isn't sound: the first rule that fails, and where.
     Fails(OpenFailing),

@@ -10,7 +10,7 @@ use std::alloc::Global;
 use std::marker::Model;
 
 /// Why rows have no mates.
-#[derive(Clone, Copy, Debug, PartialEq, Eq)]
+#[derive(Clone, Copy)]
 pub(crate) enum EdgeFault {
     /// The least edge that is used neither once nor by mates.
     NotOnce(EdgeId),

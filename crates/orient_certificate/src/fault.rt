@@ -3,7 +3,7 @@
 use iges_base::{EntryNo, NoMemory};
 
 /// What the edges and the faces of a shell keep before flags are sought.
-#[derive(Clone, Copy, Debug, PartialEq, Eq)]
+#[derive(Clone, Copy)]
 pub enum OrientRule {
     /// Exactly two rows have the edge.
     Count,
@@ -27,7 +27,7 @@ impl OrientRule {
 }
 
 /// A rule that fails, the entity, and the item of that entity's record, from 1, or 0 for the entity itself.
-#[derive(Clone, Copy, Debug, PartialEq, Eq)]
+#[derive(Clone, Copy)]
 pub struct OrientFailing {
     pub rule: OrientRule,
     pub entity: EntryNo,
@@ -35,7 +35,7 @@ pub struct OrientFailing {
 }
 
 /// Why neither flags nor a ring were given.
-#[derive(Clone, Copy, Debug, PartialEq, Eq)]
+#[derive(Clone, Copy)]
 pub enum OrientFault {
     /// The first rule that fails, and where: COUNT over the edges that occur in the shell, by number, and then REACH over
     /// its faces.

@@ -17,7 +17,7 @@ pub enum OrientLine {
 }
 
 /// Why bytes were not read as a line.
-#[derive(Clone, Copy, Debug, PartialEq, Eq)]
+#[derive(Clone, Copy)]
 pub enum OrientLineFault {
     /// The bytes spell none of the four kinds of lines, or have no LF at their end.
     Misspelt,

@@ -4,7 +4,7 @@ use iges_base::NoMemory as OutOfMemory;
 use topo_certificate::Illegal;
 
 /// Why a text isn't taken as an orientation.
-#[derive(Clone, Copy, Debug, PartialEq, Eq)]
+#[derive(Clone, Copy)]
 pub enum TextFault {
     /// This is its first bad line.
     Bad(Illegal),

@@ -3,7 +3,7 @@
 use crate::path::Path;
 
 /// Why a search for the obligation of a name ended before all were looked at.
-#[derive(Clone, Copy, Debug, PartialEq, Eq)]
+#[derive(Clone, Copy)]
 pub enum Ended {
     /// It is found, on this path.
     Found(Path),

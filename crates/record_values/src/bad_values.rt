@@ -18,7 +18,7 @@ use iges_params::File;
 use solid_data::{Failing, Rule};
 
 /// The bad value at a failing place, and what is due there.
-#[derive(Clone, Copy, Debug, PartialEq, Eq)]
+#[derive(Clone, Copy)]
 pub struct BadValue {
     /// The place of the value in the record of the failing entity, from 0 and without the type number. None where no
     /// value is bad, but the number that was asked for.

@@ -6,7 +6,7 @@ ghost use Rattle.record_values.specs.Due.{due_word, kind_word, slot_word};
 use brep_lists::EntityKind;
 
 /// One value of a record that is no count.
-#[derive(Clone, Copy, Debug, PartialEq, Eq)]
+#[derive(Clone, Copy)]
 pub enum ValueKind {
     /// The number of an entry: an integer.
     Pointer,
@@ -21,7 +21,7 @@ pub enum ValueKind {
 }
 
 /// What a count of a record counts.
-#[derive(Clone, Copy, Debug, PartialEq, Eq)]
+#[derive(Clone, Copy)]
 pub enum Counted {
     Voids,
     Faces,
@@ -33,7 +33,7 @@ pub enum Counted {
 }
 
 /// What is due at a place of a record.
-#[derive(Clone, Copy, Debug, PartialEq, Eq)]
+#[derive(Clone, Copy)]
 pub enum Due {
     /// The number of an entry of this kind.
     Record(EntityKind),

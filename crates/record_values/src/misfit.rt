@@ -12,7 +12,7 @@ use brep_lists::{EntityKind, item_count, optional_count};
 use iges_fields::{Value, Values};
 
 /// The first value of a record with which no record of its type goes on.
-#[derive(Clone, Copy, Debug, PartialEq, Eq)]
+#[derive(Clone, Copy)]
 pub struct Misfit {
     /// The place of the value, from 0 and without the type number. It is the number of values where the record ends too
     /// early.

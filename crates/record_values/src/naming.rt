@@ -8,7 +8,7 @@ use brep_loops::{FaceRecord, ShellRecord, SolidRecord};
 use iges_params::File;
 
 /// A place that names a shell, a face or a loop.
-#[derive(Clone, Copy, Debug, PartialEq, Eq)]
+#[derive(Clone, Copy)]
 pub struct Naming {
     /// The solid, the shell or the face whose record names it.
     pub entity: i64,

@@ -6,7 +6,7 @@ ghost use Rattle.std.specs.Prelude.{◌≡◌, ◌&&◌, MatchOption, None, Some
 ghost use Rattle.std.specs.Str.Parse.{digits_value};
 
 /// A command on the lines of a file.
-#[derive(Clone, Copy, Debug, PartialEq, Eq)]
+#[derive(Clone, Copy)]
 pub enum LineCommand {
     /// The file in the layout of the fixed form.
     Relayout,
@@ -15,7 +15,7 @@ pub enum LineCommand {
 }
 
 /// What the words of a command line ask for.
-#[derive(Clone, Copy, Debug, PartialEq, Eq)]
+#[derive(Clone, Copy)]
 pub enum Request {
     /// A command on the lines of a file.
     Lines(LineCommand),

@@ -9,7 +9,7 @@ use std::env::Args;
 use std::marker::Model;
 
 /// The words of a command line, without the program's name.
-#[derive(Debug, Drop)]
+#[derive(Drop)]
 pub struct Words {
     alloc: Global,
     words: Vec<String>,

@@ -15,7 +15,7 @@ use Rattle.solid_data.proofs.Members.{Has}
 use Rattle.solid_data.proofs.Keys.{from_filter, to_distinct, from_distinct, at_place}
 
 -- one filter over another
-filter_both : {A : Type 0} (p q r : A → Bool) → ((x : A) → r x ≡ (q x && p x)) → (xs : List A) → filter p (filter q xs) ≡ filter r xs
+pub filter_both : {A : Type 0} (p q r : A → Bool) → ((x : A) → r x ≡ (q x && p x)) → (xs : List A) → filter p (filter q xs) ≡ filter r xs
 filter_both p q r both [] = refl
 filter_both {A} p q r both (x ∷ xs) = by_test (q x) (p x) refl (filter_both p q r both xs) ∙ ap (λ b. cond b (x ∷ filter r xs) (filter r xs)) (sym (both x))
   where

@@ -1,8 +1,9 @@
 -- What the uses of a shell tell, face by face; and what they tell once they are renumbered.
-use Rattle.std.specs.Prelude.{◌≡◌, ℕ, ◌+◌, Bool, List, [], ◌∷◌, ◌++◌, length, map, flat_map}
+use Rattle.std.specs.Prelude.{◌≡◌, ℕ, ◌+◌, All, Bool, List, [], ◌∷◌, ◌++◌, length, map, flat_map}
 use Rattle.std.specs.List.{enumerate_from}
 use Rattle.std.proofs.Common.{refl, sym, ◌∙◌, ap, inl, inr}
 use Rattle.std.proofs.lemmas.List.{length-map, map-append}
+use Rattle.std.proofs.lemmas.List.Elements.{All-from_recursion, recursion_from_All}
 use Rattle.std.proofs.lemmas.List.FromFn.{length-enumerate_from}
 use Rattle.std.proofs.lemmas.Grind.{flat_map-append}
 use Rattle.solid_data.specs.SolidData.{PlacedLoop, placed_in_face, shell_uses, same_flag}
@@ -12,7 +13,8 @@ use Rattle.solid_data.specs.declared.solid.LoopUse.{LoopUse}
 use Rattle.solid_data.specs.declared.solid.Shell.{Shell}
 use Rattle.edge_uses.specs.Building.{uses_in}
 use Rattle.edge_uses.specs.Joining.{placed_at}
-use Rattle.solid_data.proofs.Members.{Has}
+use Rattle.solid_data.proofs.Members.{Has, All-at, All-from}
+use Rattle.shell_alone.specs.Alone.{face_uses}
 
 -- what a loop tells, and a face, where each use tells something
 abbrev pub loop_tells : {A : Type 0} → (LoopUse → List A) → Loop → List A
@@ -59,3 +61,23 @@ singles {A} (x ∷ xs) = ap (λ (ys : List A). x ∷ ys) (singles xs)
 
 pub loops_placed : (face : ℕ) (flag : Bool) (i : ℕ) (ls : List Loop) → length (map (placed_at face flag) (enumerate_from i ls)) ≡ length ls
 loops_placed face flag i ls = length-map (enumerate_from i ls) (placed_at face flag) ∙ length-enumerate_from i ls
+
+pub flat_map_same : {A B : Type 0} (f g : A → List B) (xs : List A) → ((x : A) → f x ≡ g x) → flat_map f xs ≡ flat_map g xs
+flat_map_same f g [] h = refl
+flat_map_same {B = B} f g (x ∷ xs) h =
+    ap (λ (ys : List B). ys ++ flat_map f xs) (h x) ∙ ap (λ (ys : List B). g x ++ ys) (flat_map_same f g xs h)
+
+-- the uses of a shell, face by face
+pub uses_flat : (h : Shell) → shell_uses h ≡ flat_map face_uses h.faces
+uses_flat h =
+    sym (singles (shell_uses h))
+    ∙ (shell_tells single h
+    ∙ flat_map_same (face_tells single) face_uses h.faces
+    (λ f. flat_map_same (loop_tells single) (λ (l : Loop). l.uses) f.loops (λ l. singles l.uses)))
+
+-- what holds of each of a list
+pub each_at : {A : Type 0} (P : A → Type 0) (xs : List A) → All P xs → (x : A) → Has xs x → P x
+each_at P xs h x m = All-at P xs (recursion_from_All P xs h) x m
+
+pub each_from : {A : Type 0} (P : A → Type 0) (xs : List A) → ((x : A) → Has xs x → P x) → All P xs
+each_from P xs h = All-from_recursion P xs (All-from P xs h)

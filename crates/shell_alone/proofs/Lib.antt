@@ -3,4 +3,7 @@ pub mod Flat
 pub mod Chosen
 pub mod Keyed
 pub mod Found
+pub mod Items
+pub mod ChangedShells
 pub mod Numbered
+pub mod MergedSolids

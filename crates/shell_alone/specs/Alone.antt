@@ -1,5 +1,5 @@
 -- Faces of a shell by themselves: the solid that has these faces alone, in one shell.
-use Rattle.std.specs.Prelude.{ℕ, ◌==◌, Bool, true, false, List, [], ◌∷◌, map, flat_map, slice_get}
+use Rattle.std.specs.Prelude.{ℕ, ◌<◌, ◌==◌, All, Bool, true, false, List, [], ◌∷◌, length, map, flat_map, slice_get}
 use Rattle.std.specs.Option.{option_to_list}
 use Rattle.solid_data.specs.Ring.{distinct, place_of}
 use Rattle.solid_data.specs.SolidData.{SolidData, edge_name, vertex_name}
@@ -10,9 +10,11 @@ use Rattle.solid_data.specs.declared.solid.LoopUse.{LoopUse}
 use Rattle.solid_data.specs.declared.solid.LoopUse.TheVariants.{EdgeUse, VertexUse}
 use Rattle.solid_data.specs.declared.solid.Shell.{Shell}
 use Rattle.solid_data.specs.declared.solid.VertexKey.{VertexKey}
+use Rattle.solid_data.specs.declared.TheConstants.{PART_LIMIT}
 use Rattle.edge_uses.specs.Before.{face_vertices}
 use Rattle.edge_uses.specs.Joins.{begin_of}
 use Rattle.shell_components.specs.FaceUses.{face_edges}
+use Rattle.shell_alone.specs.Changed.{changed_loop, changed_face}
 
 -- the faces that have these numbers, from 0
 abbrev pub face_at : List FaceUse → ℕ → List FaceUse
@@ -28,16 +30,17 @@ edges_met faces = distinct ◌==◌ (flat_map face_edges faces)
 abbrev pub vertices_met : SolidData → List FaceUse → List ℕ
 vertices_met s faces = distinct ◌==◌ (flat_map (face_vertices s) faces)
 
--- Uses, loops and faces in which edges and vertices have for numbers their places in two lists.
+-- a use whose edge or vertex has for its number its place in a list of edges or of vertices
 abbrev pub renumbered_use : List ℕ → List ℕ → LoopUse → LoopUse
 renumbered_use es vs (EdgeUse edge along) = EdgeUse (record { 0 = place_of ◌==◌ es edge.0 }) along
 renumbered_use es vs (VertexUse vertex) = VertexUse (record { 0 = place_of ◌==◌ vs vertex.0 })
 
+-- loops and faces of such uses
 abbrev pub renumbered_loop : List ℕ → List ℕ → Loop → Loop
-renumbered_loop es vs l = record { entity = l.entity; uses = map (renumbered_use es vs) l.uses }
+renumbered_loop es vs = changed_loop (renumbered_use es vs)
 
 abbrev pub renumbered_face : List ℕ → List ℕ → FaceUse → FaceUse
-renumbered_face es vs f = record { entity = f.entity; flag = f.flag; loops = map (renumbered_loop es vs) f.loops }
+renumbered_face es vs = changed_face (renumbered_use es vs)
 
 -- an edge whose ends have for numbers their places in a list
 abbrev pub renumbered_edge : SolidData → List ℕ → ℕ → Edge
@@ -63,6 +66,25 @@ solid_of_faces s flag faces = record {
   edges = map (renumbered_edge s (vertices_met s faces)) (edges_met faces);
   vertices = map (vertex_key s) (vertices_met s faces);
 }
+
+-- the loops of a face, and its uses, in order
+abbrev pub face_loops : FaceUse → List Loop
+face_loops f = f.loops
+
+abbrev pub face_uses : FaceUse → List LoopUse
+face_uses f = flat_map (λ (l : Loop). l.uses) f.loops
+
+-- Faces that may stand alone: there are some, but not too many. Each has a loop, and each of its loops a use. Each edge and each vertex that they use is
+-- the solid's.
+pub record CanStandAlone (s : SolidData) (faces : List FaceUse) : Type 0 where
+  pub some : 0 < length faces
+  pub each_face : All (λ (f : FaceUse). 0 < length f.loops) faces
+  pub each_loop : All (λ (l : Loop). 0 < length l.uses) (flat_map face_loops faces)
+  pub edges : All (λ e. e < length s.edges) (flat_map face_edges faces)
+  pub vertices : All (λ v. v < length s.vertices) (flat_map (face_vertices s) faces)
+  pub few_uses : length (flat_map face_uses faces) < PART_LIMIT
+  pub few_loops : length (flat_map face_loops faces) < PART_LIMIT
+  pub few_faces : length faces < PART_LIMIT
 
 -- the faces of a shell that have these numbers, by themselves
 abbrev pub by_themselves : SolidData → Shell → List ℕ → SolidData

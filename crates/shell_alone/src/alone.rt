@@ -1,26 +1,34 @@
-//! Faces of a shell by themselves.
+//! Faces by themselves.
 
-ghost use Rattle.std.specs.Prelude.{◌≡◌, ◌++◌, ◌∷◌, [], ◌<◌, All, Some, IfOk, flat_map, map, length, slice_get};
+ghost use Rattle.std.specs.Prelude.{◌≡◌, ◌++◌, ◌∷◌, [], ◌<◌, ◌^◌, All, Some, IfOk, flat_map, map, length, option_copied, slice_get};
 ghost use Rattle.std.specs.List.Sorted.{IsStrictlyIncreasing};
-ghost use Rattle.solid_data.proofs.Members.{Has};
+ghost use Rattle.solid_data.specs.Ring.{numbers_from};
 ghost use Rattle.solid_data.specs.declared.solid.Shell.{Shell as AnyShell};
 ghost use Rattle.edge_uses.specs.Before.{face_vertices};
 ghost use Rattle.shell_components.specs.FaceUses.{face_edges, AddedFaces};
-ghost use Rattle.shell_alone.specs.Alone.{face_at, faces_at, renumbered_face as face_renumbered, by_themselves as themselves};
+ghost use Rattle.shell_alone.specs.Changed.{changed_face as face_changed};
+ghost use Rattle.shell_alone.specs.Alone.{CanStandAlone, face_at, faces_at, renumbered_use, solid_of_faces as of_faces, by_themselves as themselves};
 
-use crate::copying::{renumbered_edges, renumbered_face, vertex_keys};
-use crate::places::{Places, places_met};
+use crate::changing::changed_face;
+use crate::places::places_met;
+use crate::renumbering::{Renumbering, renumbered_edges, vertex_keys};
 use iges_base::{EntryNo, ItemList, NoMemory};
 use shell_components::{Used, add_face, nothing_used};
-use solid_data::{Faces, Shell, ShellAt, Shells, Solid};
+use solid_data::{FaceUse, Faces, Shell, ShellAt, Shells, Solid};
 use std::alloc::Global;
 
-// Adds what the face with this number uses.
-fn add_numbered(solid: &Solid, shell: &Shell, n: u32, used: &mut Used) -> Result<(), NoMemory>
-    ensures { IfOk result (λ _. AddedFaces solid.now used.old used.new
-        (face_at shell.now.faces n)) }
+// The face with this number.
+fn numbered_face(faces: &[FaceUse], n: u32) -> Option<&FaceUse>
+    ensures { option_copied result ≡ slice_get faces.now n }
 {
-    match shell.faces.get(n as usize) {
+    faces.get(n as usize)
+}
+
+// Adds what the face with this number uses.
+fn add_numbered(solid: &Solid, faces: &[FaceUse], n: u32, used: &mut Used) -> Result<(), NoMemory>
+    ensures { IfOk result (λ _. AddedFaces solid.now used.old used.new (face_at faces.now n)) }
+{
+    match numbered_face(faces, n) {
         Some(face) => add_face(solid, face, used),
         None => Ok(()),
     }
@@ -30,17 +38,17 @@ fn add_numbered(solid: &Solid, shell: &Shell, n: u32, used: &mut Used) -> Result
 fn used_by_faces(
     alloc: Global,
     solid: &Solid,
-    shell: &Shell,
-    faces: &[u32],
+    faces: &[FaceUse],
+    numbers: &[u32],
 ) -> Result<Used, NoMemory>
     ensures edges { IfOk result (λ used. used.edges.items
-        ≡ flat_map face_edges (faces_at shell.now.faces faces.now)) }
+        ≡ flat_map face_edges (faces_at faces.now numbers.now)) }
     ensures vertices { IfOk result (λ used. used.vertices.items
-        ≡ flat_map (face_vertices solid.now) (faces_at shell.now.faces faces.now)) }
+        ≡ flat_map (face_vertices solid.now) (faces_at faces.now numbers.now)) }
 {
     let mut used = nothing_used(alloc);
-    'faces: for i in 0..faces.len() {
-        add_numbered(solid, shell, faces[i], &mut used)?;
+    'faces: for i in 0..numbers.len() {
+        add_numbered(solid, faces, numbers[i], &mut used)?;
     }
     Ok(used)
 }
@@ -48,19 +56,18 @@ fn used_by_faces(
 // Appends a copy of the face with this number.
 fn push_face(
     alloc: Global,
-    edges: &Places,
-    vertices: &Places,
-    shell: &Shell,
+    renumbering: &Renumbering,
+    faces: &[FaceUse],
     n: u32,
     out: &mut Faces,
 ) -> Result<(), NoMemory>
-    ensures { IfOk result (λ _. out.new ≡ out.old ++ map
-        (face_renumbered edges.now vertices.now) (face_at shell.now.faces n)) }
+    ensures { IfOk result (λ _. out.new ≡ out.old ++ map (face_changed
+        (renumbered_use renumbering.now.edges renumbering.now.vertices)) (face_at faces.now n)) }
 {
-    match shell.faces.get(n as usize) {
+    match numbered_face(faces, n) {
         None => Ok(()),
         Some(face) => {
-            out.push(renumbered_face(alloc, edges, vertices, face)?)?;
+            out.push(changed_face(alloc, renumbering, face)?)?;
             Ok(())
         }
     }
@@ -68,17 +75,17 @@ fn push_face(
 
 fn renumbered_faces(
     alloc: Global,
-    edges: &Places,
-    vertices: &Places,
-    shell: &Shell,
-    faces: &[u32],
+    renumbering: &Renumbering,
+    faces: &[FaceUse],
+    numbers: &[u32],
 ) -> Result<Faces, NoMemory>
-    ensures { IfOk result (λ copy. copy
-        ≡ map (face_renumbered edges.now vertices.now) (faces_at shell.now.faces faces.now)) }
+    ensures { IfOk result (λ copy. copy ≡ map (face_changed
+        (renumbered_use renumbering.now.edges renumbering.now.vertices))
+        (faces_at faces.now numbers.now)) }
 {
-    let mut copy = ItemList::with_room(alloc, faces.len())?;
-    'faces: for i in 0..faces.len() {
-        push_face(alloc, edges, vertices, shell, faces[i], &mut copy)?;
+    let mut copy = ItemList::with_room(alloc, numbers.len())?;
+    'faces: for i in 0..numbers.len() {
+        push_face(alloc, renumbering, faces, numbers[i], &mut copy)?;
     }
     Ok(copy)
 }
@@ -97,23 +104,55 @@ fn one_shell(alloc: Global, entity: EntryNo, flag: bool, faces: Faces) -> Result
     Ok(shells)
 }
 
-// The solid that has these faces of a shell alone.
-fn solid_of(alloc: Global, solid: &Solid, shell: &Shell, faces: &[u32]) -> Result<Solid, NoMemory>
-    requires shell { Has solid.now.shells shell.now }
-    requires some { 0 < length faces.now }
-    requires rise { IsStrictlyIncreasing faces.now }
-    requires inside { All (λ n. n < length shell.now.faces) faces.now }
-    ensures { IfOk result (λ t. t ≡ themselves solid.now shell.now faces.now) }
+// The solid that has the faces with these numbers alone.
+fn solid_of(
+    alloc: Global,
+    solid: &Solid,
+    flag: bool,
+    faces: &[FaceUse],
+    numbers: &[u32],
+) -> Result<Solid, NoMemory>
+    requires { CanStandAlone solid.now (faces_at faces.now numbers.now) }
+    ensures { IfOk result (λ t. t ≡ of_faces solid.now flag (faces_at faces.now numbers.now)) }
 {
     let entity = solid.entity();
-    let used = used_by_faces(alloc, solid, shell, faces)?;
+    let used = used_by_faces(alloc, solid, faces, numbers)?;
     let edges = places_met(alloc, used.edges.as_slice())?;
     let vertices = places_met(alloc, used.vertices.as_slice())?;
-    let copies = renumbered_faces(alloc, &edges, &vertices, shell, faces)?;
-    let shells = one_shell(alloc, entity, shell.flag, copies)?;
-    let edge_list = renumbered_edges(alloc, solid, &vertices, edges.as_slice())?;
+    let renumbering = Renumbering { edges, vertices };
+    let copies = renumbered_faces(alloc, &renumbering, faces, numbers)?;
+    let shells = one_shell(alloc, entity, flag, copies)?;
+    let vertices = &renumbering.vertices;
+    let edge_list = renumbered_edges(alloc, solid, vertices, renumbering.edges.as_slice())?;
     let vertex_list = vertex_keys(alloc, solid, vertices.as_slice())?;
     Ok(Solid::new(entity, shells, edge_list, vertex_list))
+}
+
+fn numbers_below(alloc: Global, count: usize) -> Result<Vec<u32>, NoMemory>
+    requires { count < 2 ^ 32 }
+    ensures { IfOk result (λ numbers. numbers.items ≡ numbers_from 0 count) }
+{
+    let mut numbers = Vec::new(alloc);
+    'numbers: for i in 0..count {
+        numbers.push(i as u32)?;
+    }
+    Ok(numbers)
+}
+
+/// The solid that has these faces alone, in this order, in one shell with this flag. They needn't be faces of the given
+/// solid, but use its edges and its vertices, by its numbers. It takes time and memory for these faces only.
+pub fn solid_of_faces(
+    alloc: Global,
+    solid: &Solid,
+    flag: bool,
+    faces: &[FaceUse],
+) -> Result<Solid, NoMemory>
+    requires given { CanStandAlone solid.now faces.now }
+    ensures { IfOk result (λ t. t ≡ of_faces solid.now flag faces.now) }
+{
+    let numbers = numbers_below(alloc, faces.len())?;
+    let alone = solid_of(alloc, solid, flag, faces, numbers.as_slice())?;
+    Ok(alone)
 }
 
 /// The solid that has these faces of a shell alone, which are given by their numbers, from 0. It takes time and memory
@@ -133,6 +172,6 @@ pub fn by_themselves(
         → t ≡ themselves solid.now h faces.now) }
 {
     let shell = solid.shell(shell).unwrap();
-    let alone = solid_of(alloc, solid, shell, faces)?;
+    let alone = solid_of(alloc, solid, shell.flag, shell.faces.as_slice(), faces)?;
     Ok(alone)
 }

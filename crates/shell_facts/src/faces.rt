@@ -13,7 +13,7 @@ use std::alloc::Global;
 use std::marker::Model;
 
 /// A face at a vertex that one of its uses touches, by the number of its shell, from 0.
-#[derive(Clone, Copy, Debug, PartialEq, Eq)]
+#[derive(Clone, Copy)]
 pub struct FaceAtVertex {
     /// The vertex's number in the solid, from 0.
     pub vertex: u32,

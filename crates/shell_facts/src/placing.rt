@@ -17,7 +17,7 @@ use solid_data::{Edge, FaceUse, Loop, LoopUse, Shell, ShellAt, Solid};
 use std::alloc::Global;
 
 /// Where a row of a shell is in the file, and by which flags it runs (IGES 5.3, 4.147 to 4.149).
-#[derive(Clone, Copy, Debug, PartialEq, Eq)]
+#[derive(Clone, Copy)]
 pub struct RowPlace {
     /// Whether the row runs along its edge, by all three flags.
     pub along: bool,

@@ -15,7 +15,7 @@ use solid_data::{LoopAt, RowId, VertexId};
 use std::alloc::Global;
 
 /// What lies at a vertex: a row of a fan, or a loop without an edge.
-#[derive(Clone, Copy, Debug, PartialEq, Eq)]
+#[derive(Clone, Copy)]
 pub enum AtVertex {
     /// A row that starts there, and the number of its fan among the vertex's, from 1.
     OnFan { fan: usize, row: RowId },

@@ -4,7 +4,7 @@ use iges_base::NoMemory;
 use solid_data::FaceAt;
 
 /// Why the faces of a shell aren't reached.
-#[derive(Clone, Copy, Debug, PartialEq, Eq)]
+#[derive(Clone, Copy)]
 pub enum ReachFault {
     /// The least face to which no chain of faces leads from the first, each two neighbours holding
     /// a row and its mate.

@@ -1,2 +1,1 @@
-pub mod LoneLemmas
 pub mod RimLemmas

@@ -1,6 +1,6 @@
 -- Components of rows and vertices are the rims of the rows.
 use Rattle.std.specs.Prelude.{◌≡◌, ◌<◌, ◌≤◌, ◌+◌, ◌==◌, ℕ, zero, suc, Contains, List, [], ◌∷◌, ◌++◌, length, flat_map, take, Some, slice_get, if◌then◌else◌}
-use Rattle.std.specs.Prelude.{Option, None, filter, min, Bool, true, false}
+use Rattle.std.specs.Prelude.{Option, None, min}
 use Rattle.std.specs.List.{AllByRecursion, enumerate_from}
 use Rattle.std.specs.List.Sorted.{IsStrictlyIncreasing}
 use Rattle.std.proofs.Common.{refl, sym, ◌∙◌, ap, subst, arith, inl, inr, ⊎_elim, get_or, drop, append_assoc}
@@ -10,16 +10,17 @@ use Rattle.std.proofs.lemmas.List.{drop_all, length-take-le}
 use Rattle.std.proofs.lemmas.Option.{same_Some, slice_get_within, get_or_from_slice_get}
 use Rattle.solid_data.specs.Chain.{Steps, LeadsTo}
 use Rattle.solid_data.specs.Ring.{place_of}
-use Rattle.solid_data.proofs.Members.{Has, Rises, All-at, All-from, Has-from_Contains, get_some, has_get, has_append, split_at}
+use Rattle.solid_data.proofs.Members.{Has, Rises, All-at, All-from, Has-from_Contains, get_some, has_get, split_at}
 use Rattle.solid_data.proofs.Trail.{leads_here, leads_one, leads_last}
 use Rattle.edge_uses.specs.declared.row.Row.{Row}
 use Rattle.edge_uses.proofs.Above.{rises}
 use Rattle.shell_components.specs.Components.{Linked, AreJoined, AreInside, AreComponents}
 use Rattle.shell_components.specs.Trees.{AreTrees}
 use Rattle.shell_components.proofs.Joined.{least_of_joined}
-use Rattle.shell_rims.specs.Only.{row_ends, end_pairs}
+use Rattle.shell_rims.specs.EndPairs.{row_ends, end_pairs}
 use Rattle.edge_uses.specs.ShellRows.{ShellRows, AreRows}
-use Rattle.shell_rims.specs.LoneRows.{only, rows_with, lone_row, lone_rows}
+use Rattle.lone_rows.specs.LoneRows.{lone_rows}
+use Rattle.lone_rows.proofs.LoneLemmas.{lone_among}
 use Rattle.shell_rims.specs.Rims.{IsEnd, ShareEnd, AreRims, ends_at, ends_of_row, least_of, lesser}
 use Rattle.std.specs.Option.{option_to_list}
 
@@ -214,26 +215,6 @@ known_from vs rows i row known at = (All-at (λ (r : Row). Contains vs r.from.0 
 
 pub known_to : (vs : List ℕ) (rows : List Row) (i : ℕ) (row : Row) → AreKnown vs rows → slice_get rows i ≡ Some row → Contains vs row.to.0
 known_to vs rows i row known at = (All-at (λ (r : Row). Contains vs r.from.0 × Contains vs r.to.0) rows known row (has_get rows i row at)).1
-
-only_has : {A : Type 0} (xs : List A) (x : A) → Has (only xs) x → Has xs x
-only_has [] x h = h
-only_has (y ∷ []) x h = h
-only_has (y ∷ z ∷ ys) x h = absurd h
-
-filter_has : {A : Type 0} (p : A → Bool) (xs : List A) (x : A) → Has (filter p xs) x → Has xs x
-filter_has {A} p [] x h = h
-filter_has {A} p (y ∷ ys) x h = by_test (p y) (λ m. filter_has p ys x m) h
-  where
-    by_test : (b : Bool) → (Has (filter p ys) x → Has ys x) → Has (if b then y ∷ filter p ys else filter p ys) x → Has (y ∷ ys) x
-    by_test true on k = ⊎_elim (λ e. inl e) (λ m. inr (on m)) k
-    by_test false on k = inr (on k)
-
--- the rows that are alone are rows of the shell
-lone_among : (d : ShellRows) (es : List ℕ) (row : Row) → Has (flat_map (lone_row d) es) row → Has d.rows row
-lone_among d [] row h = absurd h
-lone_among d (e ∷ es) row h =
-    ⊎_elim (λ k. filter_has (λ (r : Row). r.edge.0 == e) d.rows row (only_has (rows_with d e) row k)) (λ k. lone_among d es row k)
-    (has_append (lone_row d e) (flat_map (lone_row d) es) row h)
 
 pub lone_known : (d : ShellRows) → AreRows d → AreKnown d.vertices (lone_rows d)
 lone_known d h =

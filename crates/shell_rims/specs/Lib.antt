@@ -1,3 +1,2 @@
-pub mod LoneRows
-pub mod Only
+pub mod EndPairs
 pub mod Rims

@@ -5,13 +5,13 @@ ghost use Rattle.std.specs.List.{AllByRecursion};
 ghost use Rattle.std.specs.List.Sorted.{IsStrictlyIncreasing};
 ghost use Rattle.edge_uses.specs.declared.row.Row.{Row as AnyRow};
 ghost use Rattle.solid_data.specs.Ring.{place_of as place_in};
-ghost use Rattle.shell_rims.specs.LoneRows.{lone_rows as all_lone};
-ghost use Rattle.shell_rims.specs.Only.{row_ends, end_pairs as all_end_pairs};
+ghost use Rattle.lone_rows.specs.LoneRows.{lone_rows as all_lone};
+ghost use Rattle.shell_rims.specs.EndPairs.{row_ends, end_pairs as all_end_pairs};
 ghost use Rattle.shell_rims.specs.Rims.{AreRims, ends_at, least_of, lesser as lesser_of};
 
-use crate::lone::lone_rows;
 use edge_uses::{Row, Rows, place_of};
 use iges_base::NoMemory;
+use lone_rows::lone_rows;
 use shell_classes::{classes, grouped_leasts};
 use shell_components::{Groups, components};
 use solid_data::VertexId;

@@ -4,7 +4,7 @@ use iges_base::NoMemory;
 use solid_data::Failing;
 
 /// Why a solid does not pass what is judged of it.
-#[derive(Clone, Copy, Debug, PartialEq, Eq)]
+#[derive(Clone, Copy)]
 pub enum CheckFault {
     /// The first rule that fails, and where.
     Fails(Failing),

@@ -11,7 +11,7 @@ use std::mem::size_of;
 use std::slice;
 
 /// The loops of a face, in the order of the face's record (IGES 5.3, 4.148). One loop alone takes no memory.
-#[derive(Debug, Drop)]
+#[derive(Drop)]
 pub struct Loops {
     // Where there is one, the many are of no account.
     one: Option<Loop>,

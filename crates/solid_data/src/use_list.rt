@@ -16,20 +16,20 @@ const BLANK: LoopUse = LoopUse::VertexUse {
     vertex: VertexId(0),
 };
 
-#[derive(Debug, Drop)]
+#[derive(Drop)]
 struct Few {
     count: u32,
     uses: [LoopUse; 4],
 }
 
-#[derive(Debug, Drop)]
+#[derive(Drop)]
 enum Held {
     Few(Few),
     Many(Vec<LoopUse>),
 }
 
 /// The uses of a loop, in the order of the loop's record (IGES 5.3, 4.147). Up to four of them take no memory.
-#[derive(Debug, Drop)]
+#[derive(Drop)]
 pub struct Uses {
     alloc: Global,
     held: Held,

@@ -11,7 +11,7 @@ pub struct Refusal {
 }
 
 /// Why a solid isn't extracted.
-#[derive(Clone, Copy, Debug, PartialEq, Eq)]
+#[derive(Clone, Copy)]
 pub enum ExtractFault {
     /// The entity for which it isn't, and why: of the entities that are reached and have a fault the one with the least
     /// number.

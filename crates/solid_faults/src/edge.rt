@@ -14,7 +14,7 @@ use std::alloc::Global;
 
 /// An edge that hasn't exactly one row along it and one against it, and how many rows run along it
 /// and against it.
-#[derive(Clone, Copy, Debug, PartialEq, Eq)]
+#[derive(Clone, Copy)]
 pub struct Unpaired {
     pub edge: EdgeId,
     pub along: u32,

@@ -13,7 +13,7 @@ use solid_data::{Edge, FaceAt, FaceUse, Loop, LoopAt, LoopUse, Shell, ShellAt, S
 use std::alloc::Global;
 
 /// A use of a loop that ends at another vertex than the next one starts at.
-#[derive(Clone, Copy, Debug, PartialEq, Eq)]
+#[derive(Clone, Copy)]
 pub struct Gap {
     /// The loop, by its face in the shell and its place in the face, both from 0.
     pub at: LoopAt,

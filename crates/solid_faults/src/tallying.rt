@@ -6,7 +6,7 @@ ghost use Rattle.solid_faults.specs.UseCounts.{use_count, once_count, same_way_c
 use crate::edge::Unpaired;
 
 /// How many of some edges that aren't paired have one row, two and more.
-#[derive(Clone, Copy, Debug, PartialEq, Eq)]
+#[derive(Clone, Copy)]
 pub struct UseCounts {
     /// With one row.
     pub once: usize,

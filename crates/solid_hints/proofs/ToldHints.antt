@@ -19,17 +19,17 @@ use Rattle.solid_hints.specs.Flags.{flags_hint, pair_fails, unset_flags}
 use Rattle.solid_hints.specs.ShellHints.{AreHintsOf, AreShellHints, IsHint, TellsFlags, hint_faces_at, hints_at}
 use Rattle.solid_hints.proofs.Gathered.{one_more}
 
-abbrev HintsAt : SolidData → List ℕ → ℕ → Hints → Type 0
-HintsAt s ks i x = (k : ℕ) (h : Shell) → slice_get ks i ≡ Some k → slice_get s.shells k ≡ Some h → AreShellHints s k h x
+abbrev HintsAt : Contents → SolidData → List ℕ → ℕ → Hints → Type 0
+HintsAt f s ks i x = (k : ℕ) (h : Shell) → slice_get ks i ≡ Some k → slice_get s.shells k ≡ Some h → AreShellHints f s k h x
 
 -- the hints on one more shell
-pub hints_more : (s : SolidData) (ks : List ℕ) (i k : ℕ) (old new : List Hints) (x : Hints) → slice_get ks i ≡ Some k → length old ≡ i → new ≡ old ++ x ∷ []
-    → ((j : ℕ) (y : Hints) → slice_get old j ≡ Some y → (k : ℕ) (h : Shell) → slice_get ks j ≡ Some k → slice_get s.shells k ≡ Some h → AreShellHints s k h y)
-    → ((h : Shell) → slice_get s.shells k ≡ Some h → AreShellHints s k h x)
-    → (j : ℕ) (y : Hints) → slice_get new j ≡ Some y → (k : ℕ) (h : Shell) → slice_get ks j ≡ Some k → slice_get s.shells k ≡ Some h → AreShellHints s k h y
-hints_more s ks i k old new x at long is each last j y there =
-    one_more (HintsAt s ks) old x each
-    (subst (λ n. HintsAt s ks n x) (sym long) (λ l h here. let same : l ≡ k = cc in subst (λ m. slice_get s.shells m ≡ Some h → AreShellHints s m h x) (sym same)
+pub hints_more : (f : Contents) (s : SolidData) (ks : List ℕ) (i k : ℕ) (old new : List Hints) (x : Hints) → slice_get ks i ≡ Some k → length old ≡ i → new ≡ old ++ x ∷ []
+    → ((j : ℕ) (y : Hints) → slice_get old j ≡ Some y → (k : ℕ) (h : Shell) → slice_get ks j ≡ Some k → slice_get s.shells k ≡ Some h → AreShellHints f s k h y)
+    → ((h : Shell) → slice_get s.shells k ≡ Some h → AreShellHints f s k h x)
+    → (j : ℕ) (y : Hints) → slice_get new j ≡ Some y → (k : ℕ) (h : Shell) → slice_get ks j ≡ Some k → slice_get s.shells k ≡ Some h → AreShellHints f s k h y
+hints_more f s ks i k old new x at long is each last j y there =
+    one_more (HintsAt f s ks) old x each
+    (subst (λ n. HintsAt f s ks n x) (sym long) (λ l h here. let same : l ≡ k = cc in subst (λ m. slice_get s.shells m ≡ Some h → AreShellHints f s m h x) (sym same)
     (last h))) j y (subst (λ xs. slice_get xs j ≡ Some y) is there)
 
 -- numbers of failing shells are numbers of shells
@@ -81,7 +81,7 @@ flags_told listing f s xs ks unpaired b unset old new named is fails told exact 
 -- and where they aren't
 pub hints_told : (listing : Listing) (f : Contents) (s : SolidData) (xs : List Faults) (ks : List ℕ) (unpaired b : Bool) (unset : ℕ) (hs items : List Hints)
     (old new : List ℕ) (named more : List EntryNo) → unset ≡ unset_flags s → unpaired ≡ pair_fails xs ks → b ≡ false
-    → (IsTrue b ↔ (IsTrue unpaired × (0 < unset) × IsClosedFlagged s)) → AreHintsOf s ks hs → items ≡ hs
+    → (IsTrue b ↔ (IsTrue unpaired × (0 < unset) × IsClosedFlagged s)) → AreHintsOf f s ks hs → items ≡ hs
     → new ≡ old ++ flat_map (hints_at listing f s xs) (zip ks items) → more ≡ named ++ flat_map (hint_faces_at listing s xs) (zip ks items)
     → (hint : List ℕ) × (faces : List EntryNo) × IsHint listing f s xs ks hint faces × (new ≡ old ++ hint) × (more ≡ named ++ faces)
 hints_told listing f s xs ks unpaired b unset hs items old new named more is fails told exact hints same text faces = (

@@ -7,21 +7,33 @@ use Rattle.solid_data.specs.declared.solid.Shell.{Shell}
 use Rattle.solid_faults.specs.FaceFlags.{IsClosedFlagged}
 use Rattle.solid_faults.specs.Faults.{Faults}
 use Rattle.shell_classes.specs.Exactly.{IsExactly}
+use Rattle.shell_alone.specs.Alone.{solid_of_faces}
+use Rattle.sewn_shell.specs.declared.counting.Counts.{Counts}
+use Rattle.sewn_shell.specs.Sewn.{AreUnsewn}
+use Rattle.alike_vertices.specs.Alike.{alike_of, spellings}
 use Rattle.open_hint.specs.Missing.{AreMissing}
 use Rattle.where_hints.specs.Facts.{AreHints, Hints}
 use Rattle.where_hints.specs.Lines.{hints_named, hints_text}
 use Rattle.where_text.specs.declared.listing.Listing.{Listing}
 use Rattle.solid_hints.specs.Flags.{flags_hint, pair_fails, unset_flags}
 
--- the hints x on shell k: those on the shell as a closed one, and whether only faces are missing
-abbrev pub AreShellHints : SolidData → ℕ → Shell → Hints → Type 0
-AreShellHints s k h x = AreHints s k h x × IsExactly (AreMissing s h) x.missing
+-- the solid that has a shell alone
+abbrev pub alone : SolidData → Shell → SolidData
+alone s h = solid_of_faces s h.flag h.faces
+
+-- The shell is closed once it is sewn, where vertices are taken as one that the file spells alike.
+abbrev pub IsUnsewn : Contents → SolidData → Shell → Counts → Type 0
+IsUnsewn f s h x = AreUnsewn (alone s h) (alike_of (spellings f (alone s h))) x
+
+-- the hints x on shell k: those on the shell as a closed one, whether it is closed once it is sewn, and whether only faces are missing
+abbrev pub AreShellHints : Contents → SolidData → ℕ → Shell → Hints → Type 0
+AreShellHints f s k h x = AreHints s k h x × IsExactly (IsUnsewn f s h) x.unsewn × IsExactly (AreMissing s h) x.missing
 
 -- at each place the hints on the shell whose number stands at that place
-pub record AreHintsOf (s : SolidData) (ks : List ℕ) (xs : List Hints) : Type 0 where
+pub record AreHintsOf (f : Contents) (s : SolidData) (ks : List ℕ) (xs : List Hints) : Type 0 where
   pub each : length xs ≡ length ks
   pub shell : (i : ℕ) (x : Hints) → slice_get xs i ≡ Some x → (k : ℕ) (h : Shell) → slice_get ks i ≡ Some k → slice_get s.shells k ≡ Some h
-      → AreShellHints s k h x
+      → AreShellHints f s k h x
 
 abbrev pub shell_hints : Listing → Contents → SolidData → ℕ → Hints → Option Shell → Option Faults → List ℕ
 shell_hints listing f s k x (Some h) (Some faults) = hints_text listing f s h k faults.gaps x
@@ -48,5 +60,5 @@ TellsFlags s unpaired = IsTrue unpaired × (0 < unset_flags s) × IsClosedFlagge
 abbrev pub IsHint : Listing → Contents → SolidData → List Faults → List ℕ → List ℕ → List EntryNo → Type 0
 IsHint listing f s faults ks hint faces =
     (TellsFlags s (pair_fails faults ks) × (hint ≡ flags_hint (unset_flags s)) × (faces ≡ []))
-    ⊎ ((¬ TellsFlags s (pair_fails faults ks)) × (xs : List Hints) × AreHintsOf s ks xs × (hint ≡ flat_map (hints_at listing f s faults) (zip ks xs))
+    ⊎ ((¬ TellsFlags s (pair_fails faults ks)) × (xs : List Hints) × AreHintsOf f s ks xs × (hint ≡ flat_map (hints_at listing f s faults) (zip ks xs))
     × (faces ≡ flat_map (hint_faces_at listing s faults) (zip ks xs)))

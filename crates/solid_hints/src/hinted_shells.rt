@@ -3,18 +3,29 @@
 ghost use Rattle.iges_base.specs.declared.entry_no.EntryNo.{EntryNo as AnyEntryNo};
 ghost use Rattle.solid_data.specs.declared.solid.Shell.{Shell as AnyShell};
 ghost use Rattle.std.specs.Prelude.{◌≡◌, ◌++◌, ◌<◌, All, IfOk, List, OnOk, Some, flat_map, length, slice_get, zip, ℕ};
+ghost use Rattle.edge_uses.specs.ShellRows.{rows_of};
+ghost use Rattle.shell_classes.specs.Exactly.{IsExactly};
+ghost use Rattle.solid_faults.specs.Faults.{AreFaults};
+ghost use Rattle.alike_vertices.specs.Alike.{alike_of, spellings};
+ghost use Rattle.sewn_shell.specs.Sewn.{AreUnsewn};
+ghost use Rattle.open_hint.specs.Missing.{AreMissing};
+ghost use Rattle.where_hints.specs.Facts.{AreHints};
 ghost use Rattle.solid_hints.specs.AllFaults.{AreAllFaults};
-ghost use Rattle.solid_hints.specs.ShellHints.{AreHintsOf, AreShellHints, IsHint, hint_faces_at, hints_at};
+ghost use Rattle.solid_hints.specs.ShellHints.{AreHintsOf, AreShellHints, IsHint, IsUnsewn, alone, hint_faces_at, hints_at};
 
 use crate::flags::{pair_fails, put_flags, tells_flags, unset_flags};
 use crate::shell_faults::AllFaults;
-use edge_uses::rows;
+use alike_vertices::alike_vertices;
+use edge_uses::{Rows, rows};
 use iges_fields::{ItemList, NoMemory, Out};
 use iges_params::File;
 use open_hint::missing_faces;
+use sewn_shell::{Counts, unsewn};
+use shell_alone::solid_of_faces;
 use solid_data::{ShellAt, Solid};
+use solid_faults::ShellFaults;
 use std::alloc::Global;
-use where_hints::{HintView, Hints, hints_of, put_hints};
+use where_hints::{HintView, Hints, OtherHints, hints_of, put_hints};
 use where_text::{EntryNumbers, Listing};
 
 /// A solid of a file, all that fails in it, and how much is written of each list.
@@ -26,34 +37,105 @@ pub struct HintedSolid<'a> {
     pub listing: Listing,
 }
 
-fn hints_on(alloc: Global, solid: &Solid, all: &AllFaults, k: u32) -> Result<Hints, NoMemory>
+// The solid that has a shell alone.
+fn shell_alone(alloc: Global, solid: &Solid, shell: ShellAt) -> Result<Solid, NoMemory>
+    requires { shell.0 < length solid.now.shells }
+    ensures { IfOk result (λ t. (h : AnyShell) → slice_get solid.now.shells shell.0 ≡ Some h → t ≡ alone solid.now h) }
+{
+    solid.recall_numbering();
+    let shell = solid.shell(shell).unwrap();
+    let alone = solid_of_faces(alloc, solid, shell.flag, shell.faces.as_slice())?;
+    Ok(alone)
+}
+
+// What is counted of the solid's only shell, if it is closed once it is sewn.
+fn unsewn_in(alloc: Global, file: &File, solid: &Solid) -> Result<Option<Counts>, NoMemory>
+    requires { length solid.now.shells ≡ 1 }
+    ensures { IfOk result (λ answer. IsExactly (AreUnsewn solid.now (alike_of (spellings file.now solid.now))) answer) }
+{
+    let alike = alike_vertices(alloc, file, solid)?;
+    let answer = unsewn(alloc, solid, alike.as_slice())?;
+    Ok(answer)
+}
+
+// The same of a shell.
+fn unsewn_on(
+    alloc: Global,
+    file: &File,
+    solid: &Solid,
+    shell: ShellAt,
+) -> Result<Option<Counts>, NoMemory>
+    requires { shell.0 < length solid.now.shells }
+    ensures { IfOk result (λ answer. (h : AnyShell) → slice_get solid.now.shells shell.0 ≡ Some h
+        → IsExactly (IsUnsewn file.now solid.now h) answer) }
+{
+    let alone = shell_alone(alloc, solid, shell)?;
+    let answer = unsewn_in(alloc, file, &alone);
+    drop(alone);
+    answer
+}
+
+// The hints on a shell of which it's known whether it is closed once it is sewn.
+fn hints_with(
+    alloc: Global,
+    solid: &Solid,
+    at: ShellAt,
+    rows: &Rows,
+    faults: &ShellFaults,
+    unsewn: Option<Counts>,
+) -> Result<Hints, NoMemory>
+    requires shell { at.0 < length solid.now.shells }
+    requires rows { rows.now ≡ rows_of solid.now (slice_get solid.now.shells at.0) }
+    requires faults { (h : AnyShell) → slice_get solid.now.shells at.0 ≡ Some h
+        → AreFaults solid.now at.0 h faults.now }
+    ensures unsewn { IfOk result (λ x. x.unsewn ≡ unsewn) }
+    ensures missing { IfOk result (λ x. (h : AnyShell) → slice_get solid.now.shells at.0 ≡ Some h
+        → IsExactly (AreMissing solid.now h) x.missing) }
+    ensures hints { IfOk result (λ x. (h : AnyShell) → slice_get solid.now.shells at.0 ≡ Some h
+        → AreHints solid.now at.0 h x) }
+{
+    let missing = missing_faces(alloc, solid, at, rows)?;
+    let others = OtherHints { unsewn, missing };
+    let hints = hints_of(alloc, solid, at, rows, faults, others)?;
+    Ok(hints)
+}
+
+fn hints_on(
+    alloc: Global,
+    file: &File,
+    solid: &Solid,
+    all: &AllFaults,
+    k: u32,
+) -> Result<Hints, NoMemory>
     requires faults { AreAllFaults solid.now all.now }
     requires shell { k < length solid.now.shells }
     ensures { IfOk result (λ x. (h : AnyShell) → slice_get solid.now.shells k ≡ Some h
-        → AreShellHints solid.now k h x) }
+        → AreShellHints file.now solid.now k h x) }
 {
     let at = ShellAt(k);
     let faults = all.get(k as usize).unwrap();
+    let unsewn = unsewn_on(alloc, file, solid, at)?;
     let rows = rows(alloc, solid, at)?;
-    let missing = missing_faces(alloc, solid, at, &rows)?;
-    let hints = hints_of(alloc, solid, at, &rows, faults, missing)?;
-    Ok(hints)
+    let hints = hints_with(alloc, solid, at, &rows, faults, unsewn);
+    drop(rows);
+    hints
 }
 
 // The hints on each of these shells.
 fn all_hints(
     alloc: Global,
+    file: &File,
     solid: &Solid,
     all: &AllFaults,
     shells: &[u32],
 ) -> Result<ItemList<Hints>, NoMemory>
     requires faults { AreAllFaults solid.now all.now }
     requires shells { All (λ k. k < length solid.now.shells) shells.now }
-    ensures { IfOk result (λ xs. AreHintsOf solid.now shells.now xs) }
+    ensures { IfOk result (λ xs. AreHintsOf file.now solid.now shells.now xs) }
 {
     let mut list = ItemList::with_room(alloc, shells.len())?;
     'shells: for i in 0..shells.len() {
-        list.push(hints_on(alloc, solid, all, shells[i])?)?;
+        list.push(hints_on(alloc, file, solid, all, shells[i])?)?;
     }
     Ok(list)
 }
@@ -126,6 +208,6 @@ pub fn put_hint(
     if tells_flags(alloc, view.solid, pair_fails(view.all, shells), unset)? {
         return put_flags(out, unset);
     }
-    let hints = all_hints(alloc, view.solid, view.all, shells)?;
+    let hints = all_hints(alloc, view.file, view.solid, view.all, shells)?;
     put_all_hints(out, named, view, shells, hints.as_slice())
 }

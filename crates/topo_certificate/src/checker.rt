@@ -23,7 +23,7 @@ use std::alloc::Global;
 use std::marker::Model;
 
 /// What a checker says of a piece of a part of a book.
-#[derive(Clone, Copy, Debug, PartialEq, Eq)]
+#[derive(Clone, Copy, PartialEq, Eq)]
 pub enum PartStep {
     /// The whole piece was taken, and the part goes on.
     More,

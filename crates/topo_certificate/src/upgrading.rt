@@ -14,7 +14,7 @@ use solid_data::{Shell, ShellAt, Solid};
 use std::alloc::Global;
 
 /// Why a certificate isn't upgraded.
-#[derive(Clone, Copy, Debug, PartialEq, Eq)]
+#[derive(Clone, Copy, PartialEq, Eq)]
 pub enum UpgradeFault {
     /// The upgraded text has more bytes than were asked for.
     TooLarge,

@@ -13,7 +13,7 @@ use iges_base::without_front_spaces;
 use iges_fields::{Delimiters, Value};
 
 /// A piece of a text.
-#[derive(Clone, Copy, Debug, PartialEq, Eq)]
+#[derive(Clone, Copy)]
 pub struct Span {
     /// How many bytes come before it.
     pub at: usize,

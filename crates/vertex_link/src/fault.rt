@@ -4,7 +4,7 @@ use iges_base::NoMemory;
 use solid_data::VertexId;
 
 /// Why a shell has no corner for each of its vertices.
-#[derive(Clone, Copy, Debug, PartialEq, Eq)]
+#[derive(Clone, Copy)]
 pub enum LinkFault {
     /// The least vertex that has neither one cycle of rows and no loop without an edge, nor no row
     /// and exactly one loop without an edge.

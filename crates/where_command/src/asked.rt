@@ -8,7 +8,7 @@ ghost use Rattle.where_command.specs.Asked.{asked_of, is_number, one_asked};
 use where_text::Listing;
 
 /// What the words of a command line ask for.
-#[derive(Clone, Copy, Debug, PartialEq, Eq)]
+#[derive(Clone, Copy)]
 pub enum Asked {
     /// The verdict on each solid of the file.
     Overview,

@@ -6,7 +6,7 @@ ghost use Rattle.where_file.specs.LineFacts.{field_of};
 use iges_lines::Reason;
 
 /// Some columns of a line, one after another, the first counted from 1.
-#[derive(Clone, Copy, Debug)]
+#[derive(Clone, Copy)]
 pub struct Field {
     pub column: usize,
     pub width: usize,

@@ -1,7 +1,7 @@
 //! What a bad file, or the line of it that fails, looks like.
 
 /// A kind of file that isn't one of IGES, told by its first bytes.
-#[derive(Clone, Copy, Debug, PartialEq, Eq)]
+#[derive(Clone, Copy)]
 pub enum FileKind {
     Empty,
     Gzip,
@@ -19,7 +19,7 @@ pub enum FileKind {
 }
 
 /// What was done to the line that fails.
-#[derive(Clone, Copy, Debug, PartialEq, Eq)]
+#[derive(Clone, Copy)]
 pub enum LineKind {
     ControlZ,
     Nuls,

@@ -15,10 +15,12 @@ use Rattle.where_text.specs.Places.{face_words, vertex_words}
 use Rattle.where_text.specs.Spelled.{space_word}
 use Rattle.solid_faults.specs.declared.gap.Gap.{Gap}
 use Rattle.shell_classes.specs.Leasts.{classes_of}
+use Rattle.sewn_shell.specs.declared.counting.Counts.{Counts}
 use Rattle.shell_rims.specs.Rims.{Rims, least_of, rim_ends, rim_rows}
 use Rattle.turn_hint.specs.Patches.{patch_faces}
 use Rattle.turn_hint.specs.Turns.{Turn, Turns}
 use Rattle.face_hints.specs.Bodies.{Bodies}
+use Rattle.face_hints.specs.Extra.{Extra}
 use Rattle.face_hints.specs.Pieces.{piece_faces}
 use Rattle.where_hints.specs.Facts.{Hints}
 use Rattle.where_hints.specs.Sentences.{hint_word, hint_sentence}
@@ -60,15 +62,20 @@ numbered_line word f h n = line_if word f (slice_get h.faces n)
 abbrev pub faces_text : List ℕ → Listing → Contents → Shell → List ℕ → List ℕ
 faces_text word listing f h ns = flat_map (numbered_line word f h) (shown listing ns) ++ more_items listing (length ns)
 
--- the faces that are left over
-unfoldable pub stray_lines : Listing → Contents → Shell → ℕ → List ℕ → List ℕ
-stray_lines listing f h k strays =
-    hint_head hint.StrayFaces k ++ number_words (codes " faces") (length strays) ++ number_words (codes " of") (length h.faces) ++ hint_end hint.StrayFaces
-    ++ faces_text (codes "remove") listing f h strays
+-- a hint on faces that are to be removed
+unfoldable pub removed_lines : Hint → Listing → Contents → Shell → ℕ → List ℕ → List ℕ
+removed_lines which listing f h k faces =
+    hint_head which k ++ number_words (codes " faces") (length faces) ++ number_words (codes " of") (length h.faces) ++ hint_end which
+    ++ faces_text (codes "remove") listing f h faces
 
+-- the faces that are left over
 abbrev pub stray_text : Listing → Contents → Shell → ℕ → List ℕ → List ℕ
 stray_text listing f h k [] = []
-stray_text listing f h k (n ∷ ns) = stray_lines listing f h k (n ∷ ns)
+stray_text listing f h k (n ∷ ns) = removed_lines hint.StrayFaces listing f h k (n ∷ ns)
+
+-- the faces without which the shell is closed
+abbrev pub extra_text : Listing → Contents → Shell → ℕ → Extra → List ℕ
+extra_text listing f h k x = removed_lines hint.ExtraFaces listing f h k (piece_faces x.firsts x.piece)
 
 -- a body: its number, from 1, how many faces it has, and its first face
 unfoldable pub body_line : Contents → ℕ → ℕ → EntryNo → List ℕ
@@ -101,6 +108,12 @@ unfoldable pub doubled_lines : Listing → Contents → Shell → ℕ → List (
 doubled_lines listing f h k doubles =
     hint_head hint.DoubledFaces k ++ number_words (codes " faces") (length doubles) ++ hint_end hint.DoubledFaces
     ++ doubles_text listing f h doubles
+
+-- how many edges have one row, how many of them lie between the same two places as another, and how many gaps loops have
+unfoldable pub unsewn_lines : ℕ → Counts → List ℕ
+unsewn_lines k x =
+    hint_head hint.Unsewn k ++ number_words (codes " edges") x.edges ++ number_words (codes " alike") x.alike ++ number_words (codes " gaps") x.gaps
+    ++ hint_end hint.Unsewn
 
 -- an edge, its list and its index there, and the face on its one side
 unfoldable pub edge_line : Contents → EdgeKey → EntryNo → List ℕ
@@ -188,10 +201,16 @@ abbrev pub or_else : {A B : Type 0} → (A → List B) → Option A → List B �
 or_else said None rest = rest
 or_else said (Some x) rest = said x
 
--- Faces left over and bodies, copies of faces, faces that are missing: the first that there is is told alone. Where there is none, each kind of edge and of
--- vertex is told by itself.
+-- Faces left over and bodies, copies of faces, faces without which the shell is closed, edges and vertices that aren't sewn, faces that are missing: the first
+-- that there is is told alone. Where there is none, each kind of edge and of vertex is told by itself.
+abbrev pub after_unsewn_text : Listing → Contents → SolidData → Shell → ℕ → List Gap → Hints → List ℕ
+after_unsewn_text listing f s h k gaps x = or_else (missing_lines listing f s h k) x.missing (each_text listing f h k gaps x)
+
+abbrev pub after_extra_text : Listing → Contents → SolidData → Shell → ℕ → List Gap → Hints → List ℕ
+after_extra_text listing f s h k gaps x = or_else (unsewn_lines k) x.unsewn (after_unsewn_text listing f s h k gaps x)
+
 abbrev pub after_doubled_text : Listing → Contents → SolidData → Shell → ℕ → List Gap → Hints → List ℕ
-after_doubled_text listing f s h k gaps x = or_else (missing_lines listing f s h k) x.missing (each_text listing f h k gaps x)
+after_doubled_text listing f s h k gaps x = or_else (extra_text listing f h k) x.extra (after_extra_text listing f s h k gaps x)
 
 abbrev pub after_pieces_text : Listing → Contents → SolidData → Shell → ℕ → List Gap → Hints → List ℕ
 after_pieces_text listing f s h k gaps x = or_else (doubled_lines listing f h k) x.doubled (after_doubled_text listing f s h k gaps x)
@@ -210,6 +229,13 @@ named_if (Some face) = face.entity ∷ []
 
 abbrev pub face_named : Shell → ℕ → List EntryNo
 face_named h n = named_if (slice_get h.faces n)
+
+-- these faces, as many as are listed
+abbrev pub faces_named : Listing → Shell → List ℕ → List EntryNo
+faces_named listing h ns = flat_map (face_named h) (shown listing ns)
+
+abbrev pub extra_named : Listing → Shell → Extra → List EntryNo
+extra_named listing h x = faces_named listing h (piece_faces x.firsts x.piece)
 
 abbrev pub bodies_named : Listing → Shell → List ℕ → List EntryNo
 bodies_named listing h bodies = if nat_lt 1 (length bodies) then flat_map (face_named h) (shown listing bodies) else []
@@ -244,8 +270,18 @@ rim_named listing h x rim = flat_map (edge_named h x) (shown listing (rim_rows x
 abbrev pub missing_named : Listing → Shell → Rims → List EntryNo
 missing_named listing h x = flat_map (rim_named listing h x) (shown listing (classes_of x.firsts))
 
+abbrev pub after_unsewn_named : Listing → Shell → List Gap → Hints → List EntryNo
+after_unsewn_named listing h gaps x = or_else (missing_named listing h) x.missing (turns_named listing h gaps x.turns)
+
+-- the hint on a shell that isn't sewn names none
+abbrev pub none_named : Counts → List EntryNo
+none_named x = []
+
+abbrev pub after_extra_named : Listing → Shell → List Gap → Hints → List EntryNo
+after_extra_named listing h gaps x = or_else none_named x.unsewn (after_unsewn_named listing h gaps x)
+
 abbrev pub after_doubled_named : Listing → Shell → List Gap → Hints → List EntryNo
-after_doubled_named listing h gaps x = or_else (missing_named listing h) x.missing (turns_named listing h gaps x.turns)
+after_doubled_named listing h gaps x = or_else (extra_named listing h) x.extra (after_extra_named listing h gaps x)
 
 abbrev pub after_pieces_named : Listing → Shell → List Gap → Hints → List EntryNo
 after_pieces_named listing h gaps x = or_else (doubled_named listing h) x.doubled (after_doubled_named listing h gaps x)

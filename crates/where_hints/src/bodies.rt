@@ -3,33 +3,35 @@
 ghost use Rattle.std.specs.Prelude.{◌≡◌, ◌<◌, ◌^◌, ◌++◌, ◌∷◌, [], OnOk, flat_map};
 ghost use Rattle.std.specs.List.{enumerate_from};
 ghost use Rattle.where_text.specs.Listing.{shown};
-ghost use Rattle.where_hints.specs.Lines.{bodies_named, body_line, body_lines, body_of, body_text, face_named, stray_lines, stray_text};
+ghost use Rattle.where_hints.specs.Lines.{bodies_named, body_line, body_lines, body_of, body_text, extra_named, extra_text, face_named, faces_named, removed_lines, stray_text};
 
 use crate::counts::{put_count, put_end, put_head};
 use crate::naming::{Subject, put_faces};
 use crate::sentences::Hint;
-use face_hints::Bodies;
+use face_hints::{Bodies, Extra};
 use iges_base::{EntryNo, NoMemory, Out};
 use iges_params::File;
 use where_text::{EntryNumbers, put_face, put_more_items, shown_members};
 
-#[tactic(auto, unfolding(crate::specs::Lines::stray_lines))]
-fn put_stray_lines(
+// A hint on faces that are to be removed.
+#[tactic(auto, unfolding(crate::specs::Lines::removed_lines))]
+fn put_removed(
     out: &mut Out,
     named: &mut EntryNumbers,
     on: &Subject<'_>,
-    strays: &[u32],
+    hint: Hint,
+    faces: &[u32],
 ) -> Result<(), NoMemory>
     ensures text { OnOk result (out.new ≡ out.old
-        ++ stray_lines on.now.listing on.now.file.now on.now.shell.now on.now.at.0 strays.now) }
+        ++ removed_lines hint on.now.listing on.now.file.now on.now.shell.now on.now.at.0 faces.now) }
     ensures named { OnOk result (named.new ≡ named.old
-        ++ flat_map (face_named on.now.shell.now) (shown on.now.listing strays.now)) }
+        ++ faces_named on.now.listing on.now.shell.now faces.now) }
 {
-    put_head(out, Hint::StrayFaces, on.at)?;
-    put_count(out, " faces", strays.len())?;
+    put_head(out, hint, on.at)?;
+    put_count(out, " faces", faces.len())?;
     put_count(out, " of", on.shell.faces.len())?;
-    put_end(out, Hint::StrayFaces)?;
-    put_faces(out, named, on, "remove", strays)
+    put_end(out, hint)?;
+    put_faces(out, named, on, "remove", faces)
 }
 
 /// The faces that are left over; nothing where there are none.
@@ -42,12 +44,27 @@ pub(crate) fn put_strays(
     ensures text { OnOk result (out.new ≡ out.old
         ++ stray_text on.now.listing on.now.file.now on.now.shell.now on.now.at.0 strays.now) }
     ensures named { OnOk result (named.new ≡ named.old
-        ++ flat_map (face_named on.now.shell.now) (shown on.now.listing strays.now)) }
+        ++ faces_named on.now.listing on.now.shell.now strays.now) }
 {
     if strays.is_empty() {
         return Ok(());
     }
-    put_stray_lines(out, named, on, strays)
+    put_removed(out, named, on, Hint::StrayFaces, strays)
+}
+
+/// The faces of the piece without which the shell is closed.
+pub(crate) fn put_extra(
+    out: &mut Out,
+    named: &mut EntryNumbers,
+    on: &Subject<'_>,
+    found: &Extra,
+) -> Result<(), NoMemory>
+    ensures text { OnOk result (out.new ≡ out.old
+        ++ extra_text on.now.listing on.now.file.now on.now.shell.now on.now.at.0 found.now) }
+    ensures named { OnOk result (named.new ≡ named.old
+        ++ extra_named on.now.listing on.now.shell.now found.now) }
+{
+    put_removed(out, named, on, Hint::ExtraFaces, found.faces())
 }
 
 #[tactic(auto, unfolding(crate::specs::Lines::body_line))]

@@ -8,8 +8,9 @@ ghost use Rattle.where_hints.specs.Facts.{AreHints};
 
 use doubled_faces::{Doubles, doubled_faces};
 use edge_uses::Rows;
-use face_hints::{Bodies, bodies_of};
+use face_hints::{Bodies, Extra, bodies_of, extra_faces};
 use iges_base::NoMemory;
+use sewn_shell::Counts;
 use shell_hints::{crowded, pinch, touching, touching_shells};
 use shell_rims::Rims;
 use solid_data::{ShellAt, Solid};
@@ -23,6 +24,8 @@ use turn_hint::{Turns, turns_of};
 pub struct Hints {
     pub(crate) bodies: Option<Bodies>,
     pub(crate) doubled: Option<Doubles>,
+    pub(crate) extra: Option<Extra>,
+    pub(crate) unsewn: Option<Counts>,
     pub(crate) missing: Option<Rims>,
     pub(crate) turns: Option<Turns>,
     pub(crate) touching: Option<usize>,
@@ -36,24 +39,33 @@ impl Model for Hints {
 
     ghost Value = { Found };
 
-    ghost view = { λ x. record { bodies = x.bodies; doubled = x.doubled; missing = x.missing; turns = x.turns; touching = x.touching; crowded = x.crowded; pinched = x.pinched; shared = x.shared } };
+    ghost view = { λ x. record { bodies = x.bodies; doubled = x.doubled; extra = x.extra; unsewn = x.unsewn; missing = x.missing; turns = x.turns; touching = x.touching; crowded = x.crowded; pinched = x.pinched; shared = x.shared } };
 }
 
-/// What the hints on a shell are, whose rows and faults are given, and its rims if only faces are missing in it. It takes
-/// time in proportion to the shell.
+/// What is found by who knows more than the solid: whether the shell is closed once it is sewn, which its file tells, and
+/// its rims if only faces are missing in it, which the judge of open shells tells.
+#[derive(Drop)]
+pub struct OtherHints {
+    pub unsewn: Option<Counts>,
+    pub missing: Option<Rims>,
+}
+
+/// What the hints on a shell are, whose rows and faults are given, and the other hints. It takes time in proportion to the
+/// shell.
 pub fn hints_of(
     alloc: Global,
     solid: &Solid,
     shell: ShellAt,
     rows: &Rows,
     faults: &ShellFaults,
-    missing: Option<Rims>,
+    others: OtherHints,
 ) -> Result<Hints, NoMemory>
     requires shell { shell.0 < length solid.now.shells }
     requires rows { rows.now ≡ rows_of solid.now (slice_get solid.now.shells shell.0) }
     requires faults { (h : AnyShell) → slice_get solid.now.shells shell.0 ≡ Some h
         → AreFaults solid.now shell.0 h faults.now }
-    ensures missing { IfOk result (λ x. x.missing ≡ missing) }
+    ensures unsewn { IfOk result (λ x. x.unsewn ≡ others.unsewn) }
+    ensures missing { IfOk result (λ x. x.missing ≡ others.missing) }
     ensures hints { IfOk result (λ x. (h : AnyShell) → slice_get solid.now.shells shell.0 ≡ Some h
         → AreHints solid.now shell.0 h x) }
 {
@@ -61,11 +73,14 @@ pub fn hints_of(
     let unpaired = faults.unpaired();
     let bodies = bodies_of(alloc, solid, shell, rows)?;
     let doubled = doubled_faces(alloc, solid, shell)?;
+    let extra = extra_faces(alloc, solid, shell, rows)?;
     let turns = turns_of(alloc, rows)?;
     Ok(Hints {
         bodies,
         doubled,
-        missing,
+        extra,
+        unsewn: others.unsewn,
+        missing: others.missing,
         turns,
         touching: touching(unpaired),
         crowded: crowded(unpaired),

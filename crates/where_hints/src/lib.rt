@@ -9,8 +9,9 @@ mod missing;
 mod naming;
 mod sentences;
 mod turning;
+mod unsewn;
 mod writing;
 
-pub use facts::{Hints, hints_of};
+pub use facts::{Hints, OtherHints, hints_of};
 pub use sentences::Hint;
 pub use writing::{HintView, put_hints};

@@ -6,11 +6,13 @@ ghost use Rattle.where_hints.specs.Sentences.{hint_sentence as sentence_of, hint
 use iges_base::{NoMemory, Out};
 
 /// A hint on a shell.
-#[derive(Clone, Copy, Debug, PartialEq, Eq)]
+#[derive(Clone, Copy)]
 pub enum Hint {
     StrayFaces,
     Bodies,
     DoubledFaces,
+    ExtraFaces,
+    Unsewn,
     MissingFaces,
     Turned,
     Touching,
@@ -26,6 +28,8 @@ pub(crate) fn hint_word(hint: Hint) -> &'static str
         Hint::StrayFaces => "stray-faces",
         Hint::Bodies => "bodies",
         Hint::DoubledFaces => "doubled-faces",
+        Hint::ExtraFaces => "extra-faces",
+        Hint::Unsewn => "unsewn",
         Hint::MissingFaces => "missing-faces",
         Hint::Turned => "turned",
         Hint::Touching => "touching",
@@ -48,6 +52,12 @@ fn hint_sentence(hint: Hint) -> &'static str
         }
         Hint::DoubledFaces => {
             "  Each of these faces uses the very same edges as an earlier face of the\n  shell: it's there twice. Without the later ones the shell is closed. Delete\n  them.\n"
+        }
+        Hint::ExtraFaces => {
+            "  Without these faces the shell is closed. Either they're a wall inside of the\n  body, or a copy of other faces: delete them. Or two bodies share them as a\n  wall: write each as a solid of its own, with its own copy of the wall.\n"
+        }
+        Hint::Unsewn => {
+            "  No face is missing, but neighbours have edges and vertices of their own.\n  With vertices taken as one where their coordinates are spelled alike, and\n  edges used once as one where two lie between the same places, the shell is\n  closed. Sew (join, knit, stitch) the faces and write the file again.\n"
         }
         Hint::MissingFaces => {
             "  Only faces are missing: taken as an open shell this one is sound, as\n  igesolid open certifies. Each rim is a ring of edges with a face on one side\n  only. Fill it with a face; two rims may also be the ends of one missing\n  wall.\n"

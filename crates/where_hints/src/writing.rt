@@ -1,9 +1,9 @@
 //! The hints on a shell.
 
 ghost use Rattle.std.specs.Prelude.{◌≡◌, ◌++◌, OnOk};
-ghost use Rattle.where_hints.specs.Lines.{after_pieces_named, after_pieces_text, each_text, first_text, hints_named, hints_text, after_doubled_named, after_doubled_text, or_else, pieces_named, pieces_text, turns_named};
+ghost use Rattle.where_hints.specs.Lines.{after_doubled_named, after_doubled_text, after_extra_named, after_extra_text, after_unsewn_named, after_unsewn_text, after_pieces_named, after_pieces_text, each_text, first_text, hints_named, hints_text, or_else, pieces_named, pieces_text, turns_named};
 
-use crate::bodies::{put_bodies, put_strays};
+use crate::bodies::{put_bodies, put_extra, put_strays};
 use crate::counts::put_counted_if;
 use crate::doubled::put_doubled;
 use crate::facts::Hints;
@@ -11,6 +11,7 @@ use crate::missing::put_missing;
 use crate::naming::Subject;
 use crate::sentences::Hint;
 use crate::turning::put_turns;
+use crate::unsewn::put_unsewn;
 use face_hints::Bodies;
 use iges_base::{NoMemory, Out};
 use iges_params::File;
@@ -38,6 +39,44 @@ fn put_each(
 }
 
 // Faces that are missing, else each kind of edge and of vertex.
+fn put_after_unsewn(
+    out: &mut Out,
+    named: &mut EntryNumbers,
+    on: &Subject<'_>,
+    gaps: &[Gap],
+    hints: &Hints,
+) -> Result<(), NoMemory>
+    ensures text { OnOk result (out.new ≡ out.old
+        ++ after_unsewn_text on.now.listing on.now.file.now on.now.solid.now on.now.shell.now on.now.at.0 gaps.now hints.now) }
+    ensures named { OnOk result (named.new
+        ≡ named.old ++ after_unsewn_named on.now.listing on.now.shell.now gaps.now hints.now) }
+{
+    match &hints.missing {
+        None => put_each(out, named, on, gaps, hints),
+        Some(found) => put_missing(out, named, on, found),
+    }
+}
+
+// Edges and vertices that aren't sewn, else what comes after.
+fn put_after_extra(
+    out: &mut Out,
+    named: &mut EntryNumbers,
+    on: &Subject<'_>,
+    gaps: &[Gap],
+    hints: &Hints,
+) -> Result<(), NoMemory>
+    ensures text { OnOk result (out.new ≡ out.old
+        ++ after_extra_text on.now.listing on.now.file.now on.now.solid.now on.now.shell.now on.now.at.0 gaps.now hints.now) }
+    ensures named { OnOk result (named.new
+        ≡ named.old ++ after_extra_named on.now.listing on.now.shell.now gaps.now hints.now) }
+{
+    match hints.unsewn {
+        None => put_after_unsewn(out, named, on, gaps, hints),
+        Some(found) => put_unsewn(out, on.at, found),
+    }
+}
+
+// Faces without which the shell is closed, else what comes after.
 fn put_after_doubled(
     out: &mut Out,
     named: &mut EntryNumbers,
@@ -50,9 +89,9 @@ fn put_after_doubled(
     ensures named { OnOk result (named.new
         ≡ named.old ++ after_doubled_named on.now.listing on.now.shell.now gaps.now hints.now) }
 {
-    match &hints.missing {
-        None => put_each(out, named, on, gaps, hints),
-        Some(found) => put_missing(out, named, on, found),
+    match &hints.extra {
+        None => put_after_extra(out, named, on, gaps, hints),
+        Some(found) => put_extra(out, named, on, found),
     }
 }
 

@@ -35,7 +35,8 @@ use Rattle.solid_hints.specs.AllFaults.{AreAllFaults, failing_shells}
 use Rattle.solid_hints.specs.Flags.{flags_hint, pair_fails, unset_flags}
 use Rattle.where_solids.specs.Lines.{verdict_line}
 use Rattle.where_solids.specs.Overview.{AreVerdicts}
-use Rattle.solid_hints.specs.ShellHints.{AreHintsOf, AreShellHints, IsHint, TellsFlags, hint_faces_at, hints_at}
+use Rattle.solid_hints.specs.ShellHints.{AreHintsOf, AreShellHints, IsHint, TellsFlags, alone, hint_faces_at, hints_at}
+use Rattle.alike_vertices.specs.Alike.{alike_of, spellings}
 use Rattle.where_places.specs.declared.placed_file.PlacedFile.{PlacedFile}
 use Rattle.where_solids.specs.ShellTexts.{shell_lines, shell_texts}
 use Rattle.where_solids.specs.Told.{IsToldOf, record_rest}
@@ -76,35 +77,35 @@ some_all s numbered =
 -- ---- the hints
 
 -- of a shell that may not be there
-hints_at_shell : (s : SolidData) → IsNumberedSolid s → (k : ℕ) → (x : Hints) × ((h : Shell) → slice_get s.shells k ≡ Some h → AreShellHints s k h x)
-hints_at_shell s numbered k = by_shell (slice_get s.shells k) refl
+hints_at_shell : (f : Contents) (s : SolidData) → IsNumberedSolid s → (k : ℕ) → (x : Hints) × ((h : Shell) → slice_get s.shells k ≡ Some h → AreShellHints f s k h x)
+hints_at_shell f s numbered k = by_shell (slice_get s.shells k) refl
   where
-    by_shell : (o : Option Shell) → slice_get s.shells k ≡ o → (x : Hints) × ((h : Shell) → slice_get s.shells k ≡ Some h → AreShellHints s k h x)
+    by_shell : (o : Option Shell) → slice_get s.shells k ≡ o → (x : Hints) × ((h : Shell) → slice_get s.shells k ≡ Some h → AreShellHints f s k h x)
     by_shell None at = (
-      record { bodies = None; doubled = None; missing = None; turns = None; touching = None; crowded = None; pinched = None; shared = None },
+      record { bodies = None; doubled = None; extra = None; unsewn = None; missing = None; turns = None; touching = None; crowded = None; pinched = None; shared = None },
       λ h there. absurd (none-some h (sym at ∙ there)),
     )
     by_shell (Some g) at =
-        let x = some_hints s k g numbered at in
-        (x.0, λ h there. subst (λ t. AreShellHints s k t x.0) (same_Some g h (sym at ∙ there)) (x.1, x.2))
+        let x = some_hints s k g (alike_of (spellings f (alone s g))) numbered at in
+        (x.0, λ h there. subst (λ t. AreShellHints f s k t x.0) (same_Some g h (sym at ∙ there)) (x.1, x.2, x.3))
 
-hints_of_shells : (s : SolidData) → IsNumberedSolid s → (ks : List ℕ) → (xs : List Hints) × AreHintsOf s ks xs
-hints_of_shells s numbered [] = ([], record { each = refl; shell = λ i x at k h of_k there. absurd cc })
-hints_of_shells s numbered (m ∷ ks) =
-    let first = hints_at_shell s numbered m in
-    let rest = hints_of_shells s numbered ks in (
+hints_of_shells : (f : Contents) (s : SolidData) → IsNumberedSolid s → (ks : List ℕ) → (xs : List Hints) × AreHintsOf f s ks xs
+hints_of_shells f s numbered [] = ([], record { each = refl; shell = λ i x at k h of_k there. absurd cc })
+hints_of_shells f s numbered (m ∷ ks) =
+    let first = hints_at_shell f s numbered m in
+    let rest = hints_of_shells f s numbered ks in (
       first.0 ∷ rest.0,
       record { each = ap suc rest.1.each; shell = λ i x at k h of_k there. by_place first.0 rest.0 first.1 rest.1.shell i x at k h of_k there },
     )
   where
-    by_place : (y : Hints) (ys : List Hints) → ((h : Shell) → slice_get s.shells m ≡ Some h → AreShellHints s m h y)
-        → ((i : ℕ) (x : Hints) → slice_get ys i ≡ Some x → (k : ℕ) (h : Shell) → slice_get ks i ≡ Some k → slice_get s.shells k ≡ Some h → AreShellHints s k h x)
+    by_place : (y : Hints) (ys : List Hints) → ((h : Shell) → slice_get s.shells m ≡ Some h → AreShellHints f s m h y)
+        → ((i : ℕ) (x : Hints) → slice_get ys i ≡ Some x → (k : ℕ) (h : Shell) → slice_get ks i ≡ Some k → slice_get s.shells k ≡ Some h → AreShellHints f s k h x)
         → (i : ℕ) (x : Hints) → slice_get (y ∷ ys) i ≡ Some x → (k : ℕ) (h : Shell) → slice_get (m ∷ ks) i ≡ Some k → slice_get s.shells k ≡ Some h
-        → AreShellHints s k h x
+        → AreShellHints f s k h x
     by_place y ys first more zero x at k h of_k there =
         let is : m ≡ k = same_Some m k of_k in
-        subst (λ z. AreShellHints s k h z) (same_Some y x at)
-        (subst (λ j. AreShellHints s j h y) is (first h (subst (λ j. slice_get s.shells j ≡ Some h) (sym is) there)))
+        subst (λ z. AreShellHints f s k h z) (same_Some y x at)
+        (subst (λ j. AreShellHints f s j h y) is (first h (subst (λ j. slice_get s.shells j ≡ Some h) (sym is) there)))
     by_place y ys first more (suc i) x at k h of_k there = more i x at k h of_k there
 
 some_hint : (listing : Listing) (f : Contents) (s : SolidData) → IsNumberedSolid s → (faults : List Faults) (ks : List ℕ)
@@ -115,7 +116,7 @@ some_hint listing f s numbered faults ks =
     by_flags : Decided (TellsFlags s (pair_fails faults ks)) → (hint : List ℕ) × (faces : List EntryNo) × IsHint listing f s faults ks hint faces
     by_flags (inl tells) = (flags_hint (unset_flags s), [], inl (tells, refl, refl))
     by_flags (inr never) =
-        let xs = hints_of_shells s numbered ks in (
+        let xs = hints_of_shells f s numbered ks in (
           flat_map (hints_at listing f s faults) (zip ks xs.0),
           flat_map (hint_faces_at listing s faults) (zip ks xs.0),
           inr (never, xs.0, xs.1, refl, refl),

@@ -7,7 +7,7 @@ use iges_base::{EntryNo, NoMemory, Out, put_number};
 use std::marker::Model;
 
 /// Where the record of an entry stands among the parameter lines (IGES 5.3, 2.2.4.4.2 and 2.2.4.4.14).
-#[derive(Clone, Copy, Debug, PartialEq, Eq)]
+#[derive(Clone, Copy)]
 pub struct RecordLines {
     /// The number of its first line in the section, from 1.
     pub first: u32,

@@ -1,6 +1,8 @@
 //! The verdict on each solid of a file.
 
 ghost use Rattle.iges_base.specs.declared.entry_no.EntryNo.{EntryNo as AnyEntryNo};
+ghost use Rattle.shell_rules.specs.ShellObligations.{solid_obligations};
+ghost use Rattle.solid_data.specs.Obligations.{IsVerdict};
 ghost use Rattle.solid_verdict.specs.Closed.{IsVerdictOn};
 ghost use Rattle.solid_data.specs.declared.verdict.Verdict.{Verdict as AnyVerdict};
 ghost use Rattle.std.specs.Prelude.{◌≡◌, ◌++◌, ◌&&◌, ◌==◌, nat_lt, List, IfOk, IfSome, OnOk, Some, count_by, flat_map, length, slice_get, zip, ℕ};
@@ -15,7 +17,7 @@ use crate::verdicts::verdict;
 use brep_walk::{WalkFault, Walker};
 use iges_fields::{Bytes, EntryNo, ItemList, NoMemory, Out};
 use iges_params::File;
-use solid_data::Verdict;
+use solid_data::{Solid, Verdict};
 use solid_hints::all_faults;
 use std::alloc::Global;
 use where_entities::put_entity_facts;
@@ -30,6 +32,16 @@ pub struct Overview {
     pub text: Bytes,
 }
 
+// The verdict on a solid whose records were walked.
+fn judged(alloc: Global, solid: &Solid) -> Result<Verdict, NoMemory>
+    ensures { IfOk result (IsVerdict (solid_obligations solid.now)) }
+{
+    let all = all_faults(alloc, solid)?;
+    let verdict = verdict(solid, &all);
+    drop(all);
+    Ok(verdict)
+}
+
 fn verdict_on(alloc: Global, walker: &mut Walker<'_>, no: EntryNo) -> Result<Verdict, NoMemory>
     ensures file { walker.new ≡ walker.old }
     ensures verdict { IfOk result (IsVerdictOn walker.old no.0) }
@@ -39,8 +51,9 @@ fn verdict_on(alloc: Global, walker: &mut Walker<'_>, no: EntryNo) -> Result<Ver
         Err(WalkFault::Fails(failing)) => return Ok(Verdict::Fails(failing)),
         Err(WalkFault::NoMemory) => return Err(NoMemory),
     };
-    let all = all_faults(alloc, &solid)?;
-    Ok(verdict(&solid, &all))
+    let verdict = judged(alloc, &solid);
+    drop(solid);
+    verdict
 }
 
 // The verdict on a solid that an earlier one with the same only shell has, where there is one.
@@ -103,10 +116,12 @@ fn judge_each(
 fn verdicts(alloc: Global, file: &File, solids: &[EntryNo]) -> Result<ItemList<Verdict>, NoMemory>
     ensures { IfOk result (AreVerdicts file.now solids.now) }
 {
-    let mut walker = Walker::new(alloc, file);
     let mut last = LastNaming::new(alloc, file.entry_count())?;
-    let verdicts = judge_each(alloc, &mut walker, &mut last, file, solids)?;
-    Ok(verdicts)
+    let mut walker = Walker::new(alloc, file);
+    let verdicts = judge_each(alloc, &mut walker, &mut last, file, solids);
+    drop(walker);
+    drop(last);
+    verdicts
 }
 
 fn fails(verdict: Verdict) -> bool

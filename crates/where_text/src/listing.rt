@@ -9,7 +9,7 @@ use iges_fields::{EntryNo, ItemList, NoMemory, Out, write_number};
 const LIMIT: usize = 20;
 
 /// How many members of each list are written.
-#[derive(Clone, Copy, Debug, PartialEq, Eq)]
+#[derive(Clone, Copy)]
 pub enum Listing {
     /// The first 20 members.
     Few,

@@ -7,7 +7,7 @@ ghost use Rattle.where_text.specs.Types.{type_names, type_word};
 ghost use Rattle.where_text.specs.TypeTable.{name_meant};
 
 /// An entity type, by its number, and the word for it.
-#[derive(Clone, Copy, Debug)]
+#[derive(Clone, Copy)]
 pub struct TypeName(pub i64, pub &'static str);
 
 // The types that have a word of their own (IGES 5.3, chapter 4; the words are own).

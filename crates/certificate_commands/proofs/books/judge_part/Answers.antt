@@ -12,7 +12,7 @@ returns-in-Err-clause-found g c = λ ns before h.
     (refused_part c.args.walker.now ns before _ c.args.piece.now c.args.begun h c.in-Err.reply tells)
 
 pub returns-clause-found : goal.returns-clause-found
-returns-clause-found g c = λ ns before h. c.judge_part_lines.ensures.found c.args.walker.now ns before h
+returns-clause-found g c = λ ns before h. c.judge_part_lines-outcome.ensures.found c.args.walker.now ns before h
     (rw c.in-Ok.is at (c.in_ok-solid.ensures {u = tt}).found)
 
 pub returns-in_err-solid-clause-found : goal.returns-in_err-solid-clause-found
@@ -50,14 +50,14 @@ returns-in-Err-clause-reads g c = went_on _ _ _ _ _ _ _ (c.in_ok-reply-in-Err.en
 pub decided_reply-requires : goal.decided_reply-requires
 decided_reply-requires g c = record { ready = c.requires.ready; room = c.requires.room; few = c.requires.place.few }
 
-pub judge_part_lines-requires : goal.judge_part_lines-requires
-judge_part_lines-requires g c = record { ready = c.requires.ready; room = c.requires.room; place = c.requires.place }
+pub judge_part_lines-outcome-requires : goal.judge_part_lines-outcome-requires
+judge_part_lines-outcome-requires g c = record { ready = c.requires.ready; room = c.requires.room; place = c.requires.place }
 
 pub returns-clause-leaves : goal.returns-clause-leaves
-returns-clause-leaves g c = c.judge_part_lines.ensures.leaves
+returns-clause-leaves g c = c.judge_part_lines-outcome.ensures.leaves
 
 pub returns-clause-reads : goal.returns-clause-reads
-returns-clause-reads g c = c.judge_part_lines.ensures.reads
+returns-clause-reads g c = c.judge_part_lines-outcome.ensures.reads
 
 pub returns-clause-more : goal.returns-clause-more
-returns-clause-more g c = c.judge_part_lines.ensures.more
+returns-clause-more g c = c.judge_part_lines-outcome.ensures.more

@@ -9,4 +9,4 @@ returns-in-Err-clause-found c = λ certificate ns front whole few begins.
 pub returns-clause-found : goal.returns-clause-found
 returns-clause-found c = λ certificate ns front whole few begins.
     let checked = rw c.in-Ok.is at (c.in_ok-solid.ensures {u = tt}).found in
-    c.judge_held_lines.ensures.found c.args.walker.now certificate ns front c.args.no.0 whole few begins checked
+    c.judge_held_lines-outcome.ensures.found c.args.walker.now certificate ns front c.args.no.0 whole few begins checked

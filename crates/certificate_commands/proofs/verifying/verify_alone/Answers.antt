@@ -10,7 +10,7 @@ returns-in-Err-clause-found g c = λ before opened.
     (refusal_decides c.args.file before _ c.args.piece.now c.args.opened c.in-Err.reply opened c.requires.one tells)
 
 pub returns-clause-found : goal.returns-clause-found
-returns-clause-found g c = λ before opened. c.verify_lines.ensures.found c.args.file before opened (rw c.in-Ok.is at (c.in_ok-solid.ensures {u = tt}))
+returns-clause-found g c = λ before opened. c.verify_lines-reply.ensures.found c.args.file before opened (rw c.in-Ok.is at (c.in_ok-solid.ensures {u = tt}))
 
 pub returns-in_err-solid-clause-found : goal.returns-in_err-solid-clause-found
 returns-in_err-solid-clause-found g c = λ before opened. IfOk-from_err c.from_residual.result _ c.from_residual.ensures.0
@@ -30,11 +30,11 @@ returns-in-Err-clause-whole g c = c.decided_reply.ensures.whole
 pub returns-in-Err-clause-reads : goal.returns-in-Err-clause-reads
 returns-in-Err-clause-reads g c = c.decided_reply.ensures.reads
 
-pub verify_lines-requires : goal.verify_lines-requires
-verify_lines-requires g c = record { ready = c.requires.ready; room = c.requires.room; place = c.requires.place; one = c.requires.one }
+pub verify_lines-reply-requires : goal.verify_lines-reply-requires
+verify_lines-reply-requires g c = record { ready = c.requires.ready; room = c.requires.room; place = c.requires.place; one = c.requires.one }
 
 pub returns-clause-whole : goal.returns-clause-whole
-returns-clause-whole g c = c.verify_lines.ensures.whole
+returns-clause-whole g c = c.verify_lines-reply.ensures.whole
 
 pub returns-clause-reads : goal.returns-clause-reads
-returns-clause-reads g c = c.verify_lines.ensures.reads
+returns-clause-reads g c = c.verify_lines-reply.ensures.reads

@@ -1,7 +1,7 @@
 use Rattle.std.proofs.Common.{◌∙◌, sym, subst, ap}
 use Rattle.edge_uses.specs.ShellRows.{rows_of, shell_rows}
 use Rattle.shell_classes.specs.Exactly.{IsExactly}
-use Rattle.shell_rims.specs.LoneRows.{lone_rows}
+use Rattle.lone_rows.specs.LoneRows.{lone_rows}
 use Rattle.open_hint.specs.Missing.{AreMissing}
 use Rattle.open_hint.proofs.Whole.{exactly_missing}
 use Rattle.open_hint.proofs.missing.missing_faces.Goals as goal

@@ -1,21 +1,23 @@
 use Rattle.std.proofs.Common.{sym, ◌∙◌, subst}
 use Rattle.solid_data.specs.Numbering.{IsNumberedSolid}
-use Rattle.shell_alone.proofs.Numbered.{alone_numbered, parts_are}
+use Rattle.shell_alone.specs.Alone.{faces_at}
+use Rattle.shell_alone.proofs.Numbered.{solid_numbered, parts_are}
 use Rattle.shell_alone.proofs.alone.solid_of.Goals as goal
 
 pub new-requires : goal.new-requires
 new-requires c =
     subst IsNumberedSolid
     (sym
-    (parts_are c.args.solid.now c.args.shell.now c.args.faces.now _ _ _ _ _ _ _ _ _ _ _ _ _ c.entity-entity.ensures.entity c.in_ok-used.ensures.edges
-    c.in_ok-used.ensures.vertices c.as_slice.ensures.value c.as_slice-2.ensures.value c.in_ok-edges.ensures c.in_ok-vertices.ensures c.in_ok-copies.ensures
-    c.in_ok-shells.ensures c.as_slice-3.ensures.items c.as_slice-4.ensures.items c.in_ok-edge_list.ensures c.in_ok-vertex_list.ensures))
-    (alone_numbered c.args.solid.now c.args.shell.now c.args.faces.now c.entity-entity.ensures.numbered c.requires.shell c.requires.some c.requires.rise
-    c.requires.inside)
+    (parts_are c.args.solid.now c.args.flag (faces_at c.args.faces.now c.args.numbers.now) _ _ _ _ _ _ _ _ _ _ _ _ _ c.entity-entity.ensures.entity
+    c.in_ok-used.ensures.edges c.in_ok-used.ensures.vertices c.as_slice.ensures.value c.as_slice-2.ensures.value c.in_ok-edges.ensures
+    c.in_ok-vertices.ensures c.in_ok-copies.ensures c.in_ok-shells.ensures c.as_slice-3.ensures.items c.as_slice-4.ensures.items
+    c.in_ok-edge_list.ensures c.in_ok-vertex_list.ensures))
+    (solid_numbered c.args.solid.now c.args.flag (faces_at c.args.faces.now c.args.numbers.now) c.entity-entity.ensures.numbered c.requires)
 
 pub returns : goal.returns
 returns c =
     c.new.ensures
-    ∙ parts_are c.args.solid.now c.args.shell.now c.args.faces.now _ _ _ _ _ _ _ _ _ _ _ _ _ c.entity-entity.ensures.entity c.in_ok-used.ensures.edges
-    c.in_ok-used.ensures.vertices c.as_slice.ensures.value c.as_slice-2.ensures.value c.in_ok-edges.ensures c.in_ok-vertices.ensures c.in_ok-copies.ensures
-    c.in_ok-shells.ensures c.as_slice-3.ensures.items c.as_slice-4.ensures.items c.in_ok-edge_list.ensures c.in_ok-vertex_list.ensures
+    ∙ parts_are c.args.solid.now c.args.flag (faces_at c.args.faces.now c.args.numbers.now) _ _ _ _ _ _ _ _ _ _ _ _ _ c.entity-entity.ensures.entity
+    c.in_ok-used.ensures.edges c.in_ok-used.ensures.vertices c.as_slice.ensures.value c.as_slice-2.ensures.value c.in_ok-edges.ensures
+    c.in_ok-vertices.ensures c.in_ok-copies.ensures c.in_ok-shells.ensures c.as_slice-3.ensures.items c.as_slice-4.ensures.items
+    c.in_ok-edge_list.ensures c.in_ok-vertex_list.ensures

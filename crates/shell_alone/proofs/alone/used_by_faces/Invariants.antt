@@ -6,7 +6,7 @@ use Rattle.shell_alone.proofs.alone.used_by_faces.Given as goal
 
 abbrev pub invariant-faces : goal.invariant-faces
 invariant-faces l = record {
-  edges : l.used.edges.items ++ flat_map face_edges (faces_at l.shell.faces (drop l.i l.faces)) ≡ flat_map face_edges (faces_at l.shell.faces l.faces);
-  vertices : l.used.vertices.items ++ flat_map (face_vertices l.solid) (faces_at l.shell.faces (drop l.i l.faces))
-      ≡ flat_map (face_vertices l.solid) (faces_at l.shell.faces l.faces);
+  edges : l.used.edges.items ++ flat_map face_edges (faces_at l.faces (drop l.i l.numbers)) ≡ flat_map face_edges (faces_at l.faces l.numbers);
+  vertices : l.used.vertices.items ++ flat_map (face_vertices l.solid) (faces_at l.faces (drop l.i l.numbers))
+      ≡ flat_map (face_vertices l.solid) (faces_at l.faces l.numbers);
 }

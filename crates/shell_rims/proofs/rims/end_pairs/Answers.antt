@@ -1,5 +1,5 @@
 use Rattle.std.proofs.Common.{length}
-use Rattle.shell_rims.specs.Only.{row_ends}
+use Rattle.shell_rims.specs.EndPairs.{row_ends}
 use Rattle.shell_rims.proofs.RimLemmas.{known_from, known_to, pair_step}
 use Rattle.shell_rims.proofs.rims.end_pairs.Goals as goal
 

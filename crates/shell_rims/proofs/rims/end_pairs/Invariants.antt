@@ -1,6 +1,6 @@
 use Rattle.std.proofs.Common.{◌≡◌, ◌++◌, drop, flat_map, length}
 use Rattle.std.specs.List.{enumerate_from}
-use Rattle.shell_rims.specs.Only.{row_ends, end_pairs}
+use Rattle.shell_rims.specs.EndPairs.{row_ends, end_pairs}
 use Rattle.shell_rims.proofs.rims.end_pairs.Given as goal
 
 abbrev pub invariant-rows : goal.invariant-rows

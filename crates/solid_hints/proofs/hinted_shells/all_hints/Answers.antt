@@ -7,7 +7,7 @@ use Rattle.solid_hints.proofs.hinted_shells.all_hints.Goals as goal
 pub shells-preserved : goal.shells-preserved
 shells-preserved c = record {
   each = longer c.shells.list c.push.new.self c.in_ok-hints_on.field-0 c.shells.i c.shells.invariant.each c.in_ok-push.ensures.ok;
-  shell = hints_more c.args.solid.now c.args.shells.now c.shells.i (get_or c.args.shells.now c.shells.i 0) c.shells.list c.push.new.self
+  shell = hints_more c.args.file.now c.args.solid.now c.args.shells.now c.shells.i (get_or c.args.shells.now c.shells.i 0) c.shells.list c.push.new.self
       c.in_ok-hints_on.field-0 (slice_get-get_or c.args.shells.now c.shells.i 0 c.shells-test.true) c.shells.invariant.each c.in_ok-push.ensures.ok
       c.shells.invariant.shell c.in_ok-hints_on.ensures;
 }

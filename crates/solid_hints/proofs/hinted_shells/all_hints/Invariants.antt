@@ -8,5 +8,5 @@ abbrev pub invariant-shells : goal.invariant-shells
 invariant-shells l = record {
   each : length l.list ≡ l.i;
   shell : (j : ℕ) (x : Hints) → slice_get l.list j ≡ Some x → (k : ℕ) (h : Shell) → slice_get l.shells j ≡ Some k → slice_get l.solid.shells k ≡ Some h
-      → AreShellHints l.solid k h x;
+      → AreShellHints l.file l.solid k h x;
 }

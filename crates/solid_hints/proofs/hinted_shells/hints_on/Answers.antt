@@ -1,15 +1,13 @@
-use Rattle.std.proofs.Common.{◌≡◌, Some, rules, slice_get, sym, subst}
-use Rattle.shell_classes.specs.Exactly.{IsExactly}
-use Rattle.open_hint.specs.Missing.{AreMissing}
+use Rattle.std.proofs.Common.{◌≡◌, Some, rules, slice_get}
+use Rattle.solid_hints.proofs.AloneLemmas.{all_told}
 use Rattle.solid_hints.proofs.hinted_shells.hints_on.Goals as goal
 
-pub hints_of-requires-clause-faults : goal.hints_of-requires-clause-faults
-hints_of-requires-clause-faults c h at =
+pub hints_with-hints-requires-clause-faults : goal.hints_with-hints-requires-clause-faults
+hints_with-hints-requires-clause-faults c h at =
     let there : slice_get c.args.all.now c.args.k ≡ Some c.unwrap-faults.result.now = search rules in
     c.requires.faults.shell c.args.k h c.unwrap-faults.result.now at there
 
 pub returns : goal.returns
-returns c h at = (
-  c.in_ok-hints.ensures.hints h at,
-  subst (IsExactly (AreMissing c.args.solid.now h)) (sym c.in_ok-hints.ensures.missing) (c.in_ok-missing.ensures h at),
-)
+returns c =
+    all_told c.args.file.now c.args.solid.now c.args.k c.in_ok-unsewn.unsewn c.hints_with-hints.result c.in_ok-unsewn.ensures
+    c.hints_with-hints.ensures.unsewn c.hints_with-hints.ensures.missing c.hints_with-hints.ensures.hints

@@ -14,6 +14,7 @@ returns-clause-hints c h at =
     record {
       bodies = c.in_ok-bodies.ensures h at;
       doubled = c.in_ok-doubled.ensures h at;
+      extra = c.in_ok-extra.ensures h at;
       turns = subst (λ d. IsExactly (AreTurns d) c.in_ok-turns.turns) rows c.in_ok-turns.ensures;
       touching = c.touching.ensures (shell_rows s h) (c.unpaired-unpaired.ensures ∙ f.unpaired);
       crowded = c.crowded.ensures (shell_rows s h) (c.unpaired-unpaired.ensures ∙ f.unpaired);

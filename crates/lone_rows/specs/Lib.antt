@@ -1,0 +1,2 @@
+pub mod LoneRows
+pub mod Only

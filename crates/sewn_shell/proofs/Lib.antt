@@ -1,0 +1,4 @@
+pub mod EndLemmas
+pub mod SeamLemmas
+pub mod StandLemmas
+pub mod UnsewnLemmas
