@@ -10,7 +10,6 @@ use Rattle.solid_faults.specs.Naming.{AreNamed}
 use Rattle.solid_faults.proofs.Definite.{are_named}
 use Rattle.fault_laws.proofs.Found.{some_faults}
 use Rattle.shell_classes.specs.Exactly.{IsExactly}
-use Rattle.shell_alone.specs.Alone.{solid_of_faces}
 use Rattle.sewn_shell.specs.Sewn.{AreUnsewn}
 use Rattle.open_hint.specs.Missing.{AreMissing}
 use Rattle.where_hints.specs.Facts.{AreHints, Hints}
@@ -23,7 +22,7 @@ use Rattle.hint_laws.proofs.SomeUnsewn.{some_unsewn}
 use Rattle.hint_laws.proofs.SomeTurns.{some_turning}
 
 pub some_hints : (s : SolidData) (k : ℕ) (h : Shell) (alike : List ℕ) → IsNumberedSolid s → slice_get s.shells k ≡ Some h
-    → (x : Hints) × AreHints s k h x × IsExactly (AreUnsewn (solid_of_faces s h.flag h.faces) alike) x.unsewn × IsExactly (AreMissing s h) x.missing
+    → (x : Hints) × AreHints s k h x × IsExactly (AreUnsewn s alike h) x.unsewn × IsExactly (AreMissing s h) x.missing
 some_hints s k h alike numbered at =
     let d : ShellRows = shell_rows s h in
     let rows : AreRows d = rows_whole s k h numbered at in
@@ -32,7 +31,7 @@ some_hints s k h alike numbered at =
     let bodies = some_bodies s h rows in
     let doubled = some_doubled s h in
     let extra = some_extra s k h numbered at in
-    let unsewn = some_unsewn s h alike in
+    let unsewn = some_unsewn s alike h in
     let missing = some_missing s h in
     let turns = some_turning d rows in
     let touching = some_touching d in

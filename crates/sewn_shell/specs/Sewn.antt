@@ -50,13 +50,11 @@ merged_lone s alike h = lone_in (merged_data s alike) (merged_shell alike h)
 abbrev pub sewn_data : SolidData → List ℕ → Shell → SolidData
 sewn_data s alike h = sewn_along (merged_data s alike) (merged_shell alike h)
 
--- unsewn: Of the solid's only shell an edge has one row, or a loop has a gap, and the sewn shell is closed. The list has for each vertex the least one alike
+-- unsewn: Of the shell an edge has one row, or a loop has a gap, and the sewn shell is closed. The list has for each vertex of the solid the least one alike
 -- it. Counted are the edges with one row, those of them that are between the same two vertices as another of them, and the gaps.
-pub record AreUnsewn (s : SolidData) (least : List ℕ) (x : Counts) : Type 0 where
-  pub shell : Shell
-  pub only : s.shells ≡ shell ∷ []
-  pub edges : x.edges ≡ length (merged_lone s least shell)
-  pub alike : x.alike ≡ alike_count (merged_lone s least shell)
-  pub gaps : x.gaps ≡ length (gaps_of s shell)
+pub record AreUnsewn (s : SolidData) (least : List ℕ) (h : Shell) (x : Counts) : Type 0 where
+  pub edges : x.edges ≡ length (merged_lone s least h)
+  pub alike : x.alike ≡ alike_count (merged_lone s least h)
+  pub gaps : x.gaps ≡ length (gaps_of s h)
   pub due : (0 < x.edges) ⊎ (0 < x.gaps)
-  pub closed : IsClosedSolid (sewn_data s least shell)
+  pub closed : IsClosedSolid (sewn_data s least h)

@@ -1,8 +1,10 @@
 //! Whether a shell is closed once it is sewn.
 
-ghost use Rattle.std.specs.Prelude.{◌≡◌, ◌↔◌, ◌∷◌, ◌<◌, [], All, IfOk, IsTrue, None, Some, if◌then◌else◌, length};
+ghost use Rattle.std.specs.Prelude.{◌≡◌, ◌↔◌, ◌<◌, IfOk, IsTrue, List, None, Some, if◌then◌else◌, length, slice_get, ℕ};
+ghost use Rattle.solid_data.specs.SolidData.{SolidData};
 ghost use Rattle.solid_data.specs.declared.solid.Shell.{Shell as AnyShell};
 ghost use Rattle.shell_rules.specs.Closed.{IsClosedSolid};
+ghost use Rattle.shell_alone.specs.Merged.{merged_data};
 ghost use Rattle.shell_classes.specs.Exactly.{IsExactly};
 ghost use Rattle.solid_faults.specs.Gaps.{gaps_of};
 ghost use Rattle.sewn_shell.specs.Seams.{seams_of as all_seams};
@@ -14,9 +16,9 @@ use crate::seam::{Seams, seams_of};
 use edge_uses::{Row, rows};
 use iges_base::NoMemory;
 use lone_rows::lone_rows;
-use shell_alone::{merged_solid, solid_of_faces};
-use solid_data::{Shell, ShellAt, Solid};
-use solid_faults::{gaps, is_closed};
+use shell_alone::solid_of_faces;
+use solid_data::{ShellAt, Solid};
+use solid_faults::is_closed;
 use std::alloc::Global;
 
 /// What is counted of a shell that is closed once it is sewn.
@@ -30,52 +32,48 @@ pub struct Counts {
     pub gaps: usize,
 }
 
-fn only_shell(solid: &Solid) -> &Shell
-    requires { length solid.now.shells ≡ 1 }
-    ensures { solid.now.shells ≡ result.now ∷ [] }
+// The rows of a shell that are alone on their edges.
+fn lone_rows_of(alloc: Global, solid: &Solid, shell: ShellAt) -> Result<Vec<Row>, NoMemory>
+    requires { shell.0 < length solid.now.shells }
+    ensures { IfOk result (λ lone. (h : AnyShell) → slice_get solid.now.shells shell.0 ≡ Some h → lone.items ≡ lone_in solid.now h) }
 {
-    solid.shell(ShellAt(0)).unwrap()
+    let rows = rows(alloc, solid, shell)?;
+    let lone = lone_rows(alloc, &rows);
+    drop(rows);
+    lone
 }
 
-// The rows of the solid's only shell that are alone on their edges.
-fn lone_rows_of(alloc: Global, solid: &Solid) -> Result<Vec<Row>, NoMemory>
-    requires { length solid.now.shells ≡ 1 }
-    ensures { IfOk result (λ lone. (h : AnyShell) → solid.now.shells ≡ h ∷ [] → lone.items ≡ lone_in solid.now h) }
-{
-    let rows = rows(alloc, solid, ShellAt(0))?;
-    lone_rows(alloc, &rows)
-}
-
-fn gap_count(alloc: Global, solid: &Solid) -> Result<usize, NoMemory>
-    requires { length solid.now.shells ≡ 1 }
-    ensures { IfOk result (λ count. (h : AnyShell) → solid.now.shells ≡ h ∷ [] → count ≡ length (gaps_of solid.now h)) }
-{
-    let gaps = gaps(alloc, solid, ShellAt(0))?;
-    Ok(gaps.len())
-}
-
-// The solid's only shell with these seams sewn, as a solid.
-fn sewn(alloc: Global, solid: &Solid, seams: &Seams) -> Result<Solid, NoMemory>
-    requires one { length solid.now.shells ≡ 1 }
-    requires seams { (h : AnyShell) → solid.now.shells ≡ h ∷ [] → seams.now ≡ all_seams (lone_in solid.now h) }
-    ensures { IfOk result (λ t. (h : AnyShell) → solid.now.shells ≡ h ∷ [] → t ≡ sewn_along solid.now h) }
+// The shell with these seams sewn, as a solid.
+fn sewn(alloc: Global, solid: &Solid, at: ShellAt, seams: &Seams) -> Result<Solid, NoMemory>
+    requires shell { at.0 < length solid.now.shells }
+    requires seams { (h : AnyShell) → slice_get solid.now.shells at.0 ≡ Some h → seams.now ≡ all_seams (lone_in solid.now h) }
+    ensures { IfOk result (λ t. (h : AnyShell) → slice_get solid.now.shells at.0 ≡ Some h → t ≡ sewn_along solid.now h) }
 {
     solid.recall_numbering();
-    let shell = only_shell(solid);
+    let shell = solid.shell(at).unwrap();
     let faces = sewn_faces(alloc, seams, shell.flag, shell.faces.as_slice())?;
-    let sewn = solid_of_faces(alloc, solid, shell.flag, faces.as_slice())?;
-    Ok(sewn)
+    let sewn = solid_of_faces(alloc, solid, shell.flag, faces.as_slice());
+    drop(faces);
+    sewn
 }
 
-fn is_closed_sewn(alloc: Global, solid: &Solid, lone: &ByEnds<'_>) -> Result<bool, NoMemory>
-    requires one { length solid.now.shells ≡ 1 }
-    requires lone { (h : AnyShell) → solid.now.shells ≡ h ∷ [] → lone.now ≡ lone_in solid.now h }
-    ensures { IfOk result (λ b. (h : AnyShell) → solid.now.shells ≡ h ∷ [] → IsTrue b ↔ IsClosedSolid (sewn_along solid.now h)) }
+fn is_closed_sewn(
+    alloc: Global,
+    solid: &Solid,
+    at: ShellAt,
+    lone: &ByEnds<'_>,
+) -> Result<bool, NoMemory>
+    requires shell { at.0 < length solid.now.shells }
+    requires lone { (h : AnyShell) → slice_get solid.now.shells at.0 ≡ Some h → lone.now ≡ lone_in solid.now h }
+    ensures { IfOk result (λ b. (h : AnyShell) → slice_get solid.now.shells at.0 ≡ Some h
+        → IsTrue b ↔ IsClosedSolid (sewn_along solid.now h)) }
 {
     solid.recall_numbering();
     let seams = seams_of(alloc, lone)?;
-    let sewn = sewn(alloc, solid, &seams)?;
-    is_closed(alloc, &sewn)
+    let sewn = sewn(alloc, solid, at, &seams)?;
+    let closed = is_closed(alloc, &sewn);
+    drop(sewn);
+    closed
 }
 
 fn counts_if(closed: bool, counts: Counts) -> Option<Counts>
@@ -84,27 +82,49 @@ fn counts_if(closed: bool, counts: Counts) -> Option<Counts>
     if closed { Some(counts) } else { None }
 }
 
-/// What is counted of the solid's only shell, if an edge of it has one row or a loop of it has a gap, and it is closed once it
-/// is sewn: vertices are taken as one as the list says, which has for each vertex the one that it's taken for, and then
-/// edges with one row as one where two, and no third, lie between the same two vertices, against each other.
-pub fn unsewn(alloc: Global, solid: &Solid, alike: &[u32]) -> Result<Option<Counts>, NoMemory>
-    requires one { length solid.now.shells ≡ 1 }
-    requires each { length alike.now ≡ length solid.now.vertices }
-    requires inside { All (λ v. v < length solid.now.vertices) alike.now }
-    ensures { IfOk result (λ answer. IsExactly (AreUnsewn solid.now alike.now) answer) }
+// The same of a shell with these rows that are alone on their edges.
+fn unsewn_with(
+    alloc: Global,
+    merged: &Solid,
+    at: ShellAt,
+    lone: &[Row],
+    gaps: usize,
+) -> Result<Option<Counts>, NoMemory>
+    requires shell { at.0 < length merged.now.shells }
+    requires lone { (h : AnyShell) → slice_get merged.now.shells at.0 ≡ Some h → lone.now ≡ lone_in merged.now h }
+    ensures { IfOk result (λ answer. (s : SolidData) (alike : List ℕ) (h : AnyShell)
+        → merged.now ≡ merged_data s alike → slice_get s.shells at.0 ≡ Some h → gaps ≡ length (gaps_of s h)
+        → IsExactly (AreUnsewn s alike h) answer) }
 {
-    let gaps = gap_count(alloc, solid)?;
-    let merged = merged_solid(alloc, solid, alike)?;
-    let lone = lone_rows_of(alloc, &merged)?;
-    if lone.len() == 0 && gaps == 0 {
+    if lone.is_empty() && gaps == 0 {
         return Ok(None);
     }
-    let ends = ByEnds::new(alloc, lone.as_slice())?;
-    let closed = is_closed_sewn(alloc, &merged, &ends)?;
+    let ends = ByEnds::new(alloc, lone)?;
+    let closed = is_closed_sewn(alloc, merged, at, &ends)?;
     let counts = Counts {
         edges: lone.len(),
         alike: ends.alike(),
         gaps,
     };
     Ok(counts_if(closed, counts))
+}
+
+/// What is counted of a shell with so many gaps, if an edge of it has one row or a loop of it has a gap, and it is closed once
+/// it is sewn: vertices are taken as one, as `merged_solid` of the shell's solid has them, and then edges with one row as
+/// one where two, and no third, lie between the same two vertices, against each other.
+pub fn unsewn(
+    alloc: Global,
+    merged: &Solid,
+    at: ShellAt,
+    gaps: usize,
+) -> Result<Option<Counts>, NoMemory>
+    requires { at.0 < length merged.now.shells }
+    ensures { IfOk result (λ answer. (s : SolidData) (alike : List ℕ) (h : AnyShell)
+        → merged.now ≡ merged_data s alike → slice_get s.shells at.0 ≡ Some h → gaps ≡ length (gaps_of s h)
+        → IsExactly (AreUnsewn s alike h) answer) }
+{
+    let lone = lone_rows_of(alloc, merged, at)?;
+    let answer = unsewn_with(alloc, merged, at, lone.as_slice(), gaps);
+    drop(lone);
+    answer
 }

@@ -1,4 +1,4 @@
 pub mod Gathered
 pub mod Counts
-pub mod AloneLemmas
+pub mod MergedLemmas
 pub mod ToldHints

@@ -7,7 +7,6 @@ use Rattle.solid_data.specs.declared.solid.Shell.{Shell}
 use Rattle.solid_faults.specs.FaceFlags.{IsClosedFlagged}
 use Rattle.solid_faults.specs.Faults.{Faults}
 use Rattle.shell_classes.specs.Exactly.{IsExactly}
-use Rattle.shell_alone.specs.Alone.{solid_of_faces}
 use Rattle.sewn_shell.specs.declared.counting.Counts.{Counts}
 use Rattle.sewn_shell.specs.Sewn.{AreUnsewn}
 use Rattle.alike_vertices.specs.Alike.{alike_of, spellings}
@@ -17,13 +16,9 @@ use Rattle.where_hints.specs.Lines.{hints_named, hints_text}
 use Rattle.where_text.specs.declared.listing.Listing.{Listing}
 use Rattle.solid_hints.specs.Flags.{flags_hint, pair_fails, unset_flags}
 
--- the solid that has a shell alone
-abbrev pub alone : SolidData → Shell → SolidData
-alone s h = solid_of_faces s h.flag h.faces
-
 -- The shell is closed once it is sewn, where vertices are taken as one that the file spells alike.
 abbrev pub IsUnsewn : Contents → SolidData → Shell → Counts → Type 0
-IsUnsewn f s h x = AreUnsewn (alone s h) (alike_of (spellings f (alone s h))) x
+IsUnsewn f s h x = AreUnsewn s (alike_of (spellings f s)) h x
 
 -- the hints x on shell k: those on the shell as a closed one, whether it is closed once it is sewn, and whether only faces are missing
 abbrev pub AreShellHints : Contents → SolidData → ℕ → Shell → Hints → Type 0

@@ -6,12 +6,13 @@ ghost use Rattle.std.specs.Prelude.{◌≡◌, ◌++◌, ◌<◌, All, IfOk, Lis
 ghost use Rattle.edge_uses.specs.ShellRows.{rows_of};
 ghost use Rattle.shell_classes.specs.Exactly.{IsExactly};
 ghost use Rattle.solid_faults.specs.Faults.{AreFaults};
+ghost use Rattle.iges_params.specs.Contents.{Contents};
+ghost use Rattle.shell_alone.specs.Merged.{merged_data};
 ghost use Rattle.alike_vertices.specs.Alike.{alike_of, spellings};
-ghost use Rattle.sewn_shell.specs.Sewn.{AreUnsewn};
 ghost use Rattle.open_hint.specs.Missing.{AreMissing};
 ghost use Rattle.where_hints.specs.Facts.{AreHints};
 ghost use Rattle.solid_hints.specs.AllFaults.{AreAllFaults};
-ghost use Rattle.solid_hints.specs.ShellHints.{AreHintsOf, AreShellHints, IsHint, IsUnsewn, alone, hint_faces_at, hints_at};
+ghost use Rattle.solid_hints.specs.ShellHints.{AreHintsOf, AreShellHints, IsHint, hint_faces_at, hints_at};
 
 use crate::flags::{pair_fails, put_flags, tells_flags, unset_flags};
 use crate::shell_faults::AllFaults;
@@ -21,7 +22,7 @@ use iges_fields::{ItemList, NoMemory, Out};
 use iges_params::File;
 use open_hint::missing_faces;
 use sewn_shell::{Counts, unsewn};
-use shell_alone::solid_of_faces;
+use shell_alone::merged_solid;
 use solid_data::{ShellAt, Solid};
 use solid_faults::ShellFaults;
 use std::alloc::Global;
@@ -37,42 +38,15 @@ pub struct HintedSolid<'a> {
     pub listing: Listing,
 }
 
-// The solid that has a shell alone.
-fn shell_alone(alloc: Global, solid: &Solid, shell: ShellAt) -> Result<Solid, NoMemory>
-    requires { shell.0 < length solid.now.shells }
-    ensures { IfOk result (λ t. (h : AnyShell) → slice_get solid.now.shells shell.0 ≡ Some h → t ≡ alone solid.now h) }
-{
-    solid.recall_numbering();
-    let shell = solid.shell(shell).unwrap();
-    let alone = solid_of_faces(alloc, solid, shell.flag, shell.faces.as_slice())?;
-    Ok(alone)
-}
-
-// What is counted of the solid's only shell, if it is closed once it is sewn.
-fn unsewn_in(alloc: Global, file: &File, solid: &Solid) -> Result<Option<Counts>, NoMemory>
-    requires { length solid.now.shells ≡ 1 }
-    ensures { IfOk result (λ answer. IsExactly (AreUnsewn solid.now (alike_of (spellings file.now solid.now))) answer) }
+// The solid with its vertices taken as one where the file spells them alike.
+fn merged(alloc: Global, file: &File, solid: &Solid) -> Result<Solid, NoMemory>
+    ensures shells { IfOk result (λ t. length t.shells ≡ length solid.now.shells) }
+    ensures merged { IfOk result (λ t. t ≡ merged_data solid.now (alike_of (spellings file.now solid.now))) }
 {
     let alike = alike_vertices(alloc, file, solid)?;
-    let answer = unsewn(alloc, solid, alike.as_slice())?;
-    Ok(answer)
-}
-
-// The same of a shell.
-fn unsewn_on(
-    alloc: Global,
-    file: &File,
-    solid: &Solid,
-    shell: ShellAt,
-) -> Result<Option<Counts>, NoMemory>
-    requires { shell.0 < length solid.now.shells }
-    ensures { IfOk result (λ answer. (h : AnyShell) → slice_get solid.now.shells shell.0 ≡ Some h
-        → IsExactly (IsUnsewn file.now solid.now h) answer) }
-{
-    let alone = shell_alone(alloc, solid, shell)?;
-    let answer = unsewn_in(alloc, file, &alone);
-    drop(alone);
-    answer
+    let merged = merged_solid(alloc, solid, alike.as_slice());
+    drop(alike);
+    merged
 }
 
 // The hints on a shell of which it's known whether it is closed once it is sewn.
@@ -102,23 +76,46 @@ fn hints_with(
 
 fn hints_on(
     alloc: Global,
-    file: &File,
     solid: &Solid,
+    merged: &Solid,
     all: &AllFaults,
     k: u32,
 ) -> Result<Hints, NoMemory>
     requires faults { AreAllFaults solid.now all.now }
     requires shell { k < length solid.now.shells }
-    ensures { IfOk result (λ x. (h : AnyShell) → slice_get solid.now.shells k ≡ Some h
-        → AreShellHints file.now solid.now k h x) }
+    requires merged { length merged.now.shells ≡ length solid.now.shells }
+    ensures { IfOk result (λ x. (f : Contents) (h : AnyShell) → merged.now ≡ merged_data solid.now (alike_of (spellings f solid.now))
+        → slice_get solid.now.shells k ≡ Some h → AreShellHints f solid.now k h x) }
 {
     let at = ShellAt(k);
     let faults = all.get(k as usize).unwrap();
-    let unsewn = unsewn_on(alloc, file, solid, at)?;
+    let gaps = faults.gaps();
+    let unsewn = unsewn(alloc, merged, at, gaps.len())?;
     let rows = rows(alloc, solid, at)?;
     let hints = hints_with(alloc, solid, at, &rows, faults, unsewn);
     drop(rows);
     hints
+}
+
+// The hints on each of these shells of a solid, of which this is the one with vertices taken as one.
+fn hints_on_each(
+    alloc: Global,
+    solid: &Solid,
+    merged: &Solid,
+    all: &AllFaults,
+    shells: &[u32],
+) -> Result<ItemList<Hints>, NoMemory>
+    requires faults { AreAllFaults solid.now all.now }
+    requires shells { All (λ k. k < length solid.now.shells) shells.now }
+    requires merged { length merged.now.shells ≡ length solid.now.shells }
+    ensures { IfOk result (λ xs. (f : Contents) → merged.now ≡ merged_data solid.now (alike_of (spellings f solid.now))
+        → AreHintsOf f solid.now shells.now xs) }
+{
+    let mut list = ItemList::with_room(alloc, shells.len())?;
+    'shells: for i in 0..shells.len() {
+        list.push(hints_on(alloc, solid, merged, all, shells[i])?)?;
+    }
+    Ok(list)
 }
 
 // The hints on each of these shells.
@@ -133,11 +130,10 @@ fn all_hints(
     requires shells { All (λ k. k < length solid.now.shells) shells.now }
     ensures { IfOk result (λ xs. AreHintsOf file.now solid.now shells.now xs) }
 {
-    let mut list = ItemList::with_room(alloc, shells.len())?;
-    'shells: for i in 0..shells.len() {
-        list.push(hints_on(alloc, file, solid, all, shells[i])?)?;
-    }
-    Ok(list)
+    let merged = merged(alloc, file, solid)?;
+    let hints = hints_on_each(alloc, solid, &merged, all, shells);
+    drop(merged);
+    hints
 }
 
 fn put_hints_at(

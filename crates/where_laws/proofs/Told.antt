@@ -35,7 +35,7 @@ use Rattle.solid_hints.specs.AllFaults.{AreAllFaults, failing_shells}
 use Rattle.solid_hints.specs.Flags.{flags_hint, pair_fails, unset_flags}
 use Rattle.where_solids.specs.Lines.{verdict_line}
 use Rattle.where_solids.specs.Overview.{AreVerdicts}
-use Rattle.solid_hints.specs.ShellHints.{AreHintsOf, AreShellHints, IsHint, TellsFlags, alone, hint_faces_at, hints_at}
+use Rattle.solid_hints.specs.ShellHints.{AreHintsOf, AreShellHints, IsHint, TellsFlags, hint_faces_at, hints_at}
 use Rattle.alike_vertices.specs.Alike.{alike_of, spellings}
 use Rattle.where_places.specs.declared.placed_file.PlacedFile.{PlacedFile}
 use Rattle.where_solids.specs.ShellTexts.{shell_lines, shell_texts}
@@ -86,7 +86,7 @@ hints_at_shell f s numbered k = by_shell (slice_get s.shells k) refl
       λ h there. absurd (none-some h (sym at ∙ there)),
     )
     by_shell (Some g) at =
-        let x = some_hints s k g (alike_of (spellings f (alone s g))) numbered at in
+        let x = some_hints s k g (alike_of (spellings f s)) numbered at in
         (x.0, λ h there. subst (λ t. AreShellHints f s k t x.0) (same_Some g h (sym at ∙ there)) (x.1, x.2, x.3))
 
 hints_of_shells : (f : Contents) (s : SolidData) → IsNumberedSolid s → (ks : List ℕ) → (xs : List Hints) × AreHintsOf f s ks xs

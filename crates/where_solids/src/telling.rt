@@ -4,12 +4,12 @@ ghost use Rattle.brep_walk.specs.Places.{places};
 ghost use Rattle.brep_walk.specs.SolidOf.{solid_of};
 ghost use Rattle.iges_base.specs.declared.entry_no.EntryNo.{EntryNo as AnyEntryNo};
 ghost use Rattle.solid_data.specs.Obligations.{AllHold, FirstFalse};
-ghost use Rattle.std.specs.Prelude.{◌≡◌, ◌++◌, ◌≤◌, ◌-◌, ℕ, [], List, IfOk, OnOk, length};
+ghost use Rattle.std.specs.Prelude.{◌≡◌, ◌++◌, ◌∷◌, ◌≤◌, ◌-◌, ℕ, [], List, IfOk, OnOk, flat_map};
 ghost use Rattle.where_entities.specs.Entities.{entities_text};
 ghost use Rattle.solid_hints.specs.AllFaults.{AreAllFaults, failing_shells};
 ghost use Rattle.solid_hints.specs.ShellHints.{IsHint};
-ghost use Rattle.where_solids.specs.Lines.{shells_line, units_line};
-ghost use Rattle.where_solids.specs.ShellTexts.{shell_lines, shell_texts};
+ghost use Rattle.where_solids.specs.Lines.{line_at, shells_line, units_line};
+ghost use Rattle.where_solids.specs.ShellTexts.{named_at, paragraphs_at, shell_lines, shell_texts as texts_of};
 ghost use Rattle.where_solids.specs.Told.{IsToldOf};
 ghost use Rattle.where_text.specs.Listing.{left_line, shown};
 
@@ -94,6 +94,66 @@ fn put_texts(
     put_entities(alloc, out, placed, &texts.page.named)
 }
 
+// What is told of failing shells of which the lines and the paragraphs are known.
+fn put_told(
+    alloc: Global,
+    out: &mut Out,
+    placed: &PlacedFile,
+    view: &HintedSolid<'_>,
+    failing: &[u32],
+    texts: &mut ShellTexts,
+) -> Result<(), NoMemory>
+    requires faults { AreAllFaults view.now.solid.now view.now.all.now }
+    requires file { view.now.file.now ≡ placed.now.file }
+    requires failing { failing.now ≡ failing_shells view.now.all.now }
+    requires lines { texts.old.lines
+        ≡ flat_map (line_at view.now.solid.now view.now.all.now) (shown view.now.listing failing.now) }
+    requires paragraphs { texts.old.page.out
+        ≡ flat_map (paragraphs_at view.now.listing view.now.file.now view.now.solid.now view.now.all.now) (shown view.now.listing failing.now) }
+    requires named { texts.old.page.named
+        ≡ view.now.solid.now.entity ∷ flat_map (named_at view.now.listing view.now.solid.now view.now.all.now) (shown view.now.listing failing.now) }
+    ensures { IfOk result (λ _. (hint : List ℕ) × (faces : List AnyEntryNo)
+        × IsHint view.now.listing placed.now.file view.now.solid.now view.now.all.now (shown view.now.listing (failing_shells view.now.all.now)) hint faces
+        × (out.new ≡ out.old ++ (shell_lines view.now.listing placed.now.file view.now.solid.now view.now.all.now ++ hint
+        ++ texts_of view.now.listing placed.now view.now.solid.now view.now.all.now faces))) }
+{
+    let count = view.solid.shell_count();
+    let shells = shown_members(view.listing, failing);
+    put_lines(
+        out,
+        &placed.file,
+        count,
+        texts.lines.bytes(),
+        failing.len(),
+        shells.len(),
+    )?;
+    put_hint(alloc, out, &mut texts.page.named, view, shells)?;
+    put_texts(alloc, out, placed, texts)
+}
+
+// What is told of the failing shells of a solid.
+fn put_failing_shells(
+    alloc: Global,
+    out: &mut Out,
+    placed: &PlacedFile,
+    view: &HintedSolid<'_>,
+    failing: &[u32],
+) -> Result<(), NoMemory>
+    requires faults { AreAllFaults view.now.solid.now view.now.all.now }
+    requires file { view.now.file.now ≡ placed.now.file }
+    requires failing { failing.now ≡ failing_shells view.now.all.now }
+    ensures { IfOk result (λ _. (hint : List ℕ) × (faces : List AnyEntryNo)
+        × IsHint view.now.listing placed.now.file view.now.solid.now view.now.all.now (shown view.now.listing (failing_shells view.now.all.now)) hint faces
+        × (out.new ≡ out.old ++ (shell_lines view.now.listing placed.now.file view.now.solid.now view.now.all.now ++ hint
+        ++ texts_of view.now.listing placed.now view.now.solid.now view.now.all.now faces))) }
+{
+    let shells = shown_members(view.listing, failing);
+    let mut texts = shell_texts(alloc, view, shells)?;
+    let put = put_told(alloc, out, placed, view, failing, &mut texts);
+    drop(texts);
+    put
+}
+
 // What follows the verdict on a solid of which all obligations on records hold.
 fn put_shells_rest(
     alloc: Global,
@@ -107,28 +167,43 @@ fn put_shells_rest(
     ensures { IfOk result (λ _. (hint : List ℕ) × (faces : List AnyEntryNo)
         × IsHint listing placed.now.file solid.now all.now (shown listing (failing_shells all.now)) hint faces
         × (out.new ≡ out.old ++ (shell_lines listing placed.now.file solid.now all.now ++ hint
-        ++ shell_texts listing placed.now solid.now all.now faces))) }
+        ++ texts_of listing placed.now solid.now all.now faces))) }
 {
-    let count = solid.shell_count();
+    let _count = solid.shell_count();
     let failing = failing_shells(alloc, all)?;
-    let shells = shown_members(listing, failing.as_slice());
-    let mut texts = shell_texts(alloc, &placed.file, solid, all, shells, listing)?;
-    put_lines(
-        out,
-        &placed.file,
-        count,
-        texts.lines.bytes(),
-        failing.len(),
-        shells.len(),
-    )?;
     let view = HintedSolid {
         file: &placed.file,
         solid,
         all,
         listing,
     };
-    put_hint(alloc, out, &mut texts.page.named, &view, shells)?;
-    put_texts(alloc, out, placed, &texts)
+    let put = put_failing_shells(alloc, out, placed, &view, failing.as_slice());
+    drop(failing);
+    put
+}
+
+// What is told of a solid, if this is all that fails in its shells.
+fn told_of(
+    alloc: Global,
+    placed: &PlacedFile,
+    no: EntryNo,
+    solid: &Solid,
+    all: &AllFaults,
+    listing: Listing,
+) -> Result<Told, NoMemory>
+    requires placed { AllHold (places placed.now.file no.0) }
+    requires solid { solid.now ≡ solid_of placed.now.file no.0 }
+    requires faults { AreAllFaults solid.now all.now }
+    ensures { IfOk result (λ told. IsToldOf listing placed.now no told.verdict told.text) }
+{
+    let verdict = verdict(solid, all);
+    let mut out = Out::new(alloc);
+    put_verdict(&mut out, no, verdict)?;
+    put_shells_rest(alloc, &mut out, placed, solid, all, listing)?;
+    Ok(Told {
+        verdict,
+        text: out.into_bytes(),
+    })
 }
 
 fn of_shells(
@@ -143,14 +218,9 @@ fn of_shells(
     ensures { IfOk result (λ told. IsToldOf listing placed.now no told.verdict told.text) }
 {
     let all = all_faults(alloc, solid)?;
-    let verdict = verdict(solid, &all);
-    let mut out = Out::new(alloc);
-    put_verdict(&mut out, no, verdict)?;
-    put_shells_rest(alloc, &mut out, placed, solid, &all, listing)?;
-    Ok(Told {
-        verdict,
-        text: out.into_bytes(),
-    })
+    let told = told_of(alloc, placed, no, solid, &all, listing);
+    drop(all);
+    told
 }
 
 /// The verdict on the solid with this number, and where it fails. Where a rule on its records fails, that is reported

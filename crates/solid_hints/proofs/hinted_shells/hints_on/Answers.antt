@@ -1,5 +1,5 @@
-use Rattle.std.proofs.Common.{◌≡◌, Some, rules, slice_get}
-use Rattle.solid_hints.proofs.AloneLemmas.{all_told}
+use Rattle.std.proofs.Common.{◌≡◌, ◌∙◌, Some, ap, length, rules, slice_get, sym}
+use Rattle.solid_hints.proofs.MergedLemmas.{all_told}
 use Rattle.solid_hints.proofs.hinted_shells.hints_on.Goals as goal
 
 pub hints_with-hints-requires-clause-faults : goal.hints_with-hints-requires-clause-faults
@@ -9,5 +9,8 @@ hints_with-hints-requires-clause-faults c h at =
 
 pub returns : goal.returns
 returns c =
-    all_told c.args.file.now c.args.solid.now c.args.k c.in_ok-unsewn.unsewn c.hints_with-hints.result c.in_ok-unsewn.ensures
+    let there : slice_get c.args.all.now c.args.k ≡ Some c.unwrap-faults.result.now = search rules in
+    let count : c.len.result ≡ length c.unwrap-faults.result.now.gaps = search rules in
+    all_told c.args.solid.now c.args.merged.now c.args.k c.len.result c.in_ok-unsewn.unsewn c.hints_with-hints.result c.in_ok-unsewn.ensures
+    (λ h at. count ∙ ap length (c.requires.faults.shell c.args.k h c.unwrap-faults.result.now at there).gaps)
     c.hints_with-hints.ensures.unsewn c.hints_with-hints.ensures.missing c.hints_with-hints.ensures.hints

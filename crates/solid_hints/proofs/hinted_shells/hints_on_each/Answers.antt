@@ -2,12 +2,12 @@ use Rattle.std.proofs.Common.{get_or}
 use Rattle.std.proofs.lemmas.Option.{slice_get-get_or}
 use Rattle.solid_hints.proofs.Gathered.{longer}
 use Rattle.solid_hints.proofs.ToldHints.{hints_more}
-use Rattle.solid_hints.proofs.hinted_shells.all_hints.Goals as goal
+use Rattle.solid_hints.proofs.hinted_shells.hints_on_each.Goals as goal
 
 pub shells-preserved : goal.shells-preserved
 shells-preserved c = record {
   each = longer c.shells.list c.push.new.self c.in_ok-hints_on.field-0 c.shells.i c.shells.invariant.each c.in_ok-push.ensures.ok;
-  shell = hints_more c.args.file.now c.args.solid.now c.args.shells.now c.shells.i (get_or c.args.shells.now c.shells.i 0) c.shells.list c.push.new.self
+  shell = λ f is. hints_more f c.args.solid.now c.args.shells.now c.shells.i (get_or c.args.shells.now c.shells.i 0) c.shells.list c.push.new.self
       c.in_ok-hints_on.field-0 (slice_get-get_or c.args.shells.now c.shells.i 0 c.shells-test.true) c.shells.invariant.each c.in_ok-push.ensures.ok
-      c.shells.invariant.shell c.in_ok-hints_on.ensures;
+      (c.shells.invariant.shell f is) (λ h at. c.in_ok-hints_on.ensures f h is at);
 }
