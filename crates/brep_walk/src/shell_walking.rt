@@ -117,5 +117,7 @@ pub fn walk_shell(alloc: Global, file: &File, no: EntryNo) -> Result<Solid, Walk
         → Gives result (Err x) }
 {
     let mut walk = WalkState::new(alloc, file);
-    shell_solid(&mut walk, alloc, no)
+    let solid = shell_solid(&mut walk, alloc, no);
+    drop(walk);
+    solid
 }

@@ -125,5 +125,8 @@ pub fn walk(alloc: Global, file: &File, no: EntryNo) -> Result<Solid, WalkFault>
     ensures only { AllHold (places file.now no.0) → Gives result (Ok (solid_of file.now no.0)) }
     ensures only_fault { (x : Named) → FirstFalse (places file.now no.0) x → Gives result (Err x) }
 {
-    Walker::new(alloc, file).walk(alloc, no)
+    let mut walker = Walker::new(alloc, file);
+    let solid = walker.walk(alloc, no);
+    drop(walker);
+    solid
 }

@@ -3,7 +3,7 @@
 use crate::corners::{fitting_corner, fitting_point, read_corner};
 use crate::due::Due;
 use crate::fitting::{fits_counts, fits_tally, fitting_edge, fitting_face};
-use crate::tallies::sizes_of;
+use crate::tallies::{Sizes, sizes_of};
 use cert_lines::{ParsedLine, ShellCounts, TallyCounts, Version, leading_edge, leading_reach};
 use cert_text::after_byte;
 use edge_uses::Rows;
@@ -45,6 +45,7 @@ impl Model for ShellState {
 
 ghost use Rattle.std.specs.Prelude.{◌≡◌, ◌<◌, IfOk, length, replicate, ◌∷◌, []};
 ghost use Rattle.cert_state.specs.CheckState.{HoldsFaces};
+ghost use Rattle.cert_state.specs.Tallied.{AreSizes};
 
 // One number for each row: its mate, from 1, or 0 while no line has named one.
 fn no_mates(alloc: Global, rows: usize) -> Result<Vec<u32>, NoMemory>
@@ -62,6 +63,31 @@ fn first_reached(alloc: Global, faces: usize) -> Result<Vec<bool>, NoMemory>
     let mut reached = vec![in alloc; false; faces]?;
     reached[0] = true;
     Ok(reached)
+}
+
+// What the lines of a shell are compared with, as it is before the first of them: the fields of `ShellState` of these names.
+#[derive(Drop)]
+struct Tables {
+    sizes: Sizes,
+    mates: Vec<u32>,
+    reached: Vec<bool>,
+}
+
+fn tables_of(alloc: Global, rows: &Rows) -> Result<Tables, NoMemory>
+    requires { 0 < rows.now.face_count }
+    ensures sizes { IfOk result (λ t. AreSizes rows.now t.sizes) }
+    ensures mates { IfOk result (λ t. t.mates.items ≡ replicate (length rows.now.rows) 0) }
+    ensures len { IfOk result (λ t. length t.reached.items ≡ rows.now.face_count) }
+    ensures first { IfOk result (λ t. HoldsFaces t.reached.items (0 ∷ [])) }
+{
+    let sizes = sizes_of(alloc, rows)?;
+    let mates = no_mates(alloc, rows.len())?;
+    let reached = first_reached(alloc, rows.face_count())?;
+    Ok(Tables {
+        sizes,
+        mates,
+        reached,
+    })
 }
 
 impl ShellState {
@@ -85,17 +111,15 @@ impl ShellState {
         requires few_vertices { length rows.vertices < 2 ^ 30 }
         ensures { IfOk result (λ k. IsFresh version rows loops k) }
     {
-        let sizes = sizes_of(alloc, &rows)?;
-        let mates = no_mates(alloc, rows.len())?;
-        let reached = first_reached(alloc, rows.face_count())?;
+        let tables = tables_of(alloc, &rows)?;
         let due = Due::of_shell(version, &rows);
         Ok(ShellState {
             rows,
             loops,
-            sizes: sizes.rows,
-            alone: sizes.alone,
-            mates,
-            reached,
+            sizes: tables.sizes.rows,
+            alone: tables.sizes.alone,
+            mates: tables.mates,
+            reached: tables.reached,
             due,
             last_edge: None,
             last_vertex: None,

@@ -7,7 +7,7 @@ ghost use Rattle.edge_uses.specs.Cells.{cell_of, with_cell};
 ghost use Rattle.edge_uses.specs.Ranges.{IsWithin};
 ghost use Rattle.edge_uses.specs.ShellRows.{ShellRows};
 ghost use Rattle.cert_state.specs.CheckState.{corner_size, is_alone};
-ghost use Rattle.cert_state.specs.Tallied.{AreStarts, ArePoints};
+ghost use Rattle.cert_state.specs.Tallied.{AreStarts, ArePoints, AreSizes};
 ghost use Rattle.solid_data.specs.declared.TheConstants.{PART_LIMIT};
 
 use edge_uses::{Cells, Rows, point_at, row_at};
@@ -141,6 +141,38 @@ pub struct Sizes {
     pub alone: Vec<bool>,
 }
 
+// What corner and point lines are compared with, by how many rows start at each vertex and how many loops without an edge
+// lie there.
+fn both_sizes(
+    alloc: Global,
+    rows: &Rows,
+    starts: &Cells<'_, u32>,
+    points: &Cells<'_, u32>,
+) -> Result<Sizes, NoMemory>
+    requires starts { AreStarts rows.now starts.now }
+    requires points { ArePoints rows.now points.now }
+    ensures { IfOk result (AreSizes rows.now) }
+{
+    let sizes = corner_sizes(alloc, rows, starts, points)?;
+    let alone = alone_points(alloc, rows, starts, points)?;
+    Ok(Sizes { rows: sizes, alone })
+}
+
+// What corner and point lines are compared with, by how many rows start at each vertex.
+fn sizes_by(alloc: Global, rows: &Rows, starts: &Cells<'_, u32>) -> Result<Sizes, NoMemory>
+    requires { AreStarts rows.now starts.now }
+    ensures { IfOk result (AreSizes rows.now) }
+{
+    if rows.isolated_count() == 0 {
+        return Ok(Sizes {
+            rows: start_sizes(alloc, rows, starts)?,
+            alone: Vec::new(alloc),
+        });
+    }
+    let points = points_of(alloc, rows)?;
+    both_sizes(alloc, rows, starts, &points)
+}
+
 /// What corner and point lines of a shell are compared with. It takes no longer where the vertices of
 /// the shell lie far apart.
 pub fn sizes_of(alloc: Global, rows: &Rows) -> Result<Sizes, NoMemory>
@@ -150,14 +182,5 @@ pub fn sizes_of(alloc: Global, rows: &Rows) -> Result<Sizes, NoMemory>
         ≡ map (λ (p : LoopPlace × ℕ). is_alone rows.now p.1) rows.now.points) }
 {
     let starts = starts_of(alloc, rows)?;
-    if rows.isolated_count() == 0 {
-        return Ok(Sizes {
-            rows: start_sizes(alloc, rows, &starts)?,
-            alone: Vec::new(alloc),
-        });
-    }
-    let points = points_of(alloc, rows)?;
-    let sizes = corner_sizes(alloc, rows, &starts, &points)?;
-    let alone = alone_points(alloc, rows, &starts, &points)?;
-    Ok(Sizes { rows: sizes, alone })
+    sizes_by(alloc, rows, &starts)
 }

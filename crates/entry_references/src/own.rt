@@ -52,18 +52,24 @@ impl Own {
         }
     }
 
+    // Whether pointers may be in all places of pointers.
+    fn fits(&self, values: &Values) -> bool
+        ensures { result ≡ list_all (λ k. is_pointer (value_at values.now k)) (self.now.pointers
+            ++ self.now.cut) }
+    {
+        are_pointers(values, self.pointers.as_slice()) && are_pointers(values, self.cut.as_slice())
+    }
+
     /// The own values, where pointers may be in all places of pointers.
     pub fn checked(self, values: &Values) -> Option<Own>
         ensures { result ≡ if list_all (λ k. is_pointer (value_at values.now k)) (self.pointers
             ++ self.cut) then Some self else None }
     {
-        if !are_pointers(values, self.pointers.as_slice()) {
-            return None;
+        if self.fits(values) {
+            return Some(self);
         }
-        if !are_pointers(values, self.cut.as_slice()) {
-            return None;
-        }
-        Some(self)
+        drop(self);
+        None
     }
 }
 

@@ -10,7 +10,7 @@ ghost use Rattle.std.specs.Prelude.{◌≡◌, ◌+◌, ◌*◌, ◌≤◌, ◌=
 use crate::layout::Layout;
 use crate::own::{Own, places, places_from};
 use crate::place::{PointForm, count_in, form_in};
-use iges_fields::{NoMemory, Values};
+use iges_fields::{ItemList, NoMemory, Values};
 use std::alloc::Global;
 
 // A row with so many values (IGES 5.3, chapter 4; the section of each type is in the table).
@@ -76,8 +76,12 @@ fn of_spline_curve(alloc: Global, values: &Values) -> Option<Own>
 fn of_point(alloc: Global, values: &Values) -> Result<Option<Own>, NoMemory>
     ensures { IfOk result (λ own. own ≡ own_in (layout_of_row Point) values.now) }
 {
-    let mut own = Own::plain(alloc, 4);
-    own.cut.push(4)?;
+    let cut = places(alloc, &[4])?;
+    let own = Own {
+        count: 4,
+        pointers: ItemList::new(alloc),
+        cut,
+    };
     Ok(own.checked(values))
 }
 

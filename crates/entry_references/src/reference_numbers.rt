@@ -38,10 +38,33 @@ pub fn shape_of(alloc: Global, entry: &Entry, values: &Values) -> Result<Shape, 
     let Some(own) = own_of(alloc, listed, values)? else {
         return Err(RefFault::Layout);
     };
-    let Some(names) = second_group(&own, values) else {
-        return Err(RefFault::Layout);
-    };
-    Ok(Shape { own, names })
+    match second_group(&own, values) {
+        Some(names) => Ok(Shape { own, names }),
+        None => {
+            drop(own);
+            Err(RefFault::Layout)
+        }
+    }
+}
+
+// The numbers that an entry refers to, whose values are laid out so.
+fn numbers_in(
+    alloc: Global,
+    file: &File,
+    entry: &Entry,
+    values: &Values,
+    shape: &Shape,
+) -> Result<ItemList<i64>, RefFault>
+    requires bounded { IsBounded entry.now }
+    requires shape { HasShape (entry.now, values.now) shape.now.own shape.now.names }
+    ensures { GivesRefs result (refs file.now (entry.now, values.now)) }
+{
+    let mut numbers = followed(alloc, entry, &shape.own, values)?;
+    if !name_entries(file, &numbers) {
+        return Err(RefFault::Dangling);
+    }
+    push_names(&mut numbers, file, values, shape.names)?;
+    Ok(numbers)
 }
 
 /// The numbers that an entry refers to, as its values and fields list them, or the first of its faults.
@@ -56,10 +79,7 @@ pub fn refs(
     ensures { GivesRefs result (refs file.now (entry.now, values.now)) }
 {
     let shape = shape_of(alloc, entry, values)?;
-    let mut numbers = followed(alloc, entry, &shape.own, values)?;
-    if !name_entries(file, &numbers) {
-        return Err(RefFault::Dangling);
-    }
-    push_names(&mut numbers, file, values, shape.names)?;
-    Ok(numbers)
+    let numbers = numbers_in(alloc, file, entry, values, &shape);
+    drop(shape);
+    numbers
 }

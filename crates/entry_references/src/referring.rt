@@ -1,19 +1,48 @@
 //! The entries that an entry refers to.
 
+ghost use Rattle.entry_references.specs.EntrySets.{AreRising, with_numbers};
 ghost use Rattle.entry_references.specs.References.{AreReferences, Gives, HasFault, IsRefFault};
+ghost use Rattle.entry_references.specs.Refs.{names_entry};
 ghost use Rattle.entry_references.specs.declared.fault.ExtractReason.{ExtractReason as Reason};
 ghost use Rattle.iges_base.specs.declared.entry_no.EntryNo.{EntryNo as Number};
 ghost use Rattle.iges_params.specs.Named.{named};
-ghost use Rattle.std.specs.Prelude.{List, Ok, Err, IfErr, IfOk, IsSome, pos};
+ghost use Rattle.std.specs.List.{list_all};
+ghost use Rattle.std.specs.Prelude.{◌≡◌, [], true, List, Ok, Err, IfErr, IfOk, IsSome, length, pos};
 
 use crate::adding::add_numbers;
 use crate::entry_set::{EntryList, EntrySet};
 use crate::fault::RefFault;
 use crate::record::record_of;
 use crate::reference_numbers::refs;
-use iges_fields::EntryNo;
+use iges_fields::{EntryNo, ItemList, NoMemory};
 use iges_params::File;
 use std::alloc::Global;
+
+// Puts the entries that the numbers name, and lists all that are there in rising order.
+fn listed_with(
+    set: &mut EntrySet,
+    alloc: Global,
+    file: &File,
+    numbers: &ItemList<i64>,
+) -> Result<EntryList, NoMemory>
+    requires size { set.old.size ≡ length file.now.entries }
+    requires name { list_all (names_entry file.now) numbers.now ≡ true }
+    ensures { IfOk result (λ list. AreRising list (with_numbers set.old.numbers numbers.now)) }
+{
+    add_numbers(set, file, numbers)?;
+    set.rising(alloc)
+}
+
+// The entries that the numbers name, in rising order.
+fn rising_of(alloc: Global, file: &File, numbers: &ItemList<i64>) -> Result<EntryList, NoMemory>
+    requires { list_all (names_entry file.now) numbers.now ≡ true }
+    ensures { IfOk result (λ list. AreRising list (with_numbers [] numbers.now)) }
+{
+    let mut set = EntrySet::new(alloc, file.entry_count())?;
+    let list = listed_with(&mut set, alloc, file, numbers);
+    drop(set);
+    list
+}
 
 fn rising_references(alloc: Global, file: &File, no: EntryNo) -> Result<EntryList, RefFault>
     requires { IsSome (named file.now (pos no.0)) }
@@ -22,9 +51,9 @@ fn rising_references(alloc: Global, file: &File, no: EntryNo) -> Result<EntryLis
 {
     let record = record_of(file, no).unwrap();
     let numbers = refs(alloc, file, record.entry, record.values)?;
-    let mut set = EntrySet::new(alloc, file.entry_count())?;
-    add_numbers(&mut set, file, &numbers)?;
-    Ok(set.rising(alloc)?)
+    let list = rising_of(alloc, file, &numbers);
+    drop(numbers);
+    Ok(list?)
 }
 
 /// The entries that an entry refers to, in rising order, each once: those that the pointers among its own values name

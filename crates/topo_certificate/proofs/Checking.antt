@@ -1,11 +1,11 @@
 -- Where a checker stands behind one more line.
 use Rattle.std.specs.Prelude.{◌≡◌, ℕ, zero, suc, ◌+◌, ◌-◌, ◌<◌, ◌≤◌, ◌⊎◌, ◌^◌, Bool, true, false, List, [], ◌∷◌, ◌++◌, length, Option, Some, None, Result, Err}
-use Rattle.std.specs.Prelude.{MatchOption, MatchResult, slice_get, ◌||◌}
+use Rattle.std.specs.Prelude.{MatchOption, MatchResult, slice_get, slice_index_or, ◌||◌}
 use Rattle.std.proofs.Common.{refl, sym, ◌∙◌, ap, subst, arith, inl, inr, ⊎_elim, length-append}
 use Rattle.std.proofs.lemmas.Option.{same_Some}
 use Rattle.solid_data.specs.SolidData.{SolidData}
 use Rattle.edge_uses.specs.ShellRows.{ShellRows}
-use Rattle.cert_lines.specs.Line.{CertLine, head, solid, shell, reach, tally, end, IsLine, IsSpelled, IsLong, line_limit}
+use Rattle.cert_lines.specs.Line.{CertLine, head, solid, shell, end, IsLine, IsSpelled, IsLong, line_limit}
 use Rattle.cert_lines.specs.declared.counts.ShellCounts.{ShellCounts}
 use Rattle.cert_state.specs.Progress.{Progress, progress_from_latest, rows_of_shell, loops_of_shell, NoneDue, FitsLine, is_shell, is_last}
 use Rattle.cert_lines.proofs.Spelling.{line_one}
@@ -54,23 +54,25 @@ no_shell old new k counts none first lines at fits = omega (arith, none, at.wait
 pub shell_left : (old new : CheckerState) → (length old.waiting ≡ 0 → ⊥) → TakesLine old new end false
 shell_left old new some first lines at fits = some (omega (arith, at.waiting.count, at.shell, fits.1.1))
 
--- the shell that begins next
-next_fresh : (old : CheckerState) (first : ℕ) (lines : List CertLine) (left : List ShellCheckState) (next : ShellCheckState) → IsAt first old lines
-    → old.waiting ≡ left ++ next ∷ [] → IsFresh old.version (rows_of_shell old.solid (old.shell + 1)) (loops_of_shell old.solid (old.shell + 1)) next
-next_fresh old first lines left next at e =
-    let long : length old.waiting ≡ length left + 1 = omega (arith, ap (λ xs. length xs) e, length-append left (next ∷ [])) in
-    let there : slice_get old.waiting (length left) ≡ Some next = ap (λ xs. slice_get xs (length left)) e ∙ last_there left in
-    let place : length old.solid.shells - length left ≡ old.shell + 1 = omega (arith, long, at.waiting.count) in
-    subst (λ n. IsFresh old.version (rows_of_shell old.solid n) (loops_of_shell old.solid n) next) place (at.waiting.fresh (length left) next there)
-  where
-    last_there : (left : List ShellCheckState) → slice_get (left ++ next ∷ []) (length left) ≡ Some next
-    last_there [] = refl
-    last_there (x ∷ left) = last_there left
+-- one that is last is there
+pub some_last : (waiting : List ShellCheckState) (next : ShellCheckState) → slice_get waiting (length waiting - 1) ≡ Some next → 0 < length waiting
+some_last [] next there = absurd cc
+some_last (x ∷ xs) next there = omega arith
 
-pub other_counts : (old new : CheckerState) (left : List ShellCheckState) (next : ShellCheckState) (k : ℕ) (counts : ShellCounts) → old.waiting ≡ left ++ next ∷ []
-    → (AreCounts next.rows counts → ⊥) → TakesLine old new (shell k counts) false
-other_counts old new left next k counts e other first lines at fits =
-    let fresh = next_fresh old first lines left next at e in
+-- the shell that begins next
+next_fresh : (old : CheckerState) (first : ℕ) (lines : List CertLine) (next : ShellCheckState) → IsAt first old lines
+    → slice_get old.waiting (length old.waiting - 1) ≡ Some next
+    → IsFresh old.version (rows_of_shell old.solid (old.shell + 1)) (loops_of_shell old.solid (old.shell + 1)) next
+next_fresh old first lines next at there =
+    let some : 0 < length old.waiting = some_last old.waiting next there in
+    let place : length old.solid.shells - (length old.waiting - 1) ≡ old.shell + 1 = omega (arith, some, at.waiting.count) in
+    subst (λ n. IsFresh old.version (rows_of_shell old.solid n) (loops_of_shell old.solid n) next) place
+    (at.waiting.fresh (length old.waiting - 1) next there)
+
+pub other_counts : (old new : CheckerState) (next : ShellCheckState) (k : ℕ) (counts : ShellCounts)
+    → slice_get old.waiting (length old.waiting - 1) ≡ Some next → (AreCounts next.rows counts → ⊥) → TakesLine old new (shell k counts) false
+other_counts old new next k counts there other first lines at fits =
+    let fresh = next_fresh old first lines next at there in
     let f = fits.1.1 in
     let same : k ≡ old.shell + 1 = omega (arith, f.next, at.shell) in
     let d : ShellRows = next.rows in
@@ -83,16 +85,22 @@ other_counts old new left next k counts e other first lines at fits =
       two_rows_each = f.two_rows_each;
     })
 
+-- what pop takes is the last
+pub popped_last : (waiting : List ShellCheckState) (i : ℕ) (next d : ShellCheckState) → slice_get waiting i ≡ Some next → slice_index_or waiting i d ≡ next
+popped_last [] i next d there = absurd cc
+popped_last (x ∷ xs) zero next d there = same_Some x next there
+popped_last (x ∷ xs) (suc i) next d there = popped_last xs i next d there
+
 abbrev pub with_shell : CheckerState → List ShellCheckState → ShellCheckState → ℕ → ℕ → CheckerState
 with_shell old left next k n = record old { number = n; shell = k; current = Some next; waiting = left }
 
 pub shell_begins : (old : CheckerState) (left : List ShellCheckState) (next : ShellCheckState) (k : ℕ) (counts : ShellCounts) (n : ℕ) → old.ended ≡ false → dues_of old.current ≡ 0
-    → k ≡ old.shell + 1 → old.waiting ≡ left ++ next ∷ [] → AreCounts next.rows counts
+    → k ≡ old.shell + 1 → slice_get old.waiting (length old.waiting - 1) ≡ Some next → old.waiting ≡ left ++ next ∷ [] → AreCounts next.rows counts
     → n ≡ old.number + 1 → TakesLine old (with_shell old left next k n) (shell k counts) true
-shell_begins old left next k counts n going none is_k e are more first lines at =
+shell_begins old left next k counts n going none is_k there e are more first lines at =
     let s : SolidData = old.solid in
     let here : Progress = progress_from_latest old.version s lines in
-    let fresh = next_fresh old first lines left next at e in
+    let fresh = next_fresh old first lines next at there in
     let is_d : rows_of_shell s k ≡ next.rows = ap (rows_of_shell s) is_k ∙ sym fresh.rows in
     let long : length old.waiting ≡ length left + 1 = omega (arith, ap (λ xs. length xs) e, length-append left (next ∷ [])) in
     let progress = shell_progress old.version s lines k counts in

@@ -2,7 +2,7 @@
 use Rattle.std.specs.Prelude.{◌≡◌, ℕ, ◌+◌, ◌⊎◌, Bool, true, false, List, [], ◌∷◌, length}
 use Rattle.std.proofs.Common.{refl, sym, ◌∙◌, subst, inl, inr, ⊎_elim}
 use Rattle.solid_data.specs.SolidData.{SolidData}
-use Rattle.solid_data.proofs.Decisions.{Decided, decided_alike, decided_below, decided_bool, decided_both, decided_either}
+use Rattle.solid_data.proofs.Decisions.{Decided, decided_alike, decided_below, decided_both, decided_either}
 use Rattle.cert_lines.specs.Line.{CertLine, solid, end, IsLine, IsLong, IsMisspelt, line_limit}
 use Rattle.cert_lines.specs.declared.version.Version.{Version}
 use Rattle.cert_text.specs.declared.fault.Illegal.{Illegal}

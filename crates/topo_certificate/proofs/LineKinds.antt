@@ -1,5 +1,5 @@
 -- What holds of each kind of line.
-use Rattle.std.specs.Prelude.{◌≡◌, ℕ, suc, ◌-◌, ◌<◌, ◌⊎◌, true, false, List, [], ◌∷◌, length, Some, Bool, None, ◌||◌, cond, filter}
+use Rattle.std.specs.Prelude.{◌≡◌, ℕ, suc, ◌<◌, ◌⊎◌, true, false, List, [], ◌∷◌, length, Some, Bool, None, ◌||◌, cond, filter}
 use Rattle.std.proofs.Common.{refl, sym, ◌∙◌, ap, subst, arith, inl, inr}
 use Rattle.solid_data.specs.SolidData.{SolidData}
 use Rattle.cert_lines.specs.Line.{CertLine, head, solid, shell, edge, corner, point, reach, tally, end, spelling}
@@ -7,7 +7,6 @@ use Rattle.cert_lines.specs.declared.counts.ShellCounts.{ShellCounts}
 use Rattle.cert_lines.specs.declared.version.Version.{Version}
 use Rattle.cert_state.specs.Progress.{FitsOpen, FitsEdge, FitsCorner, FitsPoint, FitsReach, NoneDue, is_shell, number_of, asked, rows_of_shell, current_rows}
 use Rattle.cert_state.specs.Progress.{Progress, is_last, is_tally}
-use Rattle.solid_data.proofs.Decisions.{Decided, decided_same, decided_below, decided_both}
 use Rattle.cert_lines.specs.declared.counts.TallyCounts.{TallyCounts}
 use Rattle.topo_certificate.specs.Upgraded.{with_tallies}
 use Rattle.cert_lines.specs.Parsed.{IsRowLine}

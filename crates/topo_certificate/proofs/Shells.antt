@@ -7,7 +7,7 @@ use Rattle.edge_uses.specs.ShellRows.{ShellRows}
 use Rattle.edge_uses.specs.RowRelations.{IsPaired}
 use Rattle.edge_uses.specs.Around.{IsReached, IsLinked}
 use Rattle.solid_data.proofs.Members.{Has}
-use Rattle.cert_lines.specs.Line.{CertLine, shell, reach, end}
+use Rattle.cert_lines.specs.Line.{CertLine, shell, end}
 use Rattle.cert_lines.specs.declared.version.Version.{Version}
 use Rattle.cert_state.specs.Progress.{progress_from_latest, FitsLine, NoneDue, vertex_of, face_of, is_shell, is_corner_or_point, is_reach, number_of}
 use Rattle.cert_state.specs.Progress.{since_shell, rows_of_shell, current_rows, is_last}

@@ -7,7 +7,7 @@ use Rattle.std.proofs.Common.{refl, sym, ◌∙◌, ap, subst, arith}
 use Rattle.solid_data.specs.SolidData.{SolidData}
 use Rattle.solid_data.specs.declared.solid.Shell.{Shell}
 use Rattle.edge_uses.specs.ShellRows.{ShellRows, rows_of}
-use Rattle.cert_lines.specs.Line.{CertLine, shell, reach, tally, end, spelling, IsLine, line_limit}
+use Rattle.cert_lines.specs.Line.{CertLine, shell, tally, end, spelling, IsLine, line_limit}
 use Rattle.cert_lines.specs.declared.counts.ShellCounts.{ShellCounts}
 use Rattle.cert_lines.specs.declared.counts.TallyCounts.{TallyCounts}
 use Rattle.cert_lines.specs.declared.version.Version.TheVariants.{One, Two}

@@ -17,6 +17,7 @@ ghost use Rattle.topo_certificate.specs.Part.{TakesNextLine};
 
 use crate::line_checker::{LineChecker, PartLine};
 use cert_lines::{Illegal, Version, first_ended};
+use cert_state::limit_of;
 use iges_base::{EntryNo, NoMemory};
 use solid_data::Solid;
 use std::alloc::Global;
@@ -70,9 +71,9 @@ impl<'a> Checker<'a> {
         ensures fed { IfOk result (λ c. IsFed version solid.now first [] c) }
         ensures fed_part { IfOk result (λ c. IsFedPart version solid.now first [] c) }
     {
-        let checker = LineChecker::from_line(alloc, solid, version, first)?;
-        let limit = checker.limit();
+        let limit = limit_of(solid);
         let kept = Vec::with_capacity(alloc, limit + 1)?;
+        let checker = LineChecker::from_line(alloc, solid, version, first, limit)?;
         Ok(Checker {
             checker,
             limit,

@@ -1,7 +1,7 @@
 //! A checker of lines that are given whole.
 
 use cert_lines::{Illegal, Judged, ParsedLine, ShellCounts, Version, judge};
-use cert_state::{ShellState, limit_of, loop_count};
+use cert_state::{ShellState, loop_count};
 use edge_uses::rows;
 use iges_base::{EntryNo, NoMemory};
 use solid_data::{ShellAt, Solid};
@@ -132,14 +132,17 @@ impl<'a> LineChecker<'a> {
     ghost use Rattle.topo_certificate.specs.Room.{dues_of, TakesLine};
     ghost use Rattle.cert_text.specs.declared.fault.Illegal.TheVariants.{Missing as IsMissing};
 
-    /// A checker whose first line has this number. It takes all the memory that a check needs.
+    /// A checker whose first line has this number, and whose lines may have so many bytes. It takes all the memory that a
+    /// check needs.
     pub(crate) fn from_line(
         alloc: Global,
         solid: &'a Solid,
         version: Version,
         first: u64,
+        limit: usize,
     ) -> Result<LineChecker<'a>, NoMemory>
-        requires { first ≤ 2 ^ 32 }
+        requires few { first ≤ 2 ^ 32 }
+        requires limit { limit ≡ line_limit solid.now }
         ensures version { IfOk result (λ c. c.version ≡ version) }
         ensures solid { IfOk result (λ c. c.solid ≡ solid.now) }
         ensures begun { IfOk result (λ c. IsAt first c []) }
@@ -149,7 +152,7 @@ impl<'a> LineChecker<'a> {
         Ok(LineChecker {
             version,
             solid,
-            limit: limit_of(solid),
+            limit,
             failed: None,
             number: first,
             ended: false,
@@ -157,13 +160,6 @@ impl<'a> LineChecker<'a> {
             current: None,
             waiting,
         })
-    }
-
-    /// The most bytes that a line may have, with its LF.
-    pub(crate) fn limit(&self) -> usize
-        ensures { result ≡ line_limit self.now.solid }
-    {
-        self.limit
     }
 
     /// Keeps that the lines are not legal.
@@ -196,13 +192,13 @@ impl<'a> LineChecker<'a> {
         if !self.is_done() || number != self.shell + 1 {
             return false;
         }
-        let Some(next) = self.waiting.pop() else {
+        let Some(next) = self.waiting.last() else {
             return false;
         };
         if !next.has_counts(counts) {
             return false;
         }
-        self.current = Some(next);
+        self.current = self.waiting.pop();
         self.shell = number;
         self.number += 1;
         true

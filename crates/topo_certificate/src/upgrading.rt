@@ -60,8 +60,7 @@ fn put_tally_of(
     let vertices = rows.vertex_count() as u64;
     let edges = rows.edge_count() as u64;
     let faces = rows.face_count() as u64;
-    put_tally_line(out, vertices, edges, faces, loop_count(shell))?;
-    Ok(())
+    put_tally_line(out, vertices, edges, faces, loop_count(shell))
 }
 
 fn shell_at(solid: &Solid, at: ShellAt) -> &Shell

@@ -1,5 +1,4 @@
-use Rattle.std.proofs.Common.{◌∙◌, ap}
-use Rattle.entry_references.specs.EntrySets.{Entries, with_numbers}
+use Rattle.std.proofs.Common.{refl}
 use Rattle.entry_references.specs.Refs.{Record}
 use Rattle.entry_references.proofs.RefLists.{handed, found_record, ref_fault, refs_named, references_are}
 use Rattle.entry_references.proofs.referring.rising_references.Goals as goal
@@ -13,8 +12,8 @@ returns-in_err-numbers-clause-fault c =
     (ref_fault f m r _ (found_record f m c.record_of.result c.unwrap-record.result c.record_of.ensures c.unwrap-record.ensures) c.in_err-numbers.ensures)
     c.from_residual.ensures.1
 
-pub add_numbers-requires-clause-name : goal.add_numbers-requires-clause-name
-add_numbers-requires-clause-name c =
+pub rising_of-list-requires : goal.rising_of-list-requires
+rising_of-list-requires c =
     let r : Record = (c.unwrap-record.result.entry.now, c.unwrap-record.result.values.now) in
     refs_named c.args.file.now r c.in_ok-numbers.numbers c.in_ok-numbers.ensures
 
@@ -23,7 +22,6 @@ returns-clause-found c =
     let f = c.args.file.now in
     let m = c.args.no.0 in
     let r : Record = (c.unwrap-record.result.entry.now, c.unwrap-record.result.values.now) in
-    references_are f m r c.in_ok-numbers.numbers c.add_numbers.new.set.numbers c.in_ok-rising.field-0
+    references_are f m r c.in_ok-numbers.numbers _ c.in_ok-list.field-0
     (found_record f m c.record_of.result c.unwrap-record.result c.record_of.ensures c.unwrap-record.ensures) c.in_ok-numbers.ensures
-    (ap (λ (s : Entries). s.numbers) c.in_ok-add_numbers.ensures.ok ∙ ap (λ (s : Entries). with_numbers s.numbers c.in_ok-numbers.numbers) c.in_ok-set.ensures)
-    c.in_ok-rising.ensures.rising
+    refl c.in_ok-list.ensures

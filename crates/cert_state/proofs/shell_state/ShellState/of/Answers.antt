@@ -1,17 +1,19 @@
-use Rattle.std.proofs.Common.{refl, ◌∙◌}
+use Rattle.std.proofs.Common.{refl}
 use Rattle.cert_state.proofs.Arrays.{no_mates, none_in_zeros, zeros, length_zeros}
 use Rattle.cert_state.proofs.shell_state.ShellState.of.Goals as goal
 
 pub invariant_of-result : goal.invariant_of-result
-invariant_of-result c = record {
-  sizes = c.in_ok-sizes.ensures.rows;
-  alone = c.in_ok-sizes.ensures.alone;
-  in_order = c.requires.order;
-  each_row = length_zeros c.in_ok-mates.mates.items _ c.in_ok-mates.ensures ∙ c.len.ensures.count;
-  each_face = c.in_ok-reached.ensures.len ∙ c.face_count.ensures;
-  few = c.of_shell-due.ensures.few;
-  passed = λ r m is. absurd (none_in_zeros c.in_ok-mates.mates.items r m (zeros c.in_ok-mates.mates.items _ c.in_ok-mates.ensures) is);
-}
+invariant_of-result c =
+    let mates = c.in_ok-tables.tables.mates.items in
+    record {
+      sizes = c.in_ok-tables.ensures.sizes.rows;
+      alone = c.in_ok-tables.ensures.sizes.alone;
+      in_order = c.requires.order;
+      each_row = length_zeros mates _ c.in_ok-tables.ensures.mates;
+      each_face = c.in_ok-tables.ensures.len;
+      few = c.of_shell-due.ensures.few;
+      passed = λ r m is. absurd (none_in_zeros mates r m (zeros mates _ c.in_ok-tables.ensures.mates) is);
+    }
 
 pub returns : goal.returns
 returns c = record {
@@ -20,6 +22,6 @@ returns c = record {
   due = c.of_shell-due.ensures.all;
   last_edge = refl;
   last_vertex = refl;
-  mates = no_mates c.in_ok-mates.mates.items (zeros c.in_ok-mates.mates.items _ c.in_ok-mates.ensures);
-  reached = c.in_ok-reached.ensures.first;
+  mates = no_mates c.in_ok-tables.tables.mates.items (zeros c.in_ok-tables.tables.mates.items _ c.in_ok-tables.ensures.mates);
+  reached = c.in_ok-tables.ensures.first;
 }
