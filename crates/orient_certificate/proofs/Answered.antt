@@ -26,7 +26,7 @@ use Rattle.orient_certificate.specs.Partners.{HasTwoRows, AllHaveTwoRows, AllRea
 use Rattle.orient_certificate.specs.Flags.{face_flags, rows_at, FlagsFit}
 use Rattle.orient_certificate.specs.OddRing.{OddRing, row_numbers}
 use Rattle.orient_certificate.specs.Crossings.{IsStep, AreCrossings, Meets, IsOddWalk}
-use Rattle.orient_certificate.specs.Graph.{IsGraphOf, Suit, IsFound}
+use Rattle.orient_certificate.specs.Graph.{AreStepsOf, IsGraphOf, Suit, IsFound}
 use Rattle.orient_certificate.specs.Outcome.{IsOrientation, CountFails, ReachFails, IsFirstFailing, IsFault, IsNoMemory, FailsSo}
 use Rattle.orient_certificate.proofs.Bare.{forwards_in}
 use Rattle.orient_certificate.proofs.Crossed.{crossing_made, graph_made, faces_counted, fits_made, fits_agree, ring_walk, walk_ring, leads_from, reached_from}
@@ -48,20 +48,26 @@ pub some_faces : (s : SolidData) (k : ℕ) (h : Shell) → IsNumberedSolid s →
 some_faces s k h numbered at = subst (λ (x : Shell). 0 < length x.faces) (get_or_from_slice_get s.shells k h h at)
     (numbered.each_shell k h (slice_get_within s.shells k h at))
 
-pub graph_is : (s : SolidData) (k : ℕ) (h : Shell) (d : ShellRows) (cs : List Crossing) (forwards read : List Bool) (n : ℕ) (first : Bool) → IsNumberedSolid s
-    → slice_get s.shells k ≡ Some h → d ≡ rows_at s k → AreRows d → AllHaveTwoRows d
-    → read ≡ forwards → forwards ≡ map (λ (f : FaceUse). same_flag f.flag h.flag) h.faces → length cs ≡ length d.rows
-    → ((r : ℕ) (c : Crossing) → slice_get cs r ≡ Some c → IsStep d read r c) → n ≡ d.face_count → slice_get (face_flags (Some h)) 0 ≡ Some first
-    → IsGraphOf s k cs n first
-graph_is s k h d cs forwards read n first numbered at e whole two is_read is_forwards each steps count own =
+pub steps_made : (h : Shell) (d : ShellRows) (cs : List Crossing) (forwards read : List Bool) → AllHaveTwoRows d → read ≡ forwards
+    → forwards ≡ map (λ (f : FaceUse). same_flag f.flag h.flag) h.faces → length cs ≡ length d.rows
+    → ((r : ℕ) (c : Crossing) → slice_get cs r ≡ Some c → IsStep d read r c) → AreStepsOf h d cs
+steps_made h d cs forwards read two is_read is_forwards each steps = record {
+  two = two;
+  each = each;
+  steps = λ r c is. subst (λ (xs : List Bool). IsStep d xs r c) (is_read ∙ is_forwards) (steps r c is);
+}
+
+pub graph_is : (s : SolidData) (k : ℕ) (h : Shell) (d : ShellRows) (cs : List Crossing) (n : ℕ) (first : Bool) → IsNumberedSolid s
+    → slice_get s.shells k ≡ Some h → d ≡ rows_at s k → AreRows d → AreStepsOf h d cs → n ≡ d.face_count
+    → slice_get (face_flags (Some h)) 0 ≡ Some first → IsGraphOf s k cs n first
+graph_is s k h d cs n first numbered at e whole made count own =
     let all : AreCrossings s k cs = record {
-      each = each ∙ ap (λ (x : ShellRows). length x.rows) e;
-      tell = λ r c is. crossing_made s k r c read (is_read ∙ (is_forwards ∙ ap forwards_in (sym at)))
-          (subst (λ (x : ShellRows). IsStep x read r c) e (steps r c is));
+      each = made.each ∙ ap (λ (x : ShellRows). length x.rows) e;
+      tell = λ r c is. crossing_made s k r c (forwards_in (Some h)) (ap forwards_in (sym at)) (subst (λ (x : ShellRows). IsStep x (forwards_in (Some h)) r c) e (made.steps r c is));
     } in
     let counted : n ≡ (rows_at s k).face_count = count ∙ ap (λ (x : ShellRows). x.face_count) e in
     record {
-      two = subst AllHaveTwoRows e two;
+      two = subst AllHaveTwoRows e made.two;
       crossings = all;
       graph = graph_made s k cs n all counted;
       faces = counted ∙ faces_counted s (slice_get s.shells k);
@@ -69,7 +75,7 @@ graph_is s k h d cs forwards read n first numbered at e whole two is_read is_for
       own = ap (λ (o : Option Shell). slice_get (face_flags o) 0) at ∙ own;
       some = omega (arith, count, shell_faces s k h d e at, some_faces s k h numbered at);
       few = omega (arith, count, whole.few_faces);
-      few_steps = omega (arith, each, whole.few);
+      few_steps = omega (arith, made.each, whole.few);
     }
 
 pub suit_fits : (s : SolidData) (k : ℕ) (cs : List Crossing) (n : ℕ) (first : Bool) (flags : List Bool) → IsGraphOf s k cs n first → Suit cs n first flags

@@ -1,5 +1,5 @@
 -- What the rows before one were seen to do.
-use Rattle.std.specs.Prelude.{◌≡◌, ◌<◌, ◌≤◌, ◌+◌, ◌-◌, ◌^◌, ℕ, [], Contains, Some, length, replicate, slice_get, get_or}
+use Rattle.std.specs.Prelude.{◌≡◌, ◌<◌, ◌+◌, ◌-◌, ◌^◌, ℕ, [], Contains, Some, length, replicate, slice_get, get_or}
 use Rattle.std.proofs.Common.{refl, sym, ◌∙◌, ap, subst, arith}
 use Rattle.std.proofs.lemmas.List.{get_or-replicate, length-replicate, length-set, length-take-le}
 use Rattle.std.proofs.lemmas.Option.{slice_get_within}

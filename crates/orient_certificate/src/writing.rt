@@ -5,7 +5,7 @@ ghost use Rattle.cert_text.specs.Text.{spaced};
 ghost use Rattle.orient_certificate.specs.Line.{HasSpelling, IsSpelled, flag_number, spelling};
 
 use crate::line::OrientLine;
-use iges_base::{Bytes, NoMemory, Out, put_number};
+use iges_base::{Bytes, EntryNo, NoMemory, Out, put_number};
 use std::alloc::Global;
 
 fn put_numbers(out: &mut Out, numbers: &[u32]) -> Result<(), NoMemory>
@@ -26,27 +26,39 @@ fn put_flags(out: &mut Out, flags: &[bool]) -> Result<(), NoMemory>
     Ok(())
 }
 
+fn put_head_line(out: &mut Out, no: EntryNo) -> Result<(), NoMemory>
+    ensures { IfOk result (λ _. out.new ≡ out.old ++ spelling (OrientLine.Head no)) }
+{
+    out.put(b"ORIENT")?;
+    put_number(out, u64::from(no.0))?;
+    out.put(b"\n")
+}
+
+fn put_flag_line(out: &mut Out, shell: u32, flags: &[bool]) -> Result<(), NoMemory>
+    ensures { IfOk result (λ _. out.new ≡ out.old ++ spelling (OrientLine.Flags shell flags.now)) }
+{
+    out.put(b"F")?;
+    put_number(out, u64::from(shell))?;
+    put_flags(out, flags)?;
+    out.put(b"\n")
+}
+
+fn put_ring_line(out: &mut Out, shell: u32, rows: &[u32]) -> Result<(), NoMemory>
+    ensures { IfOk result (λ _. out.new ≡ out.old ++ spelling (OrientLine.Ring shell rows.now)) }
+{
+    out.put(b"O")?;
+    put_number(out, u64::from(shell))?;
+    put_numbers(out, rows)?;
+    out.put(b"\n")
+}
+
 fn put_line(out: &mut Out, line: &OrientLine) -> Result<(), NoMemory>
     ensures { IfOk result (λ _. out.new ≡ out.old ++ spelling line.now) }
 {
     match line {
-        OrientLine::Head(no) => {
-            out.put(b"ORIENT")?;
-            put_number(out, u64::from(no.0))?;
-            out.put(b"\n")
-        }
-        OrientLine::Flags { shell, flags } => {
-            out.put(b"F")?;
-            put_number(out, u64::from(*shell))?;
-            put_flags(out, flags.as_slice())?;
-            out.put(b"\n")
-        }
-        OrientLine::Ring { shell, rows } => {
-            out.put(b"O")?;
-            put_number(out, u64::from(*shell))?;
-            put_numbers(out, rows.as_slice())?;
-            out.put(b"\n")
-        }
+        OrientLine::Head(no) => put_head_line(out, *no),
+        OrientLine::Flags { shell, flags } => put_flag_line(out, *shell, flags.as_slice()),
+        OrientLine::Ring { shell, rows } => put_ring_line(out, *shell, rows.as_slice()),
         OrientLine::End => out.put(b"END\n"),
     }
 }

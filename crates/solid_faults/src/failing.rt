@@ -242,6 +242,5 @@ pub fn faults(alloc: Global, solid: &Solid, shell: ShellAt) -> Result<ShellFault
 {
     let rows = rows(alloc, solid, shell)?;
     let below = below_shell(alloc, solid, shell)?;
-    let faults = faults_of(alloc, solid, shell, &rows, below)?;
-    Ok(faults)
+    faults_of(alloc, solid, shell, &rows, below)
 }

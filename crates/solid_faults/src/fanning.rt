@@ -43,6 +43,5 @@ pub fn fan_leasts(alloc: Global, paired: &Paired<'_>) -> Result<Vec<u32>, NoMemo
     ensures { IfOk result (λ leasts. AreFans paired.now leasts.items) }
 {
     let pairs = turns_of(alloc, paired)?;
-    let leasts = components(alloc, paired.rows().len(), pairs.as_slice())?;
-    Ok(leasts)
+    components(alloc, paired.rows().len(), pairs.as_slice())
 }

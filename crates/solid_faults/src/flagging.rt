@@ -152,6 +152,5 @@ pub fn is_closed_flagged(alloc: Global, solid: &Solid) -> Result<bool, NoMemory>
     ensures { IfOk result (λ b. IsTrue b ↔ IsClosedFlagged solid.now) }
 {
     let flagged = flagged(alloc, solid)?;
-    let closed = is_closed(alloc, &flagged)?;
-    Ok(closed)
+    is_closed(alloc, &flagged)
 }

@@ -62,6 +62,5 @@ pub fn firsts(alloc: Global, rows: &Rows) -> Result<Vec<u32>, NoMemory>
 {
     let tally = tally_of(alloc, rows)?;
     let pairs = pairs_of(alloc, rows, &tally)?;
-    let firsts = components(alloc, rows.face_count(), pairs.as_slice())?;
-    Ok(firsts)
+    components(alloc, rows.face_count(), pairs.as_slice())
 }

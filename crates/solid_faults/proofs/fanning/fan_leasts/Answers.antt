@@ -1,4 +1,5 @@
 use Rattle.std.proofs.Common.{◌≡◌, ◌∙◌, ap, sym, subst, length}
+use Rattle.std.proofs.lemmas.Result.{IfOk-weaker}
 use Rattle.edge_uses.specs.ShellRows.{ShellRows}
 use Rattle.shell_components.specs.Components.{AreInside, AreComponents}
 use Rattle.solid_faults.proofs.FanLemmas.{turns_inside, fans_of_labels}
@@ -14,6 +15,7 @@ components-requires-clause-inside c =
 pub returns : goal.returns
 returns c =
     let count : c.len.result ≡ length c.args.paired.now.rows = c.len.ensures.count ∙ ap (λ (d : ShellRows). length d.rows) c.rows.ensures.rows in
-    fans_of_labels c.args.paired.now c.in_ok-pairs.pairs.items c.in_ok-leasts.leasts.items c.rows.ensures.whole c.in_ok-pairs.ensures
-    (subst (λ ps. AreComponents ps (length c.args.paired.now.rows) c.in_ok-leasts.leasts.items) c.as_slice.ensures.value
-    (subst (λ n. AreComponents c.as_slice.result.now n c.in_ok-leasts.leasts.items) count c.in_ok-leasts.ensures))
+    IfOk-weaker c.components.result _ _
+    (λ leasts are. fans_of_labels c.args.paired.now c.in_ok-pairs.pairs.items leasts.items c.rows.ensures.whole c.in_ok-pairs.ensures
+    (subst (λ ps. AreComponents ps (length c.args.paired.now.rows) leasts.items) c.as_slice.ensures.value
+    (subst (λ n. AreComponents c.as_slice.result.now n leasts.items) count are))) c.components.ensures

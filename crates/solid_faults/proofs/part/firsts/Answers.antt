@@ -1,4 +1,5 @@
 use Rattle.std.proofs.Common.{sym, ◌∙◌, subst, ◌≡◌}
+use Rattle.std.proofs.lemmas.Result.{IfOk-weaker}
 use Rattle.shell_components.specs.Components.{AreInside, AreComponents}
 use Rattle.solid_faults.specs.PartPairs.{part_pairs}
 use Rattle.solid_faults.specs.Tallied.{AreTallied}
@@ -20,6 +21,7 @@ returns c =
     record { rows = c.in_ok-tally.ensures.kept; span = c.in_ok-tally.ensures.span; tally = c.in_ok-tally.ensures.tally } in
     let is : c.as_slice.result.now ≡ part_pairs c.args.rows.now c.in_ok-tally.tally.span c.in_ok-tally.tally.seen = c.as_slice.ensures.value
     ∙ c.in_ok-pairs.ensures in
-    parts_of_labels c.args.rows.now c.in_ok-tally.tally.span c.in_ok-tally.tally.seen c.in_ok-firsts.firsts.items t
-    (subst (λ ps. AreComponents ps c.args.rows.now.face_count c.in_ok-firsts.firsts.items) is
-    (subst (λ n. AreComponents c.as_slice.result.now n c.in_ok-firsts.firsts.items) c.face_count.ensures c.in_ok-firsts.ensures))
+    IfOk-weaker c.components.result _ _
+    (λ labels are. parts_of_labels c.args.rows.now c.in_ok-tally.tally.span c.in_ok-tally.tally.seen labels.items t
+    (subst (λ ps. AreComponents ps c.args.rows.now.face_count labels.items) is
+    (subst (λ n. AreComponents c.as_slice.result.now n labels.items) c.face_count.ensures are))) c.components.ensures
