@@ -5,14 +5,16 @@ ghost use Rattle.iges_params.specs.Contents.{Contents};
 ghost use Rattle.brep_walk.specs.Places.{places};
 ghost use Rattle.brep_walk.specs.Walked.{IsFault};
 ghost use Rattle.list_compact.specs.Compacted.{GivesFile, GivesPlace, GivesRefusal, IsCompactFault, IsCompacted, IsMisplaced};
+ghost use Rattle.list_compact.specs.Marking.{AreMarks, edge_sizes, sizes, vertex_sizes};
+ghost use Rattle.list_compact.specs.Used.{is_used_edge, is_used_vertex};
 ghost use Rattle.solid_data.specs.declared.verdict.Failing.{Failing as Named};
 ghost use Rattle.solid_data.specs.Obligations.{AllHold};
 ghost use Rattle.solid_extract.specs.Extracted.{IsExtracted, IsExtractedAs, IsRefused};
-ghost use Rattle.std.specs.Prelude.{ℕ, IfErr, IfOk, OnOk};
+ghost use Rattle.std.specs.Prelude.{◌≡◌, ℕ, IfErr, IfOk, OnOk};
 
 use crate::dropping::dropped;
 use crate::fault::CompactFault;
-use crate::marking::used_items;
+use crate::marking::{FileMarks, used_items};
 use brep_walk::{WalkFault, walk};
 use iges_fields::{EntryNo, NoMemory};
 use iges_params::File;
@@ -30,20 +32,41 @@ fn extracted(alloc: Global, file: File, no: EntryNo) -> Result<File, NoMemory>
     }
 }
 
-// The rest, once a solid's file is extracted. Where each item of its lists is used, nothing is dropped, and the second
-// extraction would give the same file.
+// The rest, by the marks of the items that are used in a solid's file once it is extracted. Where each item of its lists is
+// used, nothing is dropped, and the second extraction would give the same file.
+fn finished_by(alloc: Global, file: File, no: EntryNo, marks: &FileMarks) -> Result<File, NoMemory>
+    requires made { (f : Contents) × (n : ℕ) × IsExtractedAs f n file no.0 }
+    requires edges { AreMarks marks.now.edges (is_used_edge file) }
+    requires vertices { AreMarks marks.now.vertices (is_used_vertex file) }
+    requires edge_sizes { sizes marks.now.edges ≡ edge_sizes file }
+    requires vertex_sizes { sizes marks.now.vertices ≡ vertex_sizes file }
+    ensures { (f : Contents) (n : ℕ) → IsExtractedAs f n file no.0
+        → AllHold (places f n) → IfOk result (IsCompacted f n) }
+{
+    if marks.are_all() {
+        return Ok(file);
+    }
+    let new = dropped(alloc, file, marks)?;
+    Ok(extracted(alloc, new, no)?)
+}
+
+// The rest, once a solid's file is extracted.
 fn finished(alloc: Global, extraction: Extraction) -> Result<File, NoMemory>
     requires { (f : Contents) × (n : ℕ) × IsExtractedAs f n extraction.file extraction.no.0 }
     ensures { (f : Contents) (n : ℕ) → IsExtractedAs f n extraction.file extraction.no.0
         → AllHold (places f n) → IfOk result (IsCompacted f n) }
 {
-    let number = extraction.no;
-    let marks = used_items(alloc, &extraction.file)?;
-    if marks.are_all() {
-        return Ok(extraction.file);
+    match used_items(alloc, &extraction.file) {
+        Ok(marks) => {
+            let new = finished_by(alloc, extraction.file, extraction.no, &marks);
+            drop(marks);
+            new
+        }
+        Err(fault) => {
+            drop(extraction);
+            Err(fault)
+        }
     }
-    let new = dropped(alloc, extraction.file, &marks)?;
-    Ok(extracted(alloc, new, number)?)
 }
 
 // The walk over a solid's records, of which only the fault is given.
@@ -51,8 +74,13 @@ fn walked(alloc: Global, file: &File, no: EntryNo) -> Result<(), WalkFault>
     ensures holds { OnOk result (AllHold (places file.now no.0)) }
     ensures fault { IfErr result (IsFault (places file.now no.0)) }
 {
-    walk(alloc, file, no)?;
-    Ok(())
+    match walk(alloc, file, no) {
+        Ok(solid) => {
+            drop(solid);
+            Ok(())
+        }
+        Err(fault) => Err(fault),
+    }
 }
 
 fn compacted(alloc: Global, file: &File, no: EntryNo) -> Result<File, CompactFault>
@@ -60,8 +88,13 @@ fn compacted(alloc: Global, file: &File, no: EntryNo) -> Result<File, CompactFau
     ensures fault { IfErr result (IsCompactFault file.now no.0) }
 {
     let extraction = extract_numbered(alloc, file, no)?;
-    walked(alloc, file, no)?;
-    Ok(finished(alloc, extraction)?)
+    match walked(alloc, file, no) {
+        Ok(()) => Ok(finished(alloc, extraction)?),
+        Err(fault) => {
+            drop(extraction);
+            Err(CompactFault::from(fault))
+        }
+    }
 }
 
 // The same of a file that is given away: it is dropped before the lists are compacted.
@@ -71,8 +104,13 @@ fn turned_into_compacted(alloc: Global, file: File, no: EntryNo) -> Result<File,
 {
     let places = walked(alloc, &file, no);
     let extraction = into_extract_numbered(alloc, file, no)?;
-    places?;
-    Ok(finished(alloc, extraction)?)
+    match places {
+        Ok(()) => Ok(finished(alloc, extraction)?),
+        Err(fault) => {
+            drop(extraction);
+            Err(CompactFault::from(fault))
+        }
+    }
 }
 
 /// The compacted file of a solid: what `extract` gives, with lists of edges and of vertices that hold only what is used

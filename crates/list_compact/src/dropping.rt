@@ -87,6 +87,28 @@ fn put_dropped(
     Ok(())
 }
 
+// The file of the entries with what is used, which lacks the front of the other.
+fn dropped_entries(alloc: Global, file: &mut File, marks: &FileMarks) -> Result<File, NoMemory>
+    requires records { AreRecords file.old }
+    requires edges { AreMarks marks.now.edges (is_used_edge file.old) }
+    requires vertices { AreMarks marks.now.vertices (is_used_vertex file.old) }
+    requires edge_sizes { sizes marks.now.edges ≡ edge_sizes file.old }
+    requires vertex_sizes { sizes marks.now.vertices ≡ vertex_sizes file.old }
+    ensures start { OnOk result (file.new.start ≡ file.old.start) }
+    ensures global { OnOk result (file.new.global ≡ file.old.global) }
+    ensures entries { IfOk result (λ new. new.entries
+        ≡ map (dropped_record file.old) (enumerate_from 0 file.old.entries)) }
+{
+    let mut new = blank(alloc, file.global().delims)?;
+    match put_dropped(alloc, &mut new, file, marks) {
+        Ok(()) => Ok(new),
+        Err(fault) => {
+            drop(new);
+            Err(fault)
+        }
+    }
+}
+
 /// The file whose lists of edges and of vertices hold only what is used, in order, with indices to match; a list of which
 /// nothing is used stays whole. The values of all other records are moved. The marks are those of its used items.
 pub fn dropped(alloc: Global, mut file: File, marks: &FileMarks) -> Result<File, NoMemory>
@@ -97,8 +119,14 @@ pub fn dropped(alloc: Global, mut file: File, marks: &FileMarks) -> Result<File,
     requires vertex_sizes { sizes marks.now.vertices ≡ vertex_sizes file }
     ensures { IfOk result (λ new. new ≡ dropped file) }
 {
-    let mut new = blank(alloc, file.global().delims)?;
-    put_dropped(alloc, &mut new, &mut file, marks)?;
-    new.take_front(file);
-    Ok(new)
+    match dropped_entries(alloc, &mut file, marks) {
+        Ok(mut new) => {
+            new.take_front(file);
+            Ok(new)
+        }
+        Err(fault) => {
+            drop(file);
+            Err(fault)
+        }
+    }
 }

@@ -269,17 +269,12 @@ abbrev made : EntryNo → List Shell → List Edge → List VertexKey → SolidD
 made entity shells edges vertices = record { entity = entity; shells = shells; edges = edges; vertices = vertices }
 
 pub parts_are : (s : SolidData) (flag : Bool) (fs : List FaceUse) (entity : EntryNo) (shells : List Shell) (edges : List Edge) (vertices : List VertexKey)
-    (used_edges used_vertices read_edges read_vertices es vs met_edges met_vertices : List ℕ) (faces : List FaceUse) → entity ≡ s.entity
-    → used_edges ≡ flat_map face_edges fs → used_vertices ≡ flat_map (face_vertices s) fs → read_edges ≡ used_edges → read_vertices ≡ used_vertices
-    → es ≡ distinct ◌==◌ read_edges → vs ≡ distinct ◌==◌ read_vertices → faces ≡ map (changed_face (renumbered_use es vs)) fs
-    → shells ≡ record { entity = entity; flag = flag; faces = faces } ∷ [] → met_edges ≡ es → met_vertices ≡ vs
-    → edges ≡ map (renumbered_edge s vs) met_edges → vertices ≡ map (vertex_key s) met_vertices
+    (es vs met_edges met_vertices : List ℕ) (faces : List FaceUse) → entity ≡ s.entity → es ≡ edges_met fs → vs ≡ vertices_met s fs
+    → faces ≡ map (changed_face (renumbered_use es vs)) fs → shells ≡ record { entity = entity; flag = flag; faces = faces } ∷ [] → met_edges ≡ es
+    → met_vertices ≡ vs → edges ≡ map (renumbered_edge s vs) met_edges → vertices ≡ map (vertex_key s) met_vertices
     → made entity shells edges vertices ≡ solid_of_faces s flag fs
 unfolding solid_of_faces
-parts_are s flag fs entity shells edges vertices used_edges used_vertices read_edges read_vertices es vs met_edges met_vertices faces own ue uv re rv des dvs fc
-    sh me mv ed ve =
-    let is_es : es ≡ edges_met fs = des ∙ ap (distinct ◌==◌) (re ∙ ue) in
-    let is_vs : vs ≡ vertices_met s fs = dvs ∙ ap (distinct ◌==◌) (rv ∙ uv) in
+parts_are s flag fs entity shells edges vertices es vs met_edges met_vertices faces own is_es is_vs fc sh me mv ed ve =
     let is_faces : faces ≡ map (changed_face (renumbered_use (edges_met fs) (vertices_met s fs))) fs =
     fc
     ∙ (ap (λ (xs : List ℕ). map (changed_face (renumbered_use xs vs)) fs) is_es

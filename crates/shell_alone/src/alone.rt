@@ -7,7 +7,7 @@ ghost use Rattle.solid_data.specs.declared.solid.Shell.{Shell as AnyShell};
 ghost use Rattle.edge_uses.specs.Before.{face_vertices};
 ghost use Rattle.shell_components.specs.FaceUses.{face_edges, AddedFaces};
 ghost use Rattle.shell_alone.specs.Changed.{changed_face as face_changed};
-ghost use Rattle.shell_alone.specs.Alone.{CanStandAlone, face_at, faces_at, renumbered_use, solid_of_faces as of_faces, by_themselves as themselves};
+ghost use Rattle.shell_alone.specs.Alone.{CanStandAlone, edges_met, face_at, faces_at, vertices_met, renumbered_use, solid_of_faces as of_faces, by_themselves as themselves};
 
 use crate::changing::changed_face;
 use crate::places::places_met;
@@ -104,6 +104,47 @@ fn one_shell(alloc: Global, entity: EntryNo, flag: bool, faces: Faces) -> Result
     Ok(shells)
 }
 
+// The new numbers of what the faces with these numbers use: places in the order of appearance.
+fn renumbering_of(
+    alloc: Global,
+    solid: &Solid,
+    faces: &[FaceUse],
+    numbers: &[u32],
+) -> Result<Renumbering, NoMemory>
+    ensures edges { IfOk result (λ r. r.edges ≡ edges_met (faces_at faces.now numbers.now)) }
+    ensures vertices { IfOk result (λ r. r.vertices
+        ≡ vertices_met solid.now (faces_at faces.now numbers.now)) }
+{
+    let used = used_by_faces(alloc, solid, faces, numbers)?;
+    let edges = places_met(alloc, used.edges.as_slice())?;
+    let vertices = places_met(alloc, used.vertices.as_slice())?;
+    Ok(Renumbering { edges, vertices })
+}
+
+// The solid that has the faces with these numbers alone, where the new numbers of what they use are given.
+fn renumbered_solid(
+    alloc: Global,
+    solid: &Solid,
+    flag: bool,
+    faces: &[FaceUse],
+    numbers: &[u32],
+    renumbering: &Renumbering,
+) -> Result<Solid, NoMemory>
+    requires alone { CanStandAlone solid.now (faces_at faces.now numbers.now) }
+    requires edges { renumbering.now.edges ≡ edges_met (faces_at faces.now numbers.now) }
+    requires vertices { renumbering.now.vertices
+        ≡ vertices_met solid.now (faces_at faces.now numbers.now) }
+    ensures { IfOk result (λ t. t ≡ of_faces solid.now flag (faces_at faces.now numbers.now)) }
+{
+    let entity = solid.entity();
+    let copies = renumbered_faces(alloc, renumbering, faces, numbers)?;
+    let shells = one_shell(alloc, entity, flag, copies)?;
+    let vertices = &renumbering.vertices;
+    let edge_list = renumbered_edges(alloc, solid, vertices, renumbering.edges.as_slice())?;
+    let vertex_list = vertex_keys(alloc, solid, vertices.as_slice())?;
+    Ok(Solid::new(entity, shells, edge_list, vertex_list))
+}
+
 // The solid that has the faces with these numbers alone.
 fn solid_of(
     alloc: Global,
@@ -115,17 +156,8 @@ fn solid_of(
     requires { CanStandAlone solid.now (faces_at faces.now numbers.now) }
     ensures { IfOk result (λ t. t ≡ of_faces solid.now flag (faces_at faces.now numbers.now)) }
 {
-    let entity = solid.entity();
-    let used = used_by_faces(alloc, solid, faces, numbers)?;
-    let edges = places_met(alloc, used.edges.as_slice())?;
-    let vertices = places_met(alloc, used.vertices.as_slice())?;
-    let renumbering = Renumbering { edges, vertices };
-    let copies = renumbered_faces(alloc, &renumbering, faces, numbers)?;
-    let shells = one_shell(alloc, entity, flag, copies)?;
-    let vertices = &renumbering.vertices;
-    let edge_list = renumbered_edges(alloc, solid, vertices, renumbering.edges.as_slice())?;
-    let vertex_list = vertex_keys(alloc, solid, vertices.as_slice())?;
-    Ok(Solid::new(entity, shells, edge_list, vertex_list))
+    let renumbering = renumbering_of(alloc, solid, faces, numbers)?;
+    renumbered_solid(alloc, solid, flag, faces, numbers, &renumbering)
 }
 
 fn numbers_below(alloc: Global, count: usize) -> Result<Vec<u32>, NoMemory>
@@ -151,8 +183,7 @@ pub fn solid_of_faces(
     ensures { IfOk result (λ t. t ≡ of_faces solid.now flag faces.now) }
 {
     let numbers = numbers_below(alloc, faces.len())?;
-    let alone = solid_of(alloc, solid, flag, faces, numbers.as_slice())?;
-    Ok(alone)
+    solid_of(alloc, solid, flag, faces, numbers.as_slice())
 }
 
 /// The solid that has these faces of a shell alone, which are given by their numbers, from 0. It takes time and memory

@@ -2,7 +2,7 @@
 
 ghost use Rattle.std.specs.Prelude.{◌≡◌, ◌==◌, ◌++◌, ◌∷◌, [], ◌<◌, ◌^◌, All, Some, IfOk, get_or, map, length, slice_get};
 ghost use Rattle.solid_data.specs.Ring.{place_of};
-ghost use Rattle.shell_alone.specs.Merged.{merged_data, merged_edge as edge_merged, merged_use};
+ghost use Rattle.shell_alone.specs.Merged.{kept_vertices, merged_data, merged_edge as edge_merged, merged_use};
 
 use crate::changing::{UseChange, changed_shells};
 use crate::places::{Places, places_met};
@@ -81,6 +81,27 @@ fn merged_edges(alloc: Global, solid: &Solid, numbers: &[u32]) -> Result<Edges, 
     Ok(copy)
 }
 
+// The same as `merged_solid`, where the vertices that some are taken for are given.
+fn merged_onto(
+    alloc: Global,
+    solid: &Solid,
+    alike: &[u32],
+    kept: &Places,
+) -> Result<Solid, NoMemory>
+    requires each { length alike.now ≡ length solid.now.vertices }
+    requires inside { All (λ v. v < length solid.now.vertices) alike.now }
+    requires kept { kept.now ≡ kept_vertices alike.now }
+    ensures { IfOk result (λ t. t ≡ merged_data solid.now alike.now) }
+{
+    let entity = solid.entity();
+    let numbers = places_of(alloc, kept, alike)?;
+    let merging = Merging { numbers };
+    let shells = changed_shells(alloc, &merging, solid)?;
+    let edges = merged_edges(alloc, solid, merging.numbers.as_slice())?;
+    let vertices = vertex_keys(alloc, solid, kept.as_slice())?;
+    Ok(Solid::new(entity, shells, edges, vertices))
+}
+
 /// The solid in which each vertex is taken for another one or for itself: vertex v for the one that stands at v in the
 /// list. Vertices that none is taken for are left out, and the others are numbered anew as they first appear.
 pub fn merged_solid(alloc: Global, solid: &Solid, alike: &[u32]) -> Result<Solid, NoMemory>
@@ -88,12 +109,6 @@ pub fn merged_solid(alloc: Global, solid: &Solid, alike: &[u32]) -> Result<Solid
     requires inside { All (λ v. v < length solid.now.vertices) alike.now }
     ensures { IfOk result (λ t. t ≡ merged_data solid.now alike.now) }
 {
-    let entity = solid.entity();
     let kept = places_met(alloc, alike)?;
-    let numbers = places_of(alloc, &kept, alike)?;
-    let merging = Merging { numbers };
-    let shells = changed_shells(alloc, &merging, solid)?;
-    let edges = merged_edges(alloc, solid, merging.numbers.as_slice())?;
-    let vertices = vertex_keys(alloc, solid, kept.as_slice())?;
-    Ok(Solid::new(entity, shells, edges, vertices))
+    merged_onto(alloc, solid, alike, &kept)
 }

@@ -1,5 +1,5 @@
 -- The file of one solid.
-use Rattle.std.specs.Prelude.{◌≡◌, ◌↔◌, ◌<◌, ◌⊎◌, ℕ, ◌+◌, ◌*◌, Bool, false, ◌==◌, List, [], ◌∷◌, ◌++◌, length, take, map, ℤ, pos, neg_ℤ, int_lt, unsigned_abs}
+use Rattle.std.specs.Prelude.{◌≡◌, ◌↔◌, ◌<◌, ◌⊎◌, ℕ, ◌+◌, ◌*◌, ◌==◌, List, [], ◌∷◌, ◌++◌, length, take, map, ℤ, pos, neg_ℤ, int_lt, unsigned_abs}
 use Rattle.std.specs.Prelude.{Some, None, if◌then◌else◌, IsTrue, IsFalse, Contains, All}
 use Rattle.std.specs.List.{position_or_len, enumerate_from, AllZip}
 use Rattle.std.specs.List.Sorted.{IsStrictlyIncreasing}

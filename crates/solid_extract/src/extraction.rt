@@ -85,6 +85,25 @@ fn push_taken(
     new.push(entry, values)
 }
 
+// Puts the entries that are kept, with copied values.
+fn put_kept(new: &mut File, alloc: Global, file: &File, renaming: &Renaming) -> Result<(), NoMemory>
+    requires faultless { AllByRecursion (IsFaultless file.now) renaming.now }
+    requires values { value_count (records_of file.now renaming.now) ≤ FILE_LIMIT }
+    requires blank { new.old.entries ≡ [] }
+    ensures { OnOk result (new.new ≡ record new.old {
+      entries = map
+          (new_record file.now renaming.now) (records_of file.now renaming.now);
+    }) }
+{
+    let kept = renaming.kept();
+    let mut marks = Vec::new(alloc);
+    'entries: for i in 0..kept.len() {
+        let no = kept.get(i).unwrap();
+        push_kept(new, alloc, file, renaming, *no, &mut marks)?;
+    }
+    Ok(())
+}
+
 // The file of the entries that are kept.
 fn kept_file(alloc: Global, file: &File, renaming: &Renaming) -> Result<File, NoMemory>
     requires faultless { AllByRecursion (IsFaultless file.now) renaming.now }
@@ -95,13 +114,58 @@ fn kept_file(alloc: Global, file: &File, renaming: &Renaming) -> Result<File, No
     }) }
 {
     let mut new = begun(alloc, file)?;
+    match put_kept(&mut new, alloc, file, renaming) {
+        Ok(()) => Ok(new),
+        Err(fault) => {
+            drop(new);
+            Err(fault)
+        }
+    }
+}
+
+// Puts the entries that are kept, with the values themselves, which are taken from the file.
+fn put_taken(
+    new: &mut File,
+    alloc: Global,
+    file: &mut File,
+    renaming: &Renaming,
+) -> Result<(), NoMemory>
+    requires faultless { AllByRecursion (IsFaultless file.old) renaming.now }
+    requires rising { IsStrictlyIncreasing renaming.now }
+    requires values { value_count (records_of file.old renaming.now) ≤ FILE_LIMIT }
+    requires blank { new.old.entries ≡ [] }
+    ensures start { OnOk result (file.new.start ≡ file.old.start) }
+    ensures global { OnOk result (file.new.global ≡ file.old.global) }
+    ensures entries { OnOk result (new.new.entries
+        ≡ map (new_record file.old renaming.now) (records_of file.old renaming.now)) }
+{
     let kept = renaming.kept();
     let mut marks = Vec::new(alloc);
     'entries: for i in 0..kept.len() {
         let no = kept.get(i).unwrap();
-        push_kept(&mut new, alloc, file, renaming, *no, &mut marks)?;
+        push_taken(new, alloc, file, renaming, *no, &mut marks)?;
     }
-    Ok(new)
+    Ok(())
+}
+
+// A file of the entries that are kept, which lacks the front of the other.
+fn taken_entries(alloc: Global, file: &mut File, renaming: &Renaming) -> Result<File, NoMemory>
+    requires faultless { AllByRecursion (IsFaultless file.old) renaming.now }
+    requires rising { IsStrictlyIncreasing renaming.now }
+    requires values { value_count (records_of file.old renaming.now) ≤ FILE_LIMIT }
+    ensures start { OnOk result (file.new.start ≡ file.old.start) }
+    ensures global { OnOk result (file.new.global ≡ file.old.global) }
+    ensures entries { IfOk result (λ new. new.entries
+        ≡ map (new_record file.old renaming.now) (records_of file.old renaming.now)) }
+{
+    let mut new = blank(alloc, file.global().delims)?;
+    match put_taken(&mut new, alloc, file, renaming) {
+        Ok(()) => Ok(new),
+        Err(fault) => {
+            drop(new);
+            Err(fault)
+        }
+    }
 }
 
 // The same of a file that isn't needed any more: what is kept of it is moved.
@@ -114,15 +178,16 @@ fn turned_into_kept(alloc: Global, mut file: File, renaming: &Renaming) -> Resul
           (new_record file renaming.now) (records_of file renaming.now);
     }) }
 {
-    let mut new = blank(alloc, file.global().delims)?;
-    let kept = renaming.kept();
-    let mut marks = Vec::new(alloc);
-    'entries: for i in 0..kept.len() {
-        let no = kept.get(i).unwrap();
-        push_taken(&mut new, alloc, &mut file, renaming, *no, &mut marks)?;
+    match taken_entries(alloc, &mut file, renaming) {
+        Ok(mut new) => {
+            new.take_front(file);
+            Ok(new)
+        }
+        Err(fault) => {
+            drop(file);
+            Err(fault)
+        }
     }
-    new.take_front(file);
-    Ok(new)
 }
 
 // What a solid keeps, with the new numbers.
@@ -148,12 +213,46 @@ fn renaming_of(alloc: Global, file: &File, no: EntryNo) -> Result<Renaming, Extr
     Ok(renaming)
 }
 
+// The file of what a solid keeps, by the new numbers.
+fn extraction_by(
+    alloc: Global,
+    file: &File,
+    renaming: &Renaming,
+    no: EntryNo,
+) -> Result<Extraction, ExtractFault>
+    requires { IsKept file.now no.0 renaming.now }
+    ensures found { IfOk result (λ x. IsExtractedAs file.now no.0 x.file x.no.0) }
+    ensures fault { IfErr result (IsExtractFault file.now no.0) }
+{
+    let new = kept_file(alloc, file, renaming)?;
+    Ok(Extraction {
+        file: new,
+        no: renaming.number(no),
+    })
+}
+
 fn extracted_as(alloc: Global, file: &File, no: EntryNo) -> Result<Extraction, ExtractFault>
     ensures found { IfOk result (λ x. IsExtractedAs file.now no.0 x.file x.no.0) }
     ensures fault { IfErr result (IsExtractFault file.now no.0) }
 {
     let renaming = renaming_of(alloc, file, no)?;
-    let new = kept_file(alloc, file, &renaming)?;
+    let extraction = extraction_by(alloc, file, &renaming, no);
+    drop(renaming);
+    extraction
+}
+
+// The same of a file that isn't needed any more.
+fn turned_by(
+    alloc: Global,
+    file: File,
+    renaming: &Renaming,
+    no: EntryNo,
+) -> Result<Extraction, ExtractFault>
+    requires { IsKept file no.0 renaming.now }
+    ensures found { IfOk result (λ x. IsExtractedAs file no.0 x.file x.no.0) }
+    ensures fault { IfErr result (IsExtractFault file no.0) }
+{
+    let new = turned_into_kept(alloc, file, renaming)?;
     Ok(Extraction {
         file: new,
         no: renaming.number(no),
@@ -164,12 +263,17 @@ fn turned_into_extracted(alloc: Global, file: File, no: EntryNo) -> Result<Extra
     ensures found { IfOk result (λ x. IsExtractedAs file no.0 x.file x.no.0) }
     ensures fault { IfErr result (IsExtractFault file no.0) }
 {
-    let renaming = renaming_of(alloc, &file, no)?;
-    let new = turned_into_kept(alloc, file, &renaming)?;
-    Ok(Extraction {
-        file: new,
-        no: renaming.number(no),
-    })
+    match renaming_of(alloc, &file, no) {
+        Ok(renaming) => {
+            let extraction = turned_by(alloc, file, &renaming, no);
+            drop(renaming);
+            extraction
+        }
+        Err(fault) => {
+            drop(file);
+            Err(fault)
+        }
+    }
 }
 
 fn extracted(alloc: Global, file: &File, no: EntryNo) -> Result<File, ExtractFault>

@@ -3,7 +3,7 @@ use Rattle.entry_references.specs.EntrySets.{numbers_of}
 use Rattle.solid_extract.specs.Extracted.{new_record}
 use Rattle.solid_extract.specs.Making.{records_of}
 use Rattle.solid_extract.proofs.Taken.{IsLeft}
-use Rattle.solid_extract.proofs.extraction.turned_into_kept.Given as goal
+use Rattle.solid_extract.proofs.extraction.put_taken.Given as goal
 
 abbrev pub invariant-entries : goal.invariant-entries
 invariant-entries l = record {

@@ -1,4 +1,4 @@
-use Rattle.std.proofs.Common.{◌∙◌, sym, ap, subst, List, ℕ, length, arith}
+use Rattle.std.proofs.Common.{refl, ◌∙◌, sym, ap, subst, List, ℕ, length, arith}
 use Rattle.std.specs.List.{AllByRecursion}
 use Rattle.std.specs.Prelude.{option_copied}
 use Rattle.std.proofs.lemmas.List.{length-map}
@@ -8,7 +8,7 @@ use Rattle.entry_references.specs.EntrySets.{numbers_of}
 use Rattle.solid_extract.specs.Making.{IsFaultless, records_of}
 use Rattle.solid_extract.proofs.KeptFile.{next_room, next_few, next_entries}
 use Rattle.solid_extract.proofs.Places.{within_at, number_at}
-use Rattle.solid_extract.proofs.extraction.kept_file.Goals as goal
+use Rattle.solid_extract.proofs.extraction.put_kept.Goals as goal
 
 pub push_kept-requires-clause-faultless : goal.push_kept-requires-clause-faultless
 push_kept-requires-clause-faultless c =
@@ -33,6 +33,9 @@ push_kept-requires-clause-values c =
     next_room f c.args.renaming.now (numbers_of c.kept-kept.result.now) c.entries.i c.unwrap-no.result.now.0 c.entries.new.entries
     (number_at kept c.entries.i c.unwrap-no.result.now (sym c.get.ensures.item ∙ ap option_copied c.unwrap-no.ensures)) c.entries.invariant.entries
     (omega (arith, ap (λ (ms : List ℕ). value_count (records_of c.args.file.now ms)) c.kept-kept.ensures.is, c.requires.values))
+
+pub entries-init : goal.entries-init
+entries-init c = record { start = refl; global = refl; entries = c.requires.blank }
 
 pub entries-preserved : goal.entries-preserved
 entries-preserved c =
