@@ -42,13 +42,13 @@ module _ (change : FaceUse → LoopUse → LoopUse) where
   told_back tell fs x back h =
       let f' = from_flat_map (face_tells tell) (map changed fs) x h in
       let f = has_map changed fs f'.0 f'.1 in
-      let l' = from_flat_map (loop_tells tell) (map (changed_loop (change f.0)) f.0.loops) x (subst (λ g. Has (face_tells tell g) x) (sym f.2) f'.2) in
+      let l' = from_flat_map (loop_tells tell) (map (changed_loop (change f.0)) f.0.loops) x (subst (λ g. Has (face_tells tell g) x) {y = changed f.0} (sym f.2) f'.2) in
       let l = has_map (changed_loop (change f.0)) f.0.loops l'.0 l'.1 in
-      let u' = from_flat_map tell (map (change f.0) l.0.uses) x (subst (λ k. Has (loop_tells tell k) x) (sym l.2) l'.2) in
+      let u' = from_flat_map tell (map (change f.0) l.0.uses) x (subst (λ k. Has (loop_tells tell k) x) {y = changed_loop (change f.0) l.0} (sym l.2) l'.2) in
       let u = has_map (change f.0) l.0.uses u'.0 u'.1 in
       back f.0 u.0
       (has_flat_map face_uses fs f.0 u.0 f.1 (has_flat_map (λ (k : Loop). k.uses) f.0.loops l.0 u.0 l.1 u.1))
-      (subst (λ w. Has (tell w) x) (sym u.2) u'.2)
+      (subst (λ w. Has (tell w) x) {y = change f.0 u.0} (sym u.2) u'.2)
 
   loops_kept : (fs : List FaceUse) → length (flat_map face_loops (map changed fs)) ≡ length (flat_map face_loops fs)
   loops_kept [] = refl

@@ -1,5 +1,5 @@
 -- The sewn shell, and that it is closed.
-use Rattle.std.specs.Prelude.{◌≡◌, ◌<◌, ◌⊎◌, ℕ, Bool, List, [], ◌∷◌, length, map, Option, Some, None}
+use Rattle.std.specs.Prelude.{◌≡◌, ◌<◌, ◌⊎◌, ℕ, Bool, List, length, map, Option, Some, None}
 use Rattle.solid_data.specs.SolidData.{SolidData, same_flag}
 use Rattle.solid_data.specs.declared.solid.FaceUse.{FaceUse}
 use Rattle.solid_data.specs.declared.solid.LoopUse.{LoopUse}
