@@ -1,7 +1,7 @@
 -- The hints on failing shells, put together.
-use Rattle.std.specs.Prelude.{◌≡◌, ◌⊎◌, ◌↔◌, ◌<◌, ◌+◌, min, ℕ, zero, suc, Bool, true, false, IsTrue, List, [], ◌∷◌, ◌++◌, All, Some, length, flat_map, slice_get, zip}
+use Rattle.std.specs.Prelude.{◌≡◌, ◌↔◌, ◌<◌, ◌+◌, ℕ, zero, suc, Bool, true, false, IsTrue, List, [], ◌∷◌, ◌++◌, All, Some, length, flat_map, slice_get, zip}
 use Rattle.std.specs.Prelude.{if◌then◌else◌, IfOk, Result, Ok, Err}
-use Rattle.std.proofs.Common.{refl, sym, ap, ◌∙◌, subst, arith, inl, inr, get_or, take}
+use Rattle.std.proofs.Common.{refl, sym, ap, ◌∙◌, subst, arith, inl, inr, get_or}
 use Rattle.std.proofs.lemmas.List.{append-nil, get_or-take}
 use Rattle.iges_base.specs.declared.entry_no.EntryNo.{EntryNo}
 use Rattle.iges_params.specs.Contents.{Contents}
@@ -16,7 +16,7 @@ use Rattle.where_text.specs.Listing.{shown, shown_count}
 use Rattle.where_text.proofs.Steps.{shown_length}
 use Rattle.solid_hints.specs.AllFaults.{failing_from, failing_shells, is_failing}
 use Rattle.solid_hints.specs.Flags.{flags_hint, pair_fails, unset_flags}
-use Rattle.solid_hints.specs.ShellHints.{AreHintsOf, AreShellHints, IsHint, TellsFlags, hint_faces_at, hints_at}
+use Rattle.solid_hints.specs.ShellHints.{AreHintsOf, AreShellHints, IsHint, hint_faces_at, hints_at}
 use Rattle.solid_hints.proofs.Gathered.{one_more}
 
 abbrev HintsAt : Contents → SolidData → List ℕ → ℕ → Hints → Type 0

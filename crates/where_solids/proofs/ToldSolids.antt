@@ -130,36 +130,40 @@ all_told p ns listed vs judged m n b text solids same verdicts is many failing c
       closed ∙ (ap (λ k. nat_lt 0 k && n == 0) each ∙ ap (λ k. nat_lt 0 (length vs) && k == 0) (failing ∙ ap (count_by fails) is)),
     )
 
-pub texts_are : (listing : Listing) (p : PlacedFile) (s : SolidData) (xs : List Faults) (paragraphs : List ℕ) (named faces all : List EntryNo) (ks : List ℕ)
-    → ks ≡ failing_shells xs
-    → paragraphs ≡ flat_map (paragraphs_at listing p.file s xs) (shown listing ks) → named ≡ s.entity ∷ flat_map (named_at listing s xs) (shown listing ks)
-    → all ≡ named ++ faces → paragraphs ++ entities_text p all ≡ shell_texts listing p s xs faces
-unfolding shell_texts
-texts_are listing p s xs paragraphs named faces all ks is text names more =
-    ap (λ ys. ys ++ entities_text p all) text
-    ∙ (ap (λ ns. flat_map (paragraphs_at listing p.file s xs) (shown listing ks) ++ entities_text p ns) (more ∙ ap (λ ns. ns ++ faces) names)
-    ∙ ap (λ zs. flat_map (paragraphs_at listing p.file s xs) (shown listing zs)
-    ++ entities_text p (s.entity ∷ flat_map (named_at listing s xs) (shown listing zs) ++ faces)) is)
+-- the lines between the verdict and the hints
+pub lines_written : (listing : Listing) (f : Contents) (s : SolidData) (xs : List Faults) (ks seen : List ℕ) (count m j : ℕ) (o0 o1 o2 o3 o4 : List ℕ)
+    → ks ≡ failing_shells xs → seen ≡ shown listing ks → count ≡ length s.shells → m ≡ length ks → j ≡ length seen → o1 ≡ o0 ++ units_line f
+    → o2 ≡ o1 ++ shells_line count m → o3 ≡ o2 ++ flat_map (line_at s xs) seen → o4 ≡ o3 ++ left_line [] (m - j) → o4 ≡ o0 ++ shell_lines listing f s xs
+lines_written listing f s xs ks seen count m j o0 o1 o2 o3 o4 is first shells many few units head lines last =
+    three_more o1 o2 o3 o4 (shells_line count m) (flat_map (line_at s xs) seen) (left_line [] (m - j)) head lines last
+    ∙ (ap (λ o. o ++ (shells_line count m ++ flat_map (line_at s xs) seen ++ left_line [] (m - j))) units
+    ∙ (append_assoc o0 (units_line f) (shells_line count m ++ flat_map (line_at s xs) seen ++ left_line [] (m - j))
+    ∙ ap (λ t. o0 ++ t)
+    (ap (λ n. units_line f ++ shells_line n m ++ flat_map (line_at s xs) seen ++ left_line [] (m - j)) shells
+    ∙ lines_are listing f s xs (flat_map (line_at s xs) seen) ks m j is (ap (flat_map (line_at s xs)) first) many (few ∙ ap (λ zs. length zs) first))))
 
--- what follows the verdict, once the lines, the hint and the paragraphs are written
-pub rest_written : (listing : Listing) (p : PlacedFile) (s : SolidData) (xs : List Faults) (ks seen items bytes lines paragraphs : List ℕ)
-    (named all : List EntryNo) (m j : ℕ) (old one two new : List ℕ)
-    → ks ≡ failing_shells xs → items ≡ ks → seen ≡ shown listing items → lines ≡ flat_map (line_at s xs) seen
-    → paragraphs ≡ flat_map (paragraphs_at listing p.file s xs) seen → named ≡ s.entity ∷ flat_map (named_at listing s xs) seen
-    → bytes ≡ lines → m ≡ length ks → j ≡ length seen → one ≡ old ++ (units_line p.file ++ shells_line (length s.shells) m ++ bytes ++ left_line [] (m - j))
-    → (hint : List ℕ) × (faces : List EntryNo) × IsHint listing p.file s xs seen hint faces × (two ≡ one ++ hint) × (all ≡ named ++ faces)
-    → new ≡ two ++ (paragraphs ++ entities_text p all)
-    → (hint : List ℕ) × (faces : List EntryNo) × IsHint listing p.file s xs (shown listing (failing_shells xs)) hint faces
-    × (new ≡ old ++ (shell_lines listing p.file s xs ++ hint ++ shell_texts listing p s xs faces))
-rest_written listing p s xs ks seen items bytes lines paragraphs named all m j old one two new is same first text more names here count few head hint last =
-    let shells : seen ≡ shown listing ks = first ∙ ap (shown listing) same in
-    let among : seen ≡ shown listing (failing_shells xs) = shells ∙ ap (shown listing) is in
-    let heads = lines_are listing p.file s xs bytes ks m j is (here ∙ (text ∙ ap (flat_map (line_at s xs)) shells)) count (few ∙ ap (λ zs. length zs) shells) in
-    let tails = texts_are listing p s xs paragraphs named hint.1 all ks is (more ∙ ap (flat_map (paragraphs_at listing p.file s xs)) shells)
-    (names ∙ ap (λ zs. s.entity ∷ flat_map (named_at listing s xs) zs) shells) hint.4 in (
+-- what follows the verdict, once the lines, the hint, the paragraphs and those of the entities are written
+pub rest_written : (listing : Listing) (f : Contents) (p : PlacedFile) (s : SolidData) (xs : List Faults) (ks seen : List ℕ) (n0 n1 n2 : List EntryNo)
+    (o0 o1 o2 o3 o4 : List ℕ)
+    → f ≡ p.file → ks ≡ failing_shells xs → seen ≡ shown listing ks → n0 ≡ s.entity ∷ [] → o1 ≡ o0 ++ shell_lines listing f s xs
+    → (hint : List ℕ) × (faces : List EntryNo) × IsHint listing f s xs seen hint faces × (o2 ≡ o1 ++ hint) × (n1 ≡ n0 ++ faces)
+    → o3 ≡ o2 ++ flat_map (paragraphs_at listing f s xs) seen → n2 ≡ n1 ++ flat_map (named_at listing s xs) seen → o4 ≡ o3 ++ entities_text p n2
+    → (hint : List ℕ) × (faces : List EntryNo) × IsHint listing f s xs (shown listing (failing_shells xs)) hint faces
+    × (o4 ≡ o0 ++ (shell_lines listing f s xs ++ hint ++ shell_texts listing p s xs faces))
+unfolding shell_texts
+rest_written listing f p s xs ks seen n0 n1 n2 o0 o1 o2 o3 o4 file is first none head hint more names last =
+    let among : seen ≡ shown listing (failing_shells xs) = first ∙ ap (shown listing) is in
+    let named : n2 ≡ s.entity ∷ hint.1 ++ flat_map (named_at listing s xs) (shown listing (failing_shells xs)) =
+    names ∙ (ap (λ zs. n1 ++ flat_map (named_at listing s xs) zs) among
+    ∙ ap (λ ns. ns ++ flat_map (named_at listing s xs) (shown listing (failing_shells xs))) (hint.4 ∙ ap (λ ns. ns ++ hint.1) none)) in
+    let tail : flat_map (paragraphs_at listing f s xs) seen ++ entities_text p n2 ≡ shell_texts listing p s xs hint.1 =
+    ap (λ zs. flat_map (paragraphs_at listing f s xs) zs ++ entities_text p n2) among
+    ∙ (ap (λ g. flat_map (paragraphs_at listing g s xs) (shown listing (failing_shells xs)) ++ entities_text p n2) file
+    ∙ ap (λ ns. flat_map (paragraphs_at listing p.file s xs) (shown listing (failing_shells xs)) ++ entities_text p ns) named) in (
       hint.0,
       hint.1,
-      subst (λ zs. IsHint listing p.file s xs zs hint.0 hint.1) among hint.2,
-      three_more old one two new (shell_lines listing p.file s xs) hint.0 (shell_texts listing p s xs hint.1) (head ∙ ap (λ t. old ++ t) heads) hint.3
-          (last ∙ ap (λ t. two ++ t) tails),
+      subst (λ zs. IsHint listing f s xs zs hint.0 hint.1) among hint.2,
+      three_more o0 o1 o2 o4 (shell_lines listing f s xs) hint.0 (shell_texts listing p s xs hint.1) head hint.3
+          (last ∙ (ap (λ o. o ++ entities_text p n2) more
+          ∙ (append_assoc o2 (flat_map (paragraphs_at listing f s xs) seen) (entities_text p n2) ∙ ap (λ t. o2 ++ t) tail))),
     )

@@ -61,8 +61,8 @@ shell_lines listing f s xs =
     units_line f ++ shells_line (length s.shells) (length (failing_shells xs)) ++ flat_map (line_at s xs) (shown listing (failing_shells xs))
     ++ more_items listing (length (failing_shells xs))
 
--- their paragraphs, and then those of the solid, of these shells and of the faces that they and the hints name
+-- their paragraphs, and then those of the solid, of the faces that the hints name, of these shells and of the faces that these paragraphs name
 unfoldable pub shell_texts : Listing → PlacedFile → SolidData → List Faults → List EntryNo → List ℕ
 shell_texts listing p s xs hinted =
     flat_map (paragraphs_at listing p.file s xs) (shown listing (failing_shells xs))
-    ++ entities_text p (s.entity ∷ flat_map (named_at listing s xs) (shown listing (failing_shells xs)) ++ hinted)
+    ++ entities_text p (s.entity ∷ hinted ++ flat_map (named_at listing s xs) (shown listing (failing_shells xs)))

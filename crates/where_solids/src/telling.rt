@@ -4,22 +4,19 @@ ghost use Rattle.brep_walk.specs.Places.{places};
 ghost use Rattle.brep_walk.specs.SolidOf.{solid_of};
 ghost use Rattle.iges_base.specs.declared.entry_no.EntryNo.{EntryNo as AnyEntryNo};
 ghost use Rattle.solid_data.specs.Obligations.{AllHold, FirstFalse};
-ghost use Rattle.std.specs.Prelude.{◌≡◌, ◌++◌, ◌∷◌, ◌≤◌, ◌-◌, ℕ, [], List, IfOk, OnOk, flat_map};
-ghost use Rattle.where_entities.specs.Entities.{entities_text};
+ghost use Rattle.std.specs.Prelude.{◌≡◌, ◌++◌, ◌∷◌, ℕ, [], List, IfOk, OnOk};
 ghost use Rattle.solid_hints.specs.AllFaults.{AreAllFaults, failing_shells};
 ghost use Rattle.solid_hints.specs.ShellHints.{IsHint};
-ghost use Rattle.where_solids.specs.Lines.{line_at, shells_line, units_line};
-ghost use Rattle.where_solids.specs.ShellTexts.{named_at, paragraphs_at, shell_lines, shell_texts as texts_of};
+ghost use Rattle.where_solids.specs.ShellTexts.{shell_lines, shell_texts as texts_of};
 ghost use Rattle.where_solids.specs.Told.{IsToldOf};
-ghost use Rattle.where_text.specs.Listing.{left_line, shown};
+ghost use Rattle.where_text.specs.Listing.{shown};
 
 use crate::lines::{put_shells, put_units, put_verdict};
 use crate::record_texts::put_record_rest;
-use crate::shell_texts::{ShellTexts, shell_texts};
+use crate::shell_texts::{put_paragraphs, put_shell_lines};
 use crate::verdicts::verdict;
 use brep_walk::{WalkFault, walk};
-use iges_fields::{Bytes, EntryNo, NoMemory, Out};
-use iges_params::File;
+use iges_fields::{Bytes, EntryNo, ItemList, NoMemory, Out};
 use record_paths::path_of;
 use solid_data::{Failing, Solid, Verdict};
 use solid_hints::{AllFaults, HintedSolid, all_faults, failing_shells, put_hint};
@@ -27,6 +24,7 @@ use std::alloc::Global;
 use where_entities::put_entities;
 use where_places::PlacedFile;
 use where_records::FailingRecord;
+use where_shells::Page;
 use where_text::{Listing, put_more_items, shown_members};
 
 /// The verdict on a solid, and a text that says where it fails.
@@ -61,80 +59,29 @@ fn of_records(
     })
 }
 
-// What comes between the verdict and the hints, where of so many failing shells so many are described.
+// What comes between the verdict and the hints, where these shells fail.
 fn put_lines(
-    out: &mut Out,
-    file: &File,
-    shells: usize,
-    lines: &[u8],
-    failing: usize,
-    shown: usize,
-) -> Result<(), NoMemory>
-    requires { shown ≤ failing }
-    ensures { OnOk result (out.new ≡ out.old
-        ++ (units_line file.now ++ shells_line shells failing ++ lines.now
-        ++ left_line [] (failing - shown))) }
-{
-    put_units(out, file)?;
-    put_shells(out, shells, failing)?;
-    out.put(lines)?;
-    put_more_items(out, failing - shown)
-}
-
-fn put_texts(
     alloc: Global,
     out: &mut Out,
-    placed: &PlacedFile,
-    texts: &ShellTexts,
-) -> Result<(), NoMemory>
-    ensures { OnOk result (out.new ≡ out.old
-        ++ (texts.now.page.out ++ entities_text placed.now texts.now.page.named)) }
-{
-    out.put(texts.page.out.bytes())?;
-    put_entities(alloc, out, placed, &texts.page.named)
-}
-
-// What is told of failing shells of which the lines and the paragraphs are known.
-fn put_told(
-    alloc: Global,
-    out: &mut Out,
-    placed: &PlacedFile,
     view: &HintedSolid<'_>,
     failing: &[u32],
-    texts: &mut ShellTexts,
 ) -> Result<(), NoMemory>
-    requires faults { AreAllFaults view.now.solid.now view.now.all.now }
-    requires file { view.now.file.now ≡ placed.now.file }
-    requires failing { failing.now ≡ failing_shells view.now.all.now }
-    requires lines { texts.old.lines
-        ≡ flat_map (line_at view.now.solid.now view.now.all.now) (shown view.now.listing failing.now) }
-    requires paragraphs { texts.old.page.out
-        ≡ flat_map (paragraphs_at view.now.listing view.now.file.now view.now.solid.now view.now.all.now) (shown view.now.listing failing.now) }
-    requires named { texts.old.page.named
-        ≡ view.now.solid.now.entity ∷ flat_map (named_at view.now.listing view.now.solid.now view.now.all.now) (shown view.now.listing failing.now) }
-    ensures { IfOk result (λ _. (hint : List ℕ) × (faces : List AnyEntryNo)
-        × IsHint view.now.listing placed.now.file view.now.solid.now view.now.all.now (shown view.now.listing (failing_shells view.now.all.now)) hint faces
-        × (out.new ≡ out.old ++ (shell_lines view.now.listing placed.now.file view.now.solid.now view.now.all.now ++ hint
-        ++ texts_of view.now.listing placed.now view.now.solid.now view.now.all.now faces))) }
+    requires { failing.now ≡ failing_shells view.now.all.now }
+    ensures { OnOk result (out.new ≡ out.old
+        ++ shell_lines view.now.listing view.now.file.now view.now.solid.now view.now.all.now) }
 {
     let count = view.solid.shell_count();
     let shells = shown_members(view.listing, failing);
-    put_lines(
-        out,
-        &placed.file,
-        count,
-        texts.lines.bytes(),
-        failing.len(),
-        shells.len(),
-    )?;
-    put_hint(alloc, out, &mut texts.page.named, view, shells)?;
-    put_texts(alloc, out, placed, texts)
+    put_units(out, view.file)?;
+    put_shells(out, count, failing.len())?;
+    put_shell_lines(alloc, out, view, shells)?;
+    put_more_items(out, failing.len() - shells.len())
 }
 
-// What is told of the failing shells of a solid.
+// What follows the verdict, where these shells fail.
 fn put_failing_shells(
     alloc: Global,
-    out: &mut Out,
+    page: &mut Page,
     placed: &PlacedFile,
     view: &HintedSolid<'_>,
     failing: &[u32],
@@ -142,31 +89,34 @@ fn put_failing_shells(
     requires faults { AreAllFaults view.now.solid.now view.now.all.now }
     requires file { view.now.file.now ≡ placed.now.file }
     requires failing { failing.now ≡ failing_shells view.now.all.now }
+    requires named { page.old.named ≡ view.now.solid.now.entity ∷ [] }
     ensures { IfOk result (λ _. (hint : List ℕ) × (faces : List AnyEntryNo)
-        × IsHint view.now.listing placed.now.file view.now.solid.now view.now.all.now (shown view.now.listing (failing_shells view.now.all.now)) hint faces
-        × (out.new ≡ out.old ++ (shell_lines view.now.listing placed.now.file view.now.solid.now view.now.all.now ++ hint
+        × IsHint view.now.listing view.now.file.now view.now.solid.now view.now.all.now
+        (shown view.now.listing (failing_shells view.now.all.now)) hint faces
+        × (page.new.out ≡ page.old.out ++ (shell_lines view.now.listing view.now.file.now view.now.solid.now view.now.all.now ++ hint
         ++ texts_of view.now.listing placed.now view.now.solid.now view.now.all.now faces))) }
 {
     let shells = shown_members(view.listing, failing);
-    let mut texts = shell_texts(alloc, view, shells)?;
-    let put = put_told(alloc, out, placed, view, failing, &mut texts);
-    drop(texts);
-    put
+    put_lines(alloc, &mut page.out, view, failing)?;
+    put_hint(alloc, &mut page.out, &mut page.named, view, shells)?;
+    put_paragraphs(alloc, page, view, shells)?;
+    put_entities(alloc, &mut page.out, placed, &page.named)
 }
 
 // What follows the verdict on a solid of which all obligations on records hold.
 fn put_shells_rest(
     alloc: Global,
-    out: &mut Out,
+    page: &mut Page,
     placed: &PlacedFile,
     solid: &Solid,
     all: &AllFaults,
     listing: Listing,
 ) -> Result<(), NoMemory>
-    requires { AreAllFaults solid.now all.now }
+    requires faults { AreAllFaults solid.now all.now }
+    requires named { page.old.named ≡ solid.now.entity ∷ [] }
     ensures { IfOk result (λ _. (hint : List ℕ) × (faces : List AnyEntryNo)
         × IsHint listing placed.now.file solid.now all.now (shown listing (failing_shells all.now)) hint faces
-        × (out.new ≡ out.old ++ (shell_lines listing placed.now.file solid.now all.now ++ hint
+        × (page.new.out ≡ page.old.out ++ (shell_lines listing placed.now.file solid.now all.now ++ hint
         ++ texts_of listing placed.now solid.now all.now faces))) }
 {
     let _count = solid.shell_count();
@@ -177,9 +127,22 @@ fn put_shells_rest(
         all,
         listing,
     };
-    let put = put_failing_shells(alloc, out, placed, &view, failing.as_slice());
+    let put = put_failing_shells(alloc, page, placed, &view, failing.as_slice());
     drop(failing);
     put
+}
+
+// A page of nothing, which names the solid.
+fn page_of(alloc: Global, solid: &Solid) -> Result<Page, NoMemory>
+    ensures out { IfOk result (λ page. page.out ≡ []) }
+    ensures named { IfOk result (λ page. page.named ≡ solid.now.entity ∷ []) }
+{
+    let mut named = ItemList::new(alloc);
+    named.push(solid.entity())?;
+    Ok(Page {
+        out: Out::new(alloc),
+        named,
+    })
 }
 
 // What is told of a solid, if this is all that fails in its shells.
@@ -197,12 +160,12 @@ fn told_of(
     ensures { IfOk result (λ told. IsToldOf listing placed.now no told.verdict told.text) }
 {
     let verdict = verdict(solid, all);
-    let mut out = Out::new(alloc);
-    put_verdict(&mut out, no, verdict)?;
-    put_shells_rest(alloc, &mut out, placed, solid, all, listing)?;
+    let mut page = page_of(alloc, solid)?;
+    put_verdict(&mut page.out, no, verdict)?;
+    put_shells_rest(alloc, &mut page, placed, solid, all, listing)?;
     Ok(Told {
         verdict,
-        text: out.into_bytes(),
+        text: page.out.into_bytes(),
     })
 }
 

@@ -1,4 +1,4 @@
-use Rattle.std.proofs.Common.{◌+◌, ◌<◌, ◌^◌, arith, length, rules}
+use Rattle.std.proofs.Common.{◌+◌, ◌<◌, ◌^◌, arith, rules}
 use Rattle.solid_data.proofs.Members.{get_some}
 use Rattle.solid_faults.proofs.Definite.{few_shells}
 use Rattle.solid_hints.proofs.Counts.{counted_few, counted_more}

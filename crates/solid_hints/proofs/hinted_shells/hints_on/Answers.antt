@@ -1,4 +1,4 @@
-use Rattle.std.proofs.Common.{◌≡◌, ◌∙◌, Some, ap, length, rules, slice_get, sym}
+use Rattle.std.proofs.Common.{◌≡◌, ◌∙◌, Some, ap, length, rules, slice_get}
 use Rattle.solid_hints.proofs.MergedLemmas.{all_told}
 use Rattle.solid_hints.proofs.hinted_shells.hints_on.Goals as goal
 
@@ -10,7 +10,7 @@ hints_with-hints-requires-clause-faults c h at =
 pub returns : goal.returns
 returns c =
     let there : slice_get c.args.all.now c.args.k ≡ Some c.unwrap-faults.result.now = search rules in
-    let count : c.len.result ≡ length c.unwrap-faults.result.now.gaps = search rules in
-    all_told c.args.solid.now c.args.merged.now c.args.k c.len.result c.in_ok-unsewn.unsewn c.hints_with-hints.result c.in_ok-unsewn.ensures
-    (λ h at. count ∙ ap length (c.requires.faults.shell c.args.k h c.unwrap-faults.result.now at there).gaps)
+    all_told c.args.solid.now c.args.merged.now c.args.k (length c.gaps-gaps.result.now) c.in_ok-unsewn.unsewn c.hints_with-hints.result
+    c.in_ok-unsewn.ensures
+    (λ h at. ap length (c.gaps-gaps.ensures ∙ (c.requires.faults.shell c.args.k h c.unwrap-faults.result.now at there).gaps))
     c.hints_with-hints.ensures.unsewn c.hints_with-hints.ensures.missing c.hints_with-hints.ensures.hints

@@ -1,6 +1,5 @@
 use Rattle.std.proofs.lemmas.Result.{IfOk-weaker}
 use Rattle.std.proofs.Common.{◌∙◌, ap}
-use Rattle.alike_vertices.specs.Alike.{alike_of, spellings}
 use Rattle.shell_alone.specs.Merged.{merged_data}
 use Rattle.solid_hints.proofs.MergedLemmas.{merged_count}
 use Rattle.solid_hints.proofs.hinted_shells.merged.Goals as goal

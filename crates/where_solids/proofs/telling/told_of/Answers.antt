@@ -5,7 +5,7 @@ use Rattle.where_solids.proofs.telling.told_of.Goals as goal
 pub returns : goal.returns
 returns c =
     let rest = c.in_ok-put_shells_rest.ensures in
-    told_shells c.args.listing c.args.placed.now c.args.no c.args.solid.now c.verdict-verdict.result c.args.all.now c.new-out.result c.put_verdict.new.out
+    told_shells c.args.listing c.args.placed.now c.args.no c.args.solid.now c.verdict-verdict.result c.args.all.now c.in_ok-page.page.out c.put_verdict.new.out
     c.into_bytes.result _
     c.requires.solid c.requires.placed c.requires.faults c.verdict-verdict.ensures (record { hint = rest.0; faces = rest.1; is_hint = rest.2; rest_is = refl })
-    c.new-out.ensures c.in_ok-put_verdict.ensures (c.into_bytes.ensures ∙ rest.3)
+    c.in_ok-page.ensures.out c.in_ok-put_verdict.ensures (c.into_bytes.ensures ∙ rest.3)
