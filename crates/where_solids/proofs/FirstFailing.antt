@@ -19,7 +19,7 @@ use Rattle.solid_faults.specs.Edges.{shared_failing, unpaired_failing}
 use Rattle.solid_faults.specs.Faults.{AreFaults, AreLinked, AreLinkings, Faults, IsFaultless, Linking, failing_of, failing_vertices}
 use Rattle.solid_faults.specs.Fans.{unlinked_failing}
 use Rattle.solid_faults.specs.Gaps.{gap_failing}
-use Rattle.solid_faults.specs.Parts.{apart_from, faces_apart, failing_faces}
+use Rattle.solid_faults.specs.Parts.{apart_from, failing_faces}
 use Rattle.solid_faults.proofs.Definite.{faultless_holds, first_named, map_none}
 
 abbrev pub Firsts : List Failing → Option Failing → Type 0

@@ -1,7 +1,7 @@
 -- What is told of a solid, put together.
-use Rattle.std.specs.Prelude.{◌≡◌, ◌↔◌, ◌<◌, ℕ, ◌-◌, Bool, true, false, ◌&&◌, ◌==◌, nat_lt, IsTrue, List, [], ◌∷◌, ◌++◌, Option, length, flat_map, zip}
-use Rattle.std.specs.Prelude.{count_by, codes}
-use Rattle.std.proofs.Common.{refl, sym, ap, ◌∙◌, subst, inl, inr, append_assoc, arith}
+use Rattle.std.specs.Prelude.{◌≡◌, ℕ, ◌-◌, Bool, ◌&&◌, ◌==◌, nat_lt, List, [], ◌∷◌, ◌++◌, Option, length, flat_map, zip}
+use Rattle.std.specs.Prelude.{count_by}
+use Rattle.std.proofs.Common.{refl, sym, ap, ◌∙◌, subst, inl, inr, append_assoc}
 use Rattle.iges_base.specs.declared.entry_no.EntryNo.{EntryNo}
 use Rattle.iges_params.specs.Contents.{Contents}
 use Rattle.brep_walk.specs.Places.{places}
@@ -23,7 +23,6 @@ use Rattle.where_text.specs.Listing.{left_line, shown, shown_count}
 use Rattle.where_text.proofs.Steps.{shown_length}
 use Rattle.solid_hints.specs.AllFaults.{AreAllFaults, failing_shells}
 use Rattle.where_entities.specs.Entities.{entities_text}
-use Rattle.where_solids.specs.Hints.{no_solid_hint}
 use Rattle.where_unjudged.specs.Listed.{solids_of}
 use Rattle.where_unjudged.specs.Unjudged.{unjudged_text}
 use Rattle.where_solids.specs.Overview.{AreVerdicts, IsOverview, all_close, fails, overview_end, overview_start, overview_text, solid_paragraph}
@@ -135,9 +134,9 @@ pub lines_written : (listing : Listing) (f : Contents) (s : SolidData) (xs : Lis
     → ks ≡ failing_shells xs → seen ≡ shown listing ks → count ≡ length s.shells → m ≡ length ks → j ≡ length seen → o1 ≡ o0 ++ units_line f
     → o2 ≡ o1 ++ shells_line count m → o3 ≡ o2 ++ flat_map (line_at s xs) seen → o4 ≡ o3 ++ left_line [] (m - j) → o4 ≡ o0 ++ shell_lines listing f s xs
 lines_written listing f s xs ks seen count m j o0 o1 o2 o3 o4 is first shells many few units head lines last =
-    three_more o1 o2 o3 o4 (shells_line count m) (flat_map (line_at s xs) seen) (left_line [] (m - j)) head lines last
-    ∙ (ap (λ o. o ++ (shells_line count m ++ flat_map (line_at s xs) seen ++ left_line [] (m - j))) units
-    ∙ (append_assoc o0 (units_line f) (shells_line count m ++ flat_map (line_at s xs) seen ++ left_line [] (m - j))
+    last
+    ∙ (ap (λ o. o ++ left_line [] (m - j)) (three_more o0 o1 o2 o3 (units_line f) (shells_line count m) (flat_map (line_at s xs) seen) units head lines)
+    ∙ (append_assoc o0 (units_line f ++ shells_line count m ++ flat_map (line_at s xs) seen) (left_line [] (m - j))
     ∙ ap (λ t. o0 ++ t)
     (ap (λ n. units_line f ++ shells_line n m ++ flat_map (line_at s xs) seen ++ left_line [] (m - j)) shells
     ∙ lines_are listing f s xs (flat_map (line_at s xs) seen) ks m j is (ap (flat_map (line_at s xs)) first) many (few ∙ ap (λ zs. length zs) first))))

@@ -1,7 +1,7 @@
 -- The verdict, shell by shell.
-use Rattle.std.specs.Prelude.{◌≡◌, ℕ, ◌+◌, ◌≤◌, List, [], ◌∷◌, ◌++◌, length, Some, slice_get, drop}
+use Rattle.std.specs.Prelude.{◌≡◌, ℕ, ◌+◌, ◌≤◌, List, ◌++◌, length, Some, slice_get, drop}
 use Rattle.std.specs.List.{enumerate_from}
-use Rattle.std.proofs.Common.{refl, sym, ap, ◌∙◌, subst}
+use Rattle.std.proofs.Common.{sym, ap, subst}
 use Rattle.std.proofs.lemmas.List.{drop_all}
 use Rattle.solid_data.specs.Obligations.{Obligation, AllHold, FirstFalse, IsVerdict, of_each}
 use Rattle.solid_data.specs.SolidData.{SolidData}

@@ -1,5 +1,5 @@
 -- The lines before the paragraphs.
-use Rattle.std.specs.Prelude.{ℕ, ◌+◌, Bool, List, [], ◌∷◌, ◌++◌, length, Option, Some, None, slice_get, codes, decimal, if◌then◌else◌}
+use Rattle.std.specs.Prelude.{ℕ, ◌+◌, Bool, List, [], ◌++◌, length, Option, Some, None, slice_get, codes, decimal, if◌then◌else◌}
 use Rattle.iges_params.specs.Contents.{Contents}
 use Rattle.solid_data.specs.RuleNames.{rule_name}
 use Rattle.solid_data.specs.SolidData.{SolidData}

@@ -1,7 +1,5 @@
 use Rattle.std.proofs.lemmas.Result.{IfOk-weaker}
-use Rattle.std.proofs.Common.{◌∙◌, ap}
 use Rattle.solid_hints.proofs.ToldHints.{all_inside}
-use Rattle.where_text.specs.Listing.{shown}
 use Rattle.where_solids.proofs.ToldSolids.{rest_written}
 use Rattle.where_solids.proofs.telling.put_failing_shells.Goals as goal
 
@@ -18,4 +16,4 @@ returns c =
     c.args.page.now.out c.put_lines.new.out c.put_hint.new.out c.put_paragraphs.new.page.out c.put_entities.new.out
     c.requires.file c.requires.failing c.shown_members-shells.ensures c.requires.named
     c.in_ok-put_lines.ensures c.in_ok-put_hint.ensures c.in_ok-put_paragraphs.ensures.paragraphs c.in_ok-put_paragraphs.ensures.named last)
-    c.put_entities.ensures
+    c.put_entities.ensures.text

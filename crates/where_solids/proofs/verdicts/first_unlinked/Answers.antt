@@ -1,7 +1,3 @@
-use Rattle.std.proofs.Common.{◌≡◌, ◌∷◌, List, option_copied, subst, sym}
-use Rattle.solid_data.specs.declared.verdict.Failing.{Failing}
-use Rattle.solid_faults.specs.Fans.{unlinked_failing}
-use Rattle.solid_faults.specs.Faults.{failing_vertices}
 use Rattle.where_solids.proofs.FirstFailing.{first_unlinked}
 use Rattle.where_solids.proofs.verdicts.first_unlinked.Goals as goal
 
