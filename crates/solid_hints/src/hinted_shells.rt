@@ -130,6 +130,9 @@ fn all_hints(
     requires shells { All (λ k. k < length solid.now.shells) shells.now }
     ensures { IfOk result (λ xs. AreHintsOf file.now solid.now shells.now xs) }
 {
+    if shells.is_empty() {
+        return Ok(ItemList::new(alloc));
+    }
     let merged = merged(alloc, file, solid)?;
     let hints = hints_on_each(alloc, solid, &merged, all, shells);
     drop(merged);
