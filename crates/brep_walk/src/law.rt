@@ -20,8 +20,7 @@ pub fn places_are_definite()
         ⊎ ((x : Named) × FirstFalse (places f n) x) }
 {}
 
-/// The solid of a file within its limits, whose places hold, is numbered by first appearance, and keeps what every
-/// solid keeps.
+/// The solid of a file within its limits, whose places hold, is numbered by first appearance, and keeps what solids keep.
 pub fn solid_is_numbered()
     ensures { (f : Contents) (n : ℕ) → FitsLimits f → AllHold (places f n)
         → IsNumberedSolid (solid_of f n) }

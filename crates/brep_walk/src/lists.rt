@@ -120,25 +120,6 @@ impl<'a> Lists<'a> {
         Ok(VertexKey { list, index })
     }
 
-    // The edge that a list and an index at a place name. The list wasn't looked at yet, and is kept.
-    fn new_edge(
-        &mut self,
-        at: Place,
-        number: i64,
-        index: i64,
-    ) -> Result<(EdgeKey, EdgeTuple), WalkFault>
-        ensures file { self.new ≡ self.old }
-        ensures holds { OnOk result (AllHold (edge_here self.old at number index)) }
-        ensures edge { IfOk result (λ e. (e.0 ≡ edge_key number index)
-            × (edge_at self.old number (entry_number index) ≡ Some e.1)) }
-        ensures fault { IfErr result (IsFault (edge_here self.old at number index)) }
-    {
-        let (no, list) = self.record::<EdgeList<'a>>(at, number)?;
-        let edge = edge_of(no, &list, at, index);
-        self.edges.keep(no, list)?;
-        Ok(edge?)
-    }
-
     /// The edge that a list and an index at a place name.
     pub fn edge(
         &mut self,
@@ -155,7 +136,10 @@ impl<'a> Lists<'a> {
         if let Some((no, list)) = self.edges.get(number) {
             return Ok(edge_of(*no, list, at, index)?);
         }
-        self.new_edge(at, number, index)
+        let (no, list) = self.record::<EdgeList<'a>>(at, number)?;
+        let edge = edge_of(no, &list, at, index);
+        self.edges.keep(no, list)?;
+        Ok(edge?)
     }
 
     /// The start and the end of the edge at a place, whose curve must name geometry.

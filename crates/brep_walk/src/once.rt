@@ -8,7 +8,7 @@ ghost use Rattle.solid_data.specs.declared.verdict.Rule.TheVariants.{Twice};
 use crate::fault::WalkFault;
 use crate::place::Place;
 use brep_numbering::{Positions, end_position};
-use iges_fields::{EntryNo, NoMemory};
+use iges_fields::EntryNo;
 use solid_data::Rule;
 use std::alloc::Global;
 use std::marker::Model;
@@ -52,17 +52,6 @@ impl Once {
         }
     }
 
-    // Puts a number that isn't there behind the others.
-    fn put(&mut self, no: EntryNo) -> Result<(), NoMemory>
-        requires { ¬ Contains self.old (pos no.0) }
-        ensures { OnOk result (self.new ≡ self.old ++ pos no.0 ∷ []) }
-    {
-        let position = end_position(self.numbers.len())?;
-        self.positions.set(no.0, position)?;
-        self.numbers.push(no.0)?;
-        Ok(())
-    }
-
     /// Notes a number, which no earlier place may have named. It is that of an entry.
     pub fn note(&mut self, at: Place, number: i64, no: EntryNo) -> Result<(), WalkFault>
         requires { number ≡ pos no.0 }
@@ -74,7 +63,10 @@ impl Once {
         if self.has(no) {
             return Err(WalkFault::Fails(at.fails(Rule::Twice)));
         }
-        Ok(self.put(no)?)
+        let position = end_position(self.numbers.len())?;
+        self.positions.set(no.0, position)?;
+        self.numbers.push(no.0)?;
+        Ok(())
     }
 
     /// Forgets what places have named. No memory is given back.
