@@ -111,6 +111,7 @@ pub fn walk_solid(walk: &mut WalkState<'_>, alloc: Global, no: EntryNo) -> Resul
     let numbering = &mut walk.numbering;
     let vertices = numbering.vertices(alloc)?;
     let edges = numbering.take_edges(alloc);
+    numbering.restart(alloc);
     Ok(Solid::new(no, shells, edges, vertices))
 }
 

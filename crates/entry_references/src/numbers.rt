@@ -81,7 +81,7 @@ fn matrix_of(entry: &Entry) -> Option<i64>
     if entry.matrix == 0 {
         return None;
     }
-    Some(entry.matrix)
+    Some(i64::from(entry.matrix))
 }
 
 // The entry that gives the colour, where one does: its number is there negated (IGES 5.3, 2.2.4.4.13).
@@ -92,7 +92,7 @@ fn colour_of(entry: &Entry) -> Option<i64>
     if entry.colour >= 0 {
         return None;
     }
-    Some(-entry.colour)
+    Some(-i64::from(entry.colour))
 }
 
 /// The numbers of an entry that are followed: the pointers among its own values, its matrix and its colour.

@@ -2,21 +2,21 @@
 #[derive(Clone, Copy)]
 pub struct FirstHalf {
     /// Field 1: the entity type.
-    pub kind: i64,
+    pub kind: i32,
     /// Field 2: the number of the record's first line in the parameter section, from 1.
-    pub record_first: i64,
+    pub record_first: i32,
     /// Field 3: the structure.
-    pub structure: i64,
+    pub structure: i32,
     /// Field 4: the line font pattern.
-    pub font: i64,
+    pub font: i32,
     /// Field 5: the level.
-    pub level: i64,
+    pub level: i32,
     /// Field 6: the view.
-    pub view: i64,
+    pub view: i32,
     /// Field 7: the transformation matrix.
-    pub matrix: i64,
+    pub matrix: i32,
     /// Field 8: the label display.
-    pub display: i64,
+    pub display: i32,
     /// Field 9: the status number, eight digits in ASCII.
     pub status: [u8; 8],
 }
@@ -25,17 +25,17 @@ pub struct FirstHalf {
 #[derive(Clone, Copy)]
 pub struct SecondHalf {
     /// Field 11: the entity type again.
-    pub kind: i64,
+    pub kind: i32,
     /// Field 12: the line weight.
-    pub weight: i64,
+    pub weight: i32,
     /// Field 13: the colour.
-    pub colour: i64,
+    pub colour: i32,
     /// Field 14: the number of the record's lines.
-    pub record_count: i64,
+    pub record_count: i32,
     /// Field 15: the form.
-    pub form: i64,
+    pub form: i32,
     /// Field 18: the entity label, its eight bytes as they stand.
     pub label: [u8; 8],
     /// Field 19: the entity subscript.
-    pub subscript: i64,
+    pub subscript: i32,
 }

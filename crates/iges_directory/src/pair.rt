@@ -4,7 +4,7 @@ ghost use Rattle.iges_directory.specs.Entries.{field, Holds, has_record};
 ghost use Rattle.iges_directory.specs.Halves.{IsFirstHalf, IsSecondHalf, AnswersPair, placed_from};
 ghost use Rattle.iges_base.specs.Word.{column_number};
 ghost use Rattle.std.specs.Ordering.{int_eq};
-ghost use Rattle.std.specs.Prelude.{◌≡◌, ◌<◌, ◌^◌, length, IsTrue, IsFalse, IfSome, IfNone};
+ghost use Rattle.std.specs.Prelude.{◌≡◌, ◌<◌, ◌^◌, ◌+ℤ◌, length, IsTrue, IsFalse, IfSome, IfNone};
 
 use crate::entry::{Entry, Placed};
 use crate::field::{bytes_in, number_in, status_in, word_in};
@@ -38,7 +38,7 @@ fn first_half(line: &[u8]) -> Option<FirstHalf>
 
 // The entity type in the second line, of which the first holds this type.
 #[inline(always)]
-fn kind_again(first: &[u8], kind: i64, line: &[u8]) -> Option<i64>
+fn kind_again(first: &[u8], kind: i32, line: &[u8]) -> Option<i32>
     requires first { length first.now ≡ 80 }
     requires held { Holds 1 first.now kind }
     requires long { length line.now ≡ 80 }
@@ -51,7 +51,7 @@ fn kind_again(first: &[u8], kind: i64, line: &[u8]) -> Option<i64>
     number_in(line, 1)
 }
 
-fn second_half(first: &[u8], kind: i64, line: &[u8]) -> Option<SecondHalf>
+fn second_half(first: &[u8], kind: i32, line: &[u8]) -> Option<SecondHalf>
     requires first { length first.now ≡ 80 }
     requires held { Holds 1 first.now kind }
     requires long { length line.now ≡ 80 }
@@ -75,14 +75,21 @@ fn have_one_type(one: &FirstHalf, two: &SecondHalf) -> bool
     one.kind == two.kind
 }
 
+// The number behind that of a record's last line.
+fn record_end(first: i32, count: i32) -> i64
+    ensures { result ≡ first +ℤ count }
+{
+    i64::from(first) + i64::from(count)
+}
+
 // Whether the record lies among so many parameter lines, where there must be one.
-fn lies_within(params: usize, kind: i64, first: i64, count: i64) -> bool
+fn lies_within(params: usize, kind: i32, first: i32, count: i32) -> bool
     requires params { params < 2 ^ 62 }
     requires first { IsTrue (fits_columns first) }
     requires count { IsTrue (fits_columns count) }
     ensures { result ≡ has_record params kind first count }
 {
-    kind == 0 || (first >= 1 && count >= 1 && first + count <= params as i64 + 1)
+    kind == 0 || (first >= 1 && count >= 1 && record_end(first, count) <= params as i64 + 1)
 }
 
 fn placed_of(one: FirstHalf, two: SecondHalf) -> Placed

@@ -51,7 +51,7 @@ fn five_digits(word: u64) -> Option<u64>
 
 // The number in the last seven of eight columns, where they are spaces and then at most six digits.
 #[inline(always)]
-fn number_behind_spaces(word: u64) -> Option<i64>
+fn number_behind_spaces(word: u64) -> Option<i32>
     ensures { IfSome result (λ n. column_number (drop 1 (to_be_bytes w64 word)) ≡ Some n) }
 {
     if word / 0x100_0000_0000_0000 != 0x20 {
@@ -75,7 +75,7 @@ pub fn carries(line: &[u8], number: usize) -> bool
         }
     }
     if let Some(z) = number_behind_spaces(word) {
-        if z == number as i64 {
+        if i64::from(z) == number as i64 {
             return true;
         }
     }

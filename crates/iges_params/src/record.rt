@@ -95,17 +95,17 @@ fn record_text<'t>(
 }
 
 // Whether the value is this integer.
-fn is_number(n: &i64, value: &Value) -> bool
+fn is_number(n: &i32, value: &Value) -> bool
     ensures { result ≡ is_number n.now value.now }
 {
     match value {
-        Value::Int(m) => m == n,
+        Value::Int(m) => *m == i64::from(*n),
         _ => false,
     }
 }
 
 // A record's values after its first, which must be the type number.
-fn behind_type(first: u64, kind: &i64, number: &Value, others: Values) -> Result<Values, PassFault>
+fn behind_type(first: u64, kind: &i32, number: &Value, others: Values) -> Result<Values, PassFault>
     ensures { Gives result (without_type first kind.now (number.now ∷ others)) }
 {
     if !is_number(kind, number) {
@@ -122,7 +122,7 @@ pub fn lines_above(sections: &Sections) -> u64
     (sections.start_count() + sections.global_count() + sections.directory_count()) as u64
 }
 
-fn magnitude(n: &i64) -> usize
+fn magnitude(n: &i32) -> usize
     ensures { result ≡ unsigned_abs n.now }
 {
     n.unsigned_abs() as usize

@@ -10,7 +10,7 @@ use iges_fields::{EntryNo, ItemList, NoMemory};
 use std::alloc::Global;
 
 // The entity type of a manifold solid B-rep object (IGES 5.3, 4.49).
-const SOLID: i64 = 186;
+const SOLID: i32 = 186;
 
 impl File {
     /// The number of the i-th entry, i from 0 (IGES 5.3, 2.2.4.4).

@@ -27,7 +27,7 @@ fn plain(kind: u32, form: u32) -> Entry
     ensures bounded { IsBounded result }
 {
     Entry {
-        kind: i64::from(kind),
+        kind: kind as i32,
         structure: 0,
         font: 0,
         level: 0,
@@ -36,7 +36,7 @@ fn plain(kind: u32, form: u32) -> Entry
         display: 0,
         weight: 0,
         colour: 0,
-        form: i64::from(form),
+        form: form as i32,
         subscript: 0,
         status: *b"00000000",
         label: *b"        ",

@@ -88,9 +88,9 @@ fn put_colour_words(out: &mut Out, file: &File, entry: &Entry) -> Result<(), NoM
     ensures { OnOk result (out.new ≡ out.old ++ colour_words file.now entry.now.colour) }
 {
     if entry.colour > 0 {
-        return put_word(out, colour_word(entry.colour));
+        return put_word(out, colour_word(i64::from(entry.colour)));
     }
-    put_definition(out, definition_of(file, -entry.colour))
+    put_definition(out, definition_of(file, -i64::from(entry.colour)))
 }
 
 /// Appends the fact of an entry's colour, where it has one: its number; then the word of a positive one, or the shares of
@@ -104,7 +104,7 @@ pub fn put_colour(out: &mut Out, file: &File, entry: &Entry) -> Result<(), NoMem
         return Ok(());
     }
     out.put(b"  colour")?;
-    put_signed(out, entry.colour)?;
+    put_signed(out, i64::from(entry.colour))?;
     put_colour_words(out, file, entry)?;
     out.put(b"\n")
 }

@@ -59,7 +59,7 @@ fn put_head(
 {
     out.put(b"entity")?;
     put_number(out, u64::from(no.0))?;
-    put_type_word(out, entry.kind)?;
+    put_type_word(out, i64::from(entry.kind))?;
     put_surface(out, file, entry, values)?;
     out.put(b"\n")
 }

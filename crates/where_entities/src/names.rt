@@ -17,7 +17,7 @@ use std::alloc::Global;
 use where_text::{Listing, put_more_facts, put_text, shown_members};
 
 // Whether the type is one of which a solid is made (IGES 5.3, 4.49 and 4.145 to 4.149).
-fn is_of_solids(kind: i64) -> bool
+fn is_of_solids(kind: i32) -> bool
     ensures { result ≡ is_of_solids kind }
 {
     EntityKind::of_type(kind).is_some()

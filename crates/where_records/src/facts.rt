@@ -113,7 +113,7 @@ fn put_named(out: &mut Out, file: &File, number: i64) -> Result<(), NoMemory>
     put_signed(out, number)?;
     put_type(out, file, number)?;
     out.put(b" form")?;
-    put_signed(out, entry.form)?;
+    put_signed(out, i64::from(entry.form))?;
     out.put(b"\n")
 }
 

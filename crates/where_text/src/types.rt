@@ -43,7 +43,7 @@ pub fn put_type(out: &mut Out, file: &File, number: i64) -> Result<(), NoMemory>
         return out.put(b" -");
     };
     match file.entry(no) {
-        Some(entry) => put_type_word(out, entry.kind),
+        Some(entry) => put_type_word(out, i64::from(entry.kind)),
         None => out.put(b" -"),
     }
 }

@@ -48,7 +48,7 @@ fn kind_at(file: &File, i: usize) -> i64
     requires { i < length file.now.entries }
     ensures { option_map kind_of (slice_get file.now.entries i) ≡ Some result }
 {
-    file.entry_at(i).unwrap().kind
+    i64::from(file.entry_at(i).unwrap().kind)
 }
 
 // Counts the entities of a file, at the places of their types.

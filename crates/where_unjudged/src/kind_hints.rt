@@ -51,18 +51,18 @@ fn put_shell_hint(out: &mut Out) -> Result<(), NoMemory>
     out.put(SHELL.as_bytes())
 }
 
-fn is_shell(kind: i64, form: i64) -> bool
+fn is_shell(kind: i32, form: i32) -> bool
     ensures { result ≡ is_shell kind form }
 {
     kind == 514 && (form == 1 || form == 2)
 }
 
 #[tactic(auto, unfolding(crate::specs::KindHints::kind_hint))]
-fn put_hint_of_kind(out: &mut Out, kind: i64, form: i64) -> Result<(), NoMemory>
+fn put_hint_of_kind(out: &mut Out, kind: i32, form: i32) -> Result<(), NoMemory>
     ensures { OnOk result (out.new ≡ out.old ++ kind_hint kind form) }
 {
     if kind == 186 {
-        return put_form_hint(out, form);
+        return put_form_hint(out, i64::from(form));
     }
     if is_shell(kind, form) {
         return put_shell_hint(out);

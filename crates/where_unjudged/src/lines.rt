@@ -20,12 +20,12 @@ use where_text::{
 };
 
 #[tactic(auto, unfolding(crate::specs::Lines::unjudged_line))]
-fn put_line(out: &mut Out, count: usize, kind: i64) -> Result<(), NoMemory>
+fn put_line(out: &mut Out, count: usize, kind: i32) -> Result<(), NoMemory>
     ensures { OnOk result (out.new ≡ out.old ++ unjudged_line count kind) }
 {
     out.put(b"unjudged")?;
     put_number(out, count as u64)?;
-    put_type_word(out, kind)?;
+    put_type_word(out, i64::from(kind))?;
     out.put(b"\n")
 }
 
@@ -34,7 +34,7 @@ pub fn form_of(file: &File, no: EntryNo) -> i64
     ensures { result ≡ form_of file.now no }
 {
     match file.entry(no) {
-        Some(entry) => entry.form,
+        Some(entry) => i64::from(entry.form),
         None => 0,
     }
 }
@@ -129,7 +129,7 @@ fn put_count(out: &mut Out, count: usize, kind: u16) -> Result<(), NoMemory>
     if count == 0 {
         return Ok(());
     }
-    put_line(out, count, i64::from(kind))
+    put_line(out, count, i32::from(kind))
 }
 
 /// Appends how many entities there are of each of these types, where there are any.

@@ -15,7 +15,7 @@ use std::alloc::Global;
 use where_text::EntryNumbers;
 
 /// The type of such members (IGES 5.3, 4.148 and 4.149).
-pub fn type_of_members(member: Member) -> i64
+pub fn type_of_members(member: Member) -> i32
     ensures { result ≡ type_of_members member }
 {
     match member {
@@ -24,7 +24,7 @@ pub fn type_of_members(member: Member) -> i64
     }
 }
 
-fn names_members(member: Member, kind: i64, form: i64) -> bool
+fn names_members(member: Member, kind: i32, form: i32) -> bool
     ensures { result ≡ names_members member kind form }
 {
     match member {
