@@ -119,7 +119,7 @@ fn put_shells_rest(
         × (page.new.out ≡ page.old.out ++ (shell_lines listing placed.now.file solid.now all.now ++ hint
         ++ texts_of listing placed.now solid.now all.now faces))) }
 {
-    let _count = solid.shell_count();
+    solid.recall_numbering();
     let failing = failing_shells(alloc, all)?;
     let view = HintedSolid {
         file: &placed.file,
