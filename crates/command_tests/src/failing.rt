@@ -201,26 +201,32 @@ impl Call {
     }
 }
 
-// The call after so many of a kind fails.
-fn fails_behind(
+// Compares the status and the text of a run in which this call fails, if the run comes to it.
+fn ends(
     rt: &impl Abort,
     alloc: Global,
     given: Given,
-    call: Call,
-    size: u64,
-    passed: u64,
+    fails: Fails,
+    status: u8,
     text: &[u8],
 ) -> Result<(), Fail> {
-    let at = passed.saturating_add(1);
-    let got = outcome(alloc, given, Some(Fails { call, size, at }))?;
-    compare(
-        rt,
-        given,
-        &got,
-        call.status(),
-        call.written(text, passed, size),
-    );
+    let got = outcome(alloc, given, Some(fails))?;
+    compare(rt, given, &got, status, text);
+    drop(got);
     Ok(())
+}
+
+// This call fails, which comes in a run that writes the text where none fails.
+fn fails_at(
+    rt: &impl Abort,
+    alloc: Global,
+    given: Given,
+    fails: Fails,
+    text: &[u8],
+) -> Result<(), Fail> {
+    let call = fails.call;
+    let written = call.written(text, fails.at.saturating_sub(1), fails.size);
+    ends(rt, alloc, given, fails, call.status(), written)
 }
 
 // Each call of a kind fails in turn, until the run passes.
@@ -235,11 +241,24 @@ fn fails_in_turn(
     let text = whole.1.as_slice();
     let count = call.count(given, text.len(), size);
     'calls: for passed in 0..count {
-        fails_behind(rt, alloc, given, call, size, passed, text)?;
+        let at = passed.saturating_add(1);
+        fails_at(rt, alloc, given, Fails { call, size, at }, text)?;
     }
     let at = count.saturating_add(1);
-    let got = outcome(alloc, given, Some(Fails { call, size, at }))?;
-    compare(rt, given, &got, whole.0, text);
+    ends(rt, alloc, given, Fails { call, size, at }, whole.0, text)
+}
+
+// Each call of a kind fails in turn, whatever it moves at most.
+fn fails_at_each(
+    rt: &impl Abort,
+    alloc: Global,
+    given: Given,
+    call: Call,
+    whole: &(u8, Bytes),
+) -> Result<(), Fail> {
+    'sizes: for size in [17, 81] {
+        fails_in_turn(rt, alloc, given, call, size, whole)?;
+    }
     Ok(())
 }
 
@@ -253,17 +272,34 @@ fn starts(rt: &impl Abort, got: &(u8, Bytes), status: u8, length: usize, front: 
     );
 }
 
+// The short file in place of the file, where there is one.
+fn shortened(given: Given) -> Given {
+    let file = match given.file {
+        Some(_) => Some(short()),
+        None => None,
+    };
+    Given { file, ..given }
+}
+
 // Each read of the short file fails in turn.
 fn fails_at_each_file_read(rt: &impl Abort, alloc: Global, given: Given) -> Result<(), Fail> {
-    let given = Given {
-        file: given.file.map(|_| short()),
-        ..given
-    };
+    let given = shortened(given);
     let whole = outcome(alloc, given, None)?;
-    'sizes: for size in [17, 81] {
-        fails_in_turn(rt, alloc, given, Call::FileRead, size, &whole)?;
-    }
-    Ok(())
+    let told = fails_at_each(rt, alloc, given, Call::FileRead, &whole);
+    drop(whole);
+    told
+}
+
+// Each read of the certificate and each write fails in turn.
+fn fails_at_each_other_call(
+    rt: &impl Abort,
+    alloc: Global,
+    given: Given,
+    whole: &(u8, Bytes),
+) -> Result<(), Fail> {
+    fails_in_turn(rt, alloc, given, Call::CertificateRead, 1, whole)?;
+    fails_at_each(rt, alloc, given, Call::CertificateRead, whole)?;
+    fails_at_each(rt, alloc, given, Call::Write, whole)
 }
 
 // Each call fails in turn, whatever it moves at most.
@@ -271,11 +307,9 @@ fn fails_at_each_call(rt: &impl Abort, alloc: Global, command: &Command) -> Resu
     let given = command.given();
     let whole = outcome(alloc, given, None)?;
     starts(rt, &whole, 0, command.length, command.front);
-    fails_in_turn(rt, alloc, given, Call::CertificateRead, 1, &whole)?;
-    'sizes: for size in [17, 81] {
-        fails_in_turn(rt, alloc, given, Call::CertificateRead, size, &whole)?;
-        fails_in_turn(rt, alloc, given, Call::Write, size, &whole)?;
-    }
+    let told = fails_at_each_other_call(rt, alloc, given, &whole);
+    drop(whole);
+    told?;
     fails_at_each_file_read(rt, alloc, given)
 }
 

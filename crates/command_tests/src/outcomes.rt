@@ -3,6 +3,7 @@
 use crate::memory::{sink, source, status_of, words};
 use iges_fields::Bytes;
 use iges_io::{MemSink, MemSource};
+use iges_solid_cmd::Words;
 use std::alloc::Global;
 use std::test::Fail;
 
@@ -49,16 +50,52 @@ fn sink_of(alloc: Global, bounds: (u64, u64)) -> Result<MemSink, Fail> {
     sink(alloc, ROOM, &[bounds.0], &[bounds.1])
 }
 
+// The status of a run into a sink of these bounds, and what it wrote.
+fn outcome_in(
+    alloc: Global,
+    words: &Words,
+    file: &mut MemSource,
+    cert: &mut MemSource,
+    bounds: (u64, u64),
+) -> Result<(u8, Bytes), Fail> {
+    let mut out = sink_of(alloc, bounds)?;
+    let status = status_of(alloc, words, file, cert, &mut out);
+    let text = Bytes::copy(alloc, out.bytes());
+    drop(out);
+    Ok((status, text?))
+}
+
+// The status of a run over this file and a certificate, and what it wrote.
+fn outcome_over(
+    alloc: Global,
+    words: &Words,
+    file: &mut MemSource,
+    certificate: Option<&[u8]>,
+    fails: Option<Fails>,
+) -> Result<(u8, Bytes), Fail> {
+    let mut cert = source_of(alloc, certificate, bounds(Call::CertificateRead, fails))?;
+    let got = outcome_in(alloc, words, file, &mut cert, bounds(Call::Write, fails));
+    drop(cert);
+    got
+}
+
+// The status of a run of these words, and what it wrote.
+fn outcome_of(
+    alloc: Global,
+    words: &Words,
+    given: Given,
+    fails: Option<Fails>,
+) -> Result<(u8, Bytes), Fail> {
+    let mut file = source_of(alloc, given.file, bounds(Call::FileRead, fails))?;
+    let got = outcome_over(alloc, words, &mut file, given.certificate, fails);
+    drop(file);
+    got
+}
+
 /// The status of a run, and what it wrote. Calls of another kind than the one that fails move all bytes at once.
 pub fn outcome(alloc: Global, given: Given, fails: Option<Fails>) -> Result<(u8, Bytes), Fail> {
     let words = words(alloc, given.words)?;
-    let mut file = source_of(alloc, given.file, bounds(Call::FileRead, fails))?;
-    let mut cert = source_of(
-        alloc,
-        given.certificate,
-        bounds(Call::CertificateRead, fails),
-    )?;
-    let mut out = sink_of(alloc, bounds(Call::Write, fails))?;
-    let status = status_of(alloc, &words, &mut file, &mut cert, &mut out);
-    Ok((status, Bytes::copy(alloc, out.bytes())?))
+    let got = outcome_of(alloc, &words, given, fails);
+    drop(words);
+    got
 }

@@ -1,23 +1,33 @@
 use crate::comparing::same;
 use crate::memory::{sink, source};
 use iges_io::{
-    MemSink, ReadAll, WriteFault, no_source, open_source, read_all, std_sink, write_all,
+    MemSink, ReadAll, Source, WriteFault, no_source, open_source, read_all, std_sink, write_all,
 };
 use std::alloc::Global;
 use std::fs::File;
+use std::process::Abort;
 use std::test::Fail;
 use std::{fs, io};
 
 const TEXT: &[u8] = b"IGESCERT 1\n";
 
+// Why the text is not had from this source, if it isn't.
+fn fault_of<S: Source>(alloc: Global, source: &mut S, limit: u64) -> Option<ReadAll>
+    requires { S.can_read source.old }
+{
+    match read_all(alloc, source, limit) {
+        Ok(bytes) if bytes.as_slice() == TEXT => None,
+        Ok(_) => Some(ReadAll::NoMemory),
+        Err(fault) => Some(fault),
+    }
+}
+
 // Why the text is not had from a source of these sizes that fails at these calls, if it isn't.
 fn fault(alloc: Global, sizes: &[u64], fails: &[u64], limit: u64) -> Result<Option<ReadAll>, Fail> {
     let mut source = source(alloc, TEXT, sizes, fails)?;
-    match read_all(alloc, &mut source, limit) {
-        Ok(bytes) if bytes.as_slice() == TEXT => Ok(None),
-        Ok(_) => Ok(Some(ReadAll::NoMemory)),
-        Err(fault) => Ok(Some(fault)),
-    }
+    let fault = fault_of(alloc, &mut source, limit);
+    drop(source);
+    Ok(fault)
 }
 
 #[test]
@@ -61,24 +71,32 @@ fn written(sink: &mut MemSink) -> (Option<WriteFault>, Option<WriteFault>) {
     (first, second)
 }
 
+// Writes the text twice into one sink, and compares how many bytes went out each time, and what it then holds.
+fn writes_twice(
+    rt: &impl Abort,
+    sink: &mut MemSink,
+    due: &(Option<WriteFault>, Option<WriteFault>),
+    text: &[u8],
+) {
+    same(rt, &written(sink), due);
+    same(rt, &sink.bytes(), &text);
+}
+
 #[test]
 fn no_write_follows_one_that_failed(rt: HostRuntime) -> Result<(), Fail> {
     let mut sink = sink(rt.alloc(), 100, &[5], &[2, 4])?;
     let five = Some(WriteFault { written: 5 });
-    same(&rt, &written(&mut sink), &(five, five));
-    same(&rt, &sink.bytes(), &b"IGESCIGESC".as_slice());
+    writes_twice(&rt, &mut sink, &(five, five), b"IGESCIGESC");
+    drop(sink);
     Ok(())
 }
 
 #[test]
 fn a_full_sink_fails(rt: HostRuntime) -> Result<(), Fail> {
     let mut sink = sink(rt.alloc(), 13, &[], &[])?;
-    same(
-        &rt,
-        &written(&mut sink),
-        &(None, Some(WriteFault { written: 2 })),
-    );
-    same(&rt, &sink.bytes(), &b"IGESCERT 1\nIG".as_slice());
+    let two = Some(WriteFault { written: 2 });
+    writes_twice(&rt, &mut sink, &(None, two), b"IGESCERT 1\nIG");
+    drop(sink);
     Ok(())
 }
 
@@ -87,9 +105,10 @@ fn a_file_is_read(rt: HostRuntime) -> Result<(), Fail> {
     let path = "igesolid_source_test.txt";
     fs::write(&rt, path, TEXT)?;
     let mut file = open_source(&rt, path);
-    let bytes = read_all(rt.alloc(), &mut file, 100).ok();
+    let fault = fault_of(rt.alloc(), &mut file, 100);
+    drop(file);
     fs::remove_file(&rt, path)?;
-    same(&rt, &bytes.as_ref().map(|b| b.as_slice()), &Some(TEXT));
+    same(&rt, &fault, &None);
     Ok(())
 }
 

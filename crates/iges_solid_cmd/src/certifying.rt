@@ -34,13 +34,14 @@ fn closed_reply(alloc: Global, solid: &Solid) -> Result<Reply, NoMemory>
 pub fn certify_solid(alloc: Global, file: File, no: u32) -> Result<Reply, NoMemory>
     ensures { IfOk result (λ reply. OfCertify no file reply.answer reply.text) }
 {
-    let solid = match walk(alloc, &file, EntryNo(no)) {
+    let walked = walk(alloc, &file, EntryNo(no));
+    // The certificate needs the room that the file takes.
+    drop(file);
+    let solid = match walked {
         Ok(solid) => solid,
         Err(WalkFault::Fails(failing)) => return failed(alloc, failing),
         Err(WalkFault::NoMemory) => return Err(NoMemory),
     };
-    // The certificate needs the room that the file takes.
-    drop(file);
     let reply = closed_reply(alloc, &solid);
     drop(solid);
     reply
