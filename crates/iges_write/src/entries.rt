@@ -33,7 +33,7 @@ fn put_used(
     ensures eight { OnOk result ((length entry.now.status ≡ 8) × (length entry.now.label ≡ 8)) }
 {
     let first = params.number();
-    params.put_record(number, &i64::from(entry.kind), values, delims)?;
+    params.put_record(number, &entry.kind, values, delims)?;
     put_entry(page, line, entry, first, params.number() - first)
 }
 

@@ -314,7 +314,7 @@ impl Page {
     pub fn put_record(
         &mut self,
         number: u64,
-        kind: &i64,
+        kind: &i32,
         values: &[Value],
         delims: &Delimiters,
     ) -> Result<(), WriteFileFault>
@@ -324,7 +324,7 @@ impl Page {
             (fill self.old.width [] (parts self.old.width delims.now (value.Int kind.now ∷ values.now))))) }
     {
         self.set_tail(number)?;
-        self.fill_record(kind, values, delims)?;
+        self.fill_record(&i64::from(*kind), values, delims)?;
         self.clear_tail();
         Ok(())
     }
