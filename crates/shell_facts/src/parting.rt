@@ -154,18 +154,11 @@ pub fn part_tables<'a>(
 {
     let shell = solid.shell(shell).unwrap();
     let numbers = numbers_of(alloc, unpaired)?;
+    let lows = lowest_parts(alloc, solid, shell, firsts, rows.vertex_slice())?;
     let by_edge = grouped(alloc, numbers, rows.edge_span())?;
     let by_part = match by_least(alloc, firsts) {
         Ok(groups) => groups,
         Err(fault) => {
-            drop(by_edge);
-            return Err(fault);
-        }
-    };
-    let lows = match lowest_parts(alloc, solid, shell, firsts, rows.vertex_slice()) {
-        Ok(lows) => lows,
-        Err(fault) => {
-            drop(by_part);
             drop(by_edge);
             return Err(fault);
         }

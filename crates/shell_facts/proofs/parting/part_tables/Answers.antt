@@ -48,11 +48,11 @@ invariant_of-result c =
     record {
       parts = c.in-Ok.ensures;
       edges = c.in_ok-by_edge.ensures ∙ c.in_ok-numbers.ensures;
-      lows = c.in-Ok-lowest_parts.ensures.lows;
+      lows = c.in_ok-lows.ensures.lows;
       each = firsts_each c.args.solid.now c.unwrap-shell.result.now c.args.rows.now c.args.firsts.now
           (the_shell c.args.solid.now c.args.shell.0 c.unwrap-shell.result.now c.args.rows.now at c.requires.rows) c.requires.parts;
-      within = vertices_within c.args.rows.now.vertices (faces_vertices c.args.solid.now c.unwrap-shell.result.now) c.in-Ok-lowest_parts.lows.span
-          (subst (IsSpanOf c.in-Ok-lowest_parts.lows.span) c.vertex_slice.ensures.items c.in-Ok-lowest_parts.ensures.span)
+      within = vertices_within c.args.rows.now.vertices (faces_vertices c.args.solid.now c.unwrap-shell.result.now) c.in_ok-lows.lows.span
+          (subst (IsSpanOf c.in_ok-lows.lows.span) c.vertex_slice.ensures.items c.in_ok-lows.ensures.span)
           (vertices_occur c.args.solid.now c.unwrap-shell.result.now c.args.rows.now c.shell.ensures.numbered
           (has_get c.args.solid.now.shells c.args.shell.0 c.unwrap-shell.result.now at)
           (the_shell c.args.solid.now c.args.shell.0 c.unwrap-shell.result.now c.args.rows.now at c.requires.rows));
