@@ -1,10 +1,10 @@
 -- Edges that are used once or by mates, and the mates of their rows.
 use Rattle.std.specs.Prelude.{◌≡◌, ℕ, zero, suc, ◌+◌, ◌-◌, ◌<◌, ◌≤◌, ◌⊎◌, Bool, true, false, not, List, [], ◌∷◌, ◌++◌, length, Contains, Option, Some}
-use Rattle.std.specs.Prelude.{slice_get}
+use Rattle.std.specs.Prelude.{All, slice_get}
 use Rattle.std.specs.List.{AllByRecursion, AllZip}
 use Rattle.std.proofs.Common.{refl, sym, ◌∙◌, ap, subst, arith, inl, inr, ⊎_elim, drop, append_assoc, get_or}
 use Rattle.std.proofs.lemmas.List.{append-nil, drop_all}
-use Rattle.std.proofs.lemmas.Option.{same_Some}
+use Rattle.std.proofs.lemmas.Option.{get_or_from_slice_get, same_Some, slice_get_within}
 use Rattle.solid_data.specs.Obligations.{FirstNot}
 use Rattle.solid_data.specs.declared.solid.RowId.{RowId}
 use Rattle.solid_data.proofs.Members.{split_at, All-at, Has-from_Contains, has_get}
@@ -24,6 +24,11 @@ use Rattle.shell_flood.specs.OneMate.{HaveOneMate}
 use Rattle.open_shells.specs.Mating.{IsMateOf, AreOnce}
 use Rattle.open_certificate.proofs.Fans.{one_mate_of}
 use Rattle.open_certificate.proofs.Once.{OnceRows, total_uses}
+
+-- What holds of all holds of the one at a place.
+
+pub all_there : (P : ℕ → Type 0) (xs : List ℕ) (i v : ℕ) → slice_get xs i ≡ Some v → All P xs → P v
+all_there P xs i v at all = subst P (get_or_from_slice_get xs i v v at) (all i v (slice_get_within xs i v at))
 
 -- What is shown of those left is shown of all, one more.
 

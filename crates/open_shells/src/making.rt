@@ -1,13 +1,14 @@
 //! The maker: the certificate of a sound open shell, or the first rule that fails on another.
 
-ghost use Rattle.std.specs.Prelude.{◌≡◌, Some, IfOk, IfErr, OnOk, slice_get, length};
+ghost use Rattle.std.specs.Prelude.{◌≡◌, Some, IfOk, IfErr, OnOk, map, slice_get, length};
 ghost use Rattle.solid_data.specs.Numbering.{IsNumberedSolid};
-ghost use Rattle.edge_uses.specs.ShellRows.{shell_rows};
+ghost use Rattle.edge_uses.specs.Joins.{join_obligations};
+ghost use Rattle.edge_uses.specs.ShellRows.{EndsMeet, shell_rows};
 ghost use Rattle.open_certificate.specs.Legal.{IsOpenShell, IsOpenAccepted};
 ghost use Rattle.open_shells.specs.Certified.{IsOpenCertificate, IsOpenFault, IsNoMemory, FailsSo};
 ghost use Rattle.open_shells.specs.Listed.{AreListedParts};
 ghost use Rattle.open_shells.specs.Mating.{AreOnce};
-ghost use Rattle.open_certificate.specs.Obligations.{AllHold, FirstFalse, open_shell_obligations, open_obligations};
+ghost use Rattle.open_certificate.specs.Obligations.{AllHold, FirstFalse, as_open, open_shell_obligations, open_obligations};
 ghost use Rattle.open_certificate.specs.Progress.{shell_of};
 ghost use Rattle.open_certificate.specs.Written.{open_lines, text_of};
 ghost use Rattle.open_certificate.specs.declared.verdict.OpenFailing.{OpenFailing as Named};
@@ -15,15 +16,22 @@ ghost use Rattle.open_certificate.specs.declared.verdict.OpenFailing.{OpenFailin
 use crate::bordering::border_cycles;
 use crate::fault::OpenFault;
 use crate::judging::{fanned, join, once, reached};
-use edge_uses::rows;
-use open_certificate::OpenCertificate;
+use edge_uses::{Rows, rows};
+use open_certificate::{OpenCertificate, OpenRule};
 use solid_data::{Shell, ShellAt, Solid};
 use std::alloc::Global;
 
-/// The parts of a shell, or the first rule that fails on it: JOIN of the loops, EDGE of the edges, REACH of the faces, FAN of
-/// the vertices.
-fn shell_parts(alloc: Global, solid: &Solid, shell: &Shell) -> Result<OpenCertificate, OpenFault>
-    requires { slice_get solid.now.shells 0 ≡ Some shell.now }
+// The parts of a shell whose loops join and whose rows these are, or the first rule that fails on it: EDGE of the edges,
+// REACH of the faces, FAN of the vertices.
+fn row_parts(
+    alloc: Global,
+    solid: &Solid,
+    shell: &Shell,
+    rows: &Rows,
+) -> Result<OpenCertificate, OpenFault>
+    requires rows { rows.now ≡ shell_rows solid.now shell.now }
+    requires meet { EndsMeet rows.now }
+    requires joined { AllHold (map (as_open OpenRule.Join) (join_obligations solid.now shell.now)) }
     ensures parts { IfOk result (λ c. AreListedParts
         (shell_rows solid.now shell.now) c.edges c.corners c.reach c.borders) }
     ensures names { IfOk result (λ c. c.shell ≡ solid.now.entity) }
@@ -36,9 +44,7 @@ fn shell_parts(alloc: Global, solid: &Solid, shell: &Shell) -> Result<OpenCertif
 {
     // Its clause says that the solid's vertices are numbered by first appearance.
     let entity = solid.entity();
-    join(solid, shell)?;
-    let rows = rows(alloc, solid, ShellAt(0))?;
-    let (edges, mated) = once(alloc, solid, &rows)?;
+    let (edges, mated) = once(alloc, solid, rows)?;
     let reach = reached(alloc, shell, &mated)?;
     let corners = fanned(alloc, solid, &mated)?;
     // Its clause says that each edge is used once or by mates.
@@ -55,6 +61,27 @@ fn shell_parts(alloc: Global, solid: &Solid, shell: &Shell) -> Result<OpenCertif
         reach,
         borders,
     })
+}
+
+/// The parts of a shell, or the first rule that fails on it: JOIN of the loops, EDGE of the edges, REACH of the faces, FAN of
+/// the vertices.
+fn shell_parts(alloc: Global, solid: &Solid, shell: &Shell) -> Result<OpenCertificate, OpenFault>
+    requires { slice_get solid.now.shells 0 ≡ Some shell.now }
+    ensures parts { IfOk result (λ c. AreListedParts
+        (shell_rows solid.now shell.now) c.edges c.corners c.reach c.borders) }
+    ensures names { IfOk result (λ c. c.shell ≡ solid.now.entity) }
+    ensures rows { IfOk result (λ c. c.rows ≡ length (shell_rows solid.now shell.now).rows) }
+    ensures faces { IfOk result (λ c. c.faces ≡ (shell_rows solid.now shell.now).face_count) }
+    ensures once { OnOk result (AreOnce (shell_rows solid.now shell.now)) }
+    ensures numbered { OnOk result (IsNumberedSolid solid.now) }
+    ensures holds { OnOk result (AllHold (open_shell_obligations solid.now shell.now)) }
+    ensures fails { IfErr result (IsOpenFault (open_shell_obligations solid.now shell.now)) }
+{
+    join(solid, shell)?;
+    let rows = rows(alloc, solid, ShellAt(0))?;
+    let made = row_parts(alloc, solid, shell, &rows);
+    drop(rows);
+    made
 }
 
 /// The parts of an open shell, or the first rule that fails on it.

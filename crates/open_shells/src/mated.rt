@@ -1,7 +1,7 @@
 //! The rows of an open shell with their mates.
 
 use crate::mating::{first_not_once, open_edges, open_mates};
-use edge_uses::{Rows, tally_of};
+use edge_uses::{Rows, Tally, tally_of};
 use iges_base::NoMemory;
 use open_certificate::OpenEdges;
 use shell_flood::Mates;
@@ -109,10 +109,37 @@ impl<'a> Mates for Mated<'a> {
 
 ghost use Rattle.std.specs.Prelude.{◌≡◌, IfOk, IfErr};
 ghost use Rattle.std.specs.List.{AllByRecursion, AllZip};
-ghost use Rattle.edge_uses.specs.ShellRows.{EndsMeet};
+ghost use Rattle.edge_uses.specs.declared.row.Row.{Row as AnyRow};
+ghost use Rattle.edge_uses.specs.Ranges.{IsWithin};
+ghost use Rattle.edge_uses.specs.ShellRows.{AreRows, EndsMeet};
+ghost use Rattle.edge_uses.specs.Tally.{IsTally};
 ghost use Rattle.open_certificate.specs.Sound.{IsOnce};
 ghost use Rattle.open_shells.specs.Mating.{AreRowsOf};
 ghost use Rattle.open_shells.specs.EdgeFaults.{IsEdgeFault};
+
+// As `with_mates`, where this is the tally of the rows.
+fn mates_by<'a>(
+    alloc: Global,
+    rows: &'a Rows,
+    tally: &Tally<'_>,
+) -> Result<(OpenEdges, Mated<'a>), EdgeFault>
+    requires known { AreRows rows.now }
+    requires meet { EndsMeet rows.now }
+    requires tally { IsTally rows.now tally.now.span tally.now.seen }
+    requires edges { AllByRecursion (IsWithin tally.now.span) rows.now.edges }
+    requires rows { AllByRecursion (λ (r : AnyRow). IsWithin tally.now.span r.edge.0) rows.now.rows }
+    ensures rows { IfOk result (λ p. p.1 ≡ rows.now) }
+    ensures edges { IfOk result (λ p. AllZip (AreRowsOf rows.now) rows.now.edges p.0) }
+    ensures once { IfOk result (λ _. AllByRecursion (IsOnce rows.now) rows.now.edges) }
+    ensures fault { IfErr result (IsEdgeFault rows.now) }
+{
+    if let Some(edge) = first_not_once(rows, tally) {
+        return Err(EdgeFault::NotOnce(edge));
+    }
+    let edges = open_edges(alloc, rows, tally)?;
+    let mates = open_mates(alloc, rows, tally)?;
+    Ok((edges, Mated::of(rows, mates)))
+}
 
 /// The rows of each edge, by rising edge, and the rows with their mates, where each edge is used once or by mates.
 pub(crate) fn with_mates(alloc: Global, rows: &Rows) -> Result<(OpenEdges, Mated<'_>), EdgeFault>
@@ -123,10 +150,7 @@ pub(crate) fn with_mates(alloc: Global, rows: &Rows) -> Result<(OpenEdges, Mated
     ensures fault { IfErr result (IsEdgeFault rows.now) }
 {
     let tally = tally_of(alloc, rows)?;
-    if let Some(edge) = first_not_once(rows, &tally) {
-        return Err(EdgeFault::NotOnce(edge));
-    }
-    let edges = open_edges(alloc, rows, &tally)?;
-    let mates = open_mates(alloc, rows, &tally)?;
-    Ok((edges, Mated::of(rows, mates)))
+    let made = mates_by(alloc, rows, &tally);
+    drop(tally);
+    made
 }

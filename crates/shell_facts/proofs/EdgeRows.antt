@@ -1,8 +1,8 @@
 -- The rows of a shell by the edges that they have.
-use Rattle.std.specs.Prelude.{◌≡◌, ℕ, ◌+◌, ◌==◌, List, [], ◌∷◌, ◌++◌, length, map, flat_map, All, Contains, if◌then◌else◌}
+use Rattle.std.specs.Prelude.{◌≡◌, ◌≤◌, ℕ, ◌+◌, ◌==◌, List, [], ◌∷◌, ◌++◌, length, map, flat_map, All, Contains, if◌then◌else◌}
 use Rattle.std.specs.List.{AllByRecursion, enumerate_from}
-use Rattle.std.proofs.Common.{refl, sym, ◌∙◌, ap, subst}
-use Rattle.std.proofs.lemmas.List.{length-map}
+use Rattle.std.proofs.Common.{refl, sym, ◌∙◌, ap, subst, drop}
+use Rattle.std.proofs.lemmas.List.{append-nil, drop_all, length-map}
 use Rattle.std.proofs.lemmas.List.Elements.{All-nil, All-cons}
 use Rattle.edge_uses.specs.declared.row.Row.{Row}
 use Rattle.edge_uses.specs.declared.spanning.Span.{Span}
@@ -11,6 +11,10 @@ use Rattle.edge_uses.specs.ShellRows.{ShellRows, AreRows}
 use Rattle.edge_uses.proofs.Mating.{rows_within}
 use Rattle.solid_faults.specs.Edges.{row_on, rows_on_edge}
 use Rattle.shell_components.specs.Groups.{place_if, places_of}
+
+-- Where none are left, all were read.
+pub mapped_done : {A B : Type 0} (f : A → B) (xs : List A) (i : ℕ) (now all : List B) → length xs ≤ i → now ++ map f (drop i xs) ≡ all → now ≡ all
+mapped_done f xs i now all past h = sym (append-nil now) ∙ (ap (λ ys. now ++ map f ys) (sym (drop_all i xs past)) ∙ h)
 
 abbrev pub edge_of_row : Row → ℕ
 edge_of_row r = r.edge.0

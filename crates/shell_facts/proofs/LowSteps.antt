@@ -1,9 +1,9 @@
 -- Marks of the least part at each vertex.
-use Rattle.std.specs.Prelude.{◌≡◌, ◌<◌, ◌+◌, ◌==◌, ◌&&◌, ◌||◌, nat_lt, ℕ, Bool, true, false, All, Contains, List, ◌∷◌, length, drop, flat_map, get_or}
+use Rattle.std.specs.Prelude.{◌≡◌, ◌<◌, ◌≤◌, ◌+◌, ◌==◌, ◌&&◌, ◌||◌, nat_lt, ℕ, Bool, true, false, All, Contains, List, ◌∷◌, length, drop, flat_map, get_or}
 use Rattle.std.specs.Prelude.{if◌then◌else◌}
 use Rattle.std.specs.List.{list_any}
 use Rattle.std.proofs.Common.{refl, sym, ◌∙◌, ap, subst, arith}
-use Rattle.std.proofs.lemmas.List.{drop_more}
+use Rattle.std.proofs.lemmas.List.{drop_more, get_or_default}
 use Rattle.std.proofs.lemmas.List.Elements.{All-get_or}
 use Rattle.std.proofs.lemmas.List.Folds.{list_any-append}
 use Rattle.solid_data.specs.SolidData.{SolidData}
@@ -11,9 +11,18 @@ use Rattle.solid_data.specs.declared.solid.FaceUse.{FaceUse}
 use Rattle.edge_uses.specs.Before.{face_vertices}
 use Rattle.edge_uses.specs.Cells.{Celled}
 use Rattle.edge_uses.specs.Ranges.{IsWithin, IsSpanOf}
+use Rattle.edge_uses.specs.declared.spanning.Span.{Span}
+use Rattle.shell_components.specs.Trees.{AreTrees}
 use Rattle.shell_facts.specs.PartFacts.{faces_where}
 use Rattle.shell_facts.specs.PartTables.{is_low, AreKept, AreMarks}
 use Rattle.shell_facts.proofs.PartSteps.{vertices_within}
+
+-- Numbers that are no greater than their places are within the range of these.
+pub trees_within : (xs : List ℕ) (range : Span) → AreTrees xs → range.least ≡ 0 → range.count ≡ length xs → All (IsWithin range) xs
+trees_within xs range low least count i d lt =
+    let at : get_or xs i d ≡ get_or xs i 0 = get_or_default xs i d 0 lt in
+    let below : get_or xs i 0 ≤ i = low i lt in
+    (omega (arith, least), omega (arith, at, below, lt, least, count))
 
 pub kept_more : (old mid new : Celled ℕ) → AreKept old mid → AreKept mid new → AreKept old new
 kept_more old mid new a b = record { numbers = b.numbers ∙ a.numbers; span = b.span ∙ a.span; each = b.each ∙ a.each }

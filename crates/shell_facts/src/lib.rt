@@ -4,6 +4,7 @@
 
 mod by_edge;
 mod faces;
+mod grouping;
 mod parting;
 mod placing;
 mod turning;

@@ -1,6 +1,6 @@
 //! What is said of each part of a shell.
 
-ghost use Rattle.std.specs.Prelude.{◌≡◌, ◌<◌, ◌^◌, ◌++◌, ◌∷◌, [], ◌&&◌, ◌||◌, ◌==◌, nat_lt, ℕ, List, All, Contains, Some, IfOk, length, map, flat_map, slice_get, option_copied, if◌then◌else◌};
+ghost use Rattle.std.specs.Prelude.{◌≡◌, ◌<◌, ◌++◌, ◌∷◌, [], ◌&&◌, ◌||◌, ◌==◌, nat_lt, ℕ, List, All, Contains, Some, IfOk, length, map, flat_map, slice_get, option_copied, if◌then◌else◌};
 ghost use Rattle.std.specs.List.{list_any};
 ghost use Rattle.std.specs.List.Sorted.{IsStrictlyIncreasing};
 ghost use Rattle.solid_data.specs.SolidData.{occurring};
@@ -13,12 +13,12 @@ ghost use Rattle.shell_facts.specs.PartFacts.{parts_of};
 ghost use Rattle.solid_faults.specs.Parts.{AreParts};
 ghost use Rattle.shell_facts.specs.PartTables.{is_low, low_vertex, face_numbered, faces_numbered, AreKept, AreMarks, IsLowest};
 ghost use Rattle.shell_components.specs.FaceUses.{face_edges, AddedFaces};
-ghost use Rattle.shell_components.specs.Trees.{AreTrees};
 ghost use Rattle.solid_data.specs.declared.solid.FaceUse.{FaceUse as AnyFace};
 ghost use Rattle.std.specs.Option.{option_to_list};
 ghost use Rattle.solid_faults.specs.declared.edge.Unpaired.{Unpaired as AnyUnpaired};
 
-use edge_uses::{Cells, Rows, Span};
+use crate::grouping::by_least;
+use edge_uses::{Cells, Rows};
 use iges_base::{EntryNo, NoMemory};
 use shell_components::{Groups, Used, add_face, grouped, nothing_used, rise, used_by};
 use solid_data::{FaceUse, Shell, ShellAt, Solid};
@@ -69,20 +69,6 @@ pub struct Part {
     pub unpaired: usize,
     /// Those of its vertices that occur in a part before it, by rising number.
     pub touching: Vec<u32>,
-}
-
-// Numbers of faces by their parts.
-fn faces_by_part(alloc: Global, firsts: &[u32]) -> Result<Groups, NoMemory>
-    requires low { AreTrees firsts.now }
-    requires few { length firsts.now < 2 ^ 32 }
-    ensures { IfOk result (λ groups. groups ≡ firsts.now) }
-{
-    let numbers = Vec::from_slice(alloc, firsts)?;
-    let range = Span {
-        least: 0,
-        count: firsts.len(),
-    };
-    grouped(alloc, numbers, range)
 }
 
 // The numbers of edges that aren't paired.
@@ -167,10 +153,16 @@ pub fn part_tables<'a>(
         ≡ record { solid = solid.now; shell = h; firsts = firsts.now; unpaired = unpaired.now }) }
 {
     let shell = solid.shell(shell).unwrap();
-    let edges = rows.edge_span();
-    let by_part = faces_by_part(alloc, firsts)?;
-    let by_edge = grouped(alloc, numbers_of(alloc, unpaired)?, edges)?;
+    let numbers = numbers_of(alloc, unpaired)?;
     let lows = lowest_parts(alloc, solid, shell, firsts, rows.vertex_slice())?;
+    let by_edge = grouped(alloc, numbers, rows.edge_span())?;
+    let by_part = match by_least(alloc, firsts) {
+        Ok(groups) => groups,
+        Err(fault) => {
+            drop(by_edge);
+            return Err(fault);
+        }
+    };
     Ok(PartTables {
         solid,
         shell,

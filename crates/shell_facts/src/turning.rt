@@ -6,9 +6,9 @@ ghost use Rattle.edge_uses.specs.declared.row.Row.{Row as AnyRow};
 ghost use Rattle.solid_faults.specs.Fans.{AreFans};
 ghost use Rattle.shell_facts.specs.FanFacts.{turn_of, by_turns, on_fan, on_fans, fans_at, alone_if, alone_numbered, around, IsFanPushed, AreVertexTables};
 ghost use Rattle.edge_uses.specs.Mates.{ArePaired, AreInvolution};
-ghost use Rattle.shell_components.specs.Trees.{AreTrees};
 
-use edge_uses::{Paired, Rows, Span, point_at, row_at};
+use crate::grouping::by_least;
+use edge_uses::{Paired, Rows, point_at, row_at};
 use iges_base::NoMemory;
 use shell_components::{Groups, grouped};
 use solid_data::{LoopAt, RowId, VertexId};
@@ -53,20 +53,6 @@ fn points_of(alloc: Global, rows: &Rows) -> Result<Vec<u32>, NoMemory>
     Ok(points)
 }
 
-// The rows of each fan, which is named by its least row.
-fn rows_by_fan(alloc: Global, leasts: &[u32]) -> Result<Groups, NoMemory>
-    requires low { AreTrees leasts.now }
-    requires few { length leasts.now < 2 ^ 32 }
-    ensures { IfOk result (λ groups. groups ≡ leasts.now) }
-{
-    let numbers = Vec::from_slice(alloc, leasts)?;
-    let range = Span {
-        least: 0,
-        count: leasts.len(),
-    };
-    grouped(alloc, numbers, range)
-}
-
 /// The tables of a shell, whose rows are given with the least row of the fan of each.
 pub fn vertex_tables(
     alloc: Global,
@@ -77,9 +63,24 @@ pub fn vertex_tables(
     ensures { IfOk result (λ t. AreVertexTables paired.now leasts.now t) }
 {
     let rows = paired.rows();
-    let starts = grouped(alloc, starts_of(alloc, rows)?, rows.vertex_span())?;
-    let fans = rows_by_fan(alloc, leasts)?;
-    let points = grouped(alloc, points_of(alloc, rows)?, rows.vertex_span())?;
+    let from = starts_of(alloc, rows)?;
+    let at = points_of(alloc, rows)?;
+    let starts = grouped(alloc, from, rows.vertex_span())?;
+    let points = match grouped(alloc, at, rows.vertex_span()) {
+        Ok(points) => points,
+        Err(fault) => {
+            drop(starts);
+            return Err(fault);
+        }
+    };
+    let fans = match by_least(alloc, leasts) {
+        Ok(fans) => fans,
+        Err(fault) => {
+            drop(points);
+            drop(starts);
+            return Err(fault);
+        }
+    };
     Ok(VertexTables {
         starts,
         fans,

@@ -1,9 +1,10 @@
 use Rattle.std.proofs.Common.{◌∙◌, ◌≡◌, sym, ap, arith, Some, slice_get, length}
+use Rattle.edge_uses.specs.Ranges.{IsWithin}
 use Rattle.edge_uses.proofs.Steps.{none_of}
 use Rattle.edge_uses.specs.ShellRows.{ShellRows}
 use Rattle.open_certificate.specs.Sound.{IsFanned}
 use Rattle.open_shells.specs.FanParts.{LiesAt}
-use Rattle.open_shells.proofs.OnceMates.{left_more, left_fails, zip_more, zip_done}
+use Rattle.open_shells.proofs.OnceMates.{all_there, left_more, left_fails, zip_more, zip_done}
 use Rattle.open_shells.proofs.FanWalks.{some_of}
 use Rattle.open_shells.proofs.fanning.corners_of.Goals as goal
 
@@ -45,3 +46,18 @@ corner_at-requires-clause-points c = c.points_at.ensures c.args.mated.now c.requ
 
 pub corner_at-requires-clause-head : goal.corner_at-requires-clause-head
 corner_at-requires-clause-head c = c.head_at.ensures c.args.mated.now c.requires.heads
+
+pub starts_at-requires : goal.starts_at-requires
+starts_at-requires c =
+    all_there (IsWithin c.args.starts.now.span) c.args.mated.now.vertices c.vertices.i c.vertex_at-vertex.result.0
+    (ap (λ (d : ShellRows). slice_get d.vertices c.vertices.i) (sym c.rows-rows.ensures.rows) ∙ c.vertex_at-vertex.ensures) c.requires.starts.span.holds
+
+pub points_at-requires : goal.points_at-requires
+points_at-requires c =
+    all_there (IsWithin c.args.points.now.span) c.args.mated.now.vertices c.vertices.i c.vertex_at-vertex.result.0
+    (ap (λ (d : ShellRows). slice_get d.vertices c.vertices.i) (sym c.rows-rows.ensures.rows) ∙ c.vertex_at-vertex.ensures) c.requires.points.span.holds
+
+pub head_at-requires : goal.head_at-requires
+head_at-requires c =
+    all_there (IsWithin c.args.heads.now.span) c.args.mated.now.vertices c.vertices.i c.vertex_at-vertex.result.0
+    (ap (λ (d : ShellRows). slice_get d.vertices c.vertices.i) (sym c.rows-rows.ensures.rows) ∙ c.vertex_at-vertex.ensures) c.requires.heads.span.holds

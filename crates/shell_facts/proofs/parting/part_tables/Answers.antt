@@ -9,12 +9,12 @@ use Rattle.solid_faults.specs.declared.edge.Unpaired.{Unpaired}
 use Rattle.shell_facts.proofs.PartSteps.{firsts_low, the_shell, unpaired_within, unpaired_few, vertices_occur, vertices_within, firsts_each}
 use Rattle.shell_facts.proofs.parting.part_tables.Goals as goal
 
-pub faces_by_part-requires-clause-low : goal.faces_by_part-requires-clause-low
-faces_by_part-requires-clause-low c = firsts_low c.args.rows.now c.args.firsts.now c.requires.parts
+pub by_least-requires-clause-low : goal.by_least-requires-clause-low
+by_least-requires-clause-low c = firsts_low c.args.rows.now c.args.firsts.now c.requires.parts
 
 pub grouped-requires-clause-within : goal.grouped-requires-clause-within
-grouped-requires-clause-within c = unpaired_within c.args.rows.now c.args.unpaired.now c.in_ok-numbers_of.field-0.items c.edge_span-edges.result
-    c.requires.unpaired c.in_ok-numbers_of.ensures c.edge_span-edges.ensures.span
+grouped-requires-clause-within c = unpaired_within c.args.rows.now c.args.unpaired.now c.in_ok-numbers.numbers.items c.edge_span.result
+    c.requires.unpaired c.in_ok-numbers.ensures c.edge_span.ensures.span
 
 pub grouped-requires-clause-few : goal.grouped-requires-clause-few
 grouped-requires-clause-few c =
@@ -23,7 +23,7 @@ grouped-requires-clause-few c =
     let few : length c.args.unpaired.now < 2 ^ 32 = unpaired_few c.args.solid.now c.unwrap-shell.result.now c.args.rows.now c.args.unpaired.now
     c.shell.ensures.numbered (the_shell c.args.solid.now c.args.shell.0 c.unwrap-shell.result.now c.args.rows.now at c.requires.rows) c.requires.unpaired
     in
-    omega (arith, few, ap (length {A = ℕ}) c.in_ok-numbers_of.ensures, length-map c.args.unpaired.now (λ (u : Unpaired). u.edge.0))
+    omega (arith, few, ap (length {A = ℕ}) c.in_ok-numbers.ensures, length-map c.args.unpaired.now (λ (u : Unpaired). u.edge.0))
 
 pub lowest_parts-requires-clause-known : goal.lowest_parts-requires-clause-known
 lowest_parts-requires-clause-known c =
@@ -46,8 +46,8 @@ invariant_of-result c =
     let at : slice_get c.args.solid.now.shells c.args.shell.0 ≡ Some c.unwrap-shell.result.now = sym c.shell.ensures.item
     ∙ ap option_copied c.unwrap-shell.ensures in
     record {
-      parts = c.in_ok-by_part.ensures;
-      edges = c.in_ok-by_edge.ensures ∙ c.in_ok-numbers_of.ensures;
+      parts = c.in-Ok.ensures;
+      edges = c.in_ok-by_edge.ensures ∙ c.in_ok-numbers.ensures;
       lows = c.in_ok-lows.ensures.lows;
       each = firsts_each c.args.solid.now c.unwrap-shell.result.now c.args.rows.now c.args.firsts.now
           (the_shell c.args.solid.now c.args.shell.0 c.unwrap-shell.result.now c.args.rows.now at c.requires.rows) c.requires.parts;
