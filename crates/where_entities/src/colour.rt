@@ -1,7 +1,7 @@
 //! The colour of an entity.
 
-ghost use Rattle.iges_directory.specs.Bounds.{IsBounded};
-ghost use Rattle.std.specs.Prelude.{◌≡◌, ◌++◌, OnOk, option_copied};
+ghost use Rattle.iges_directory.specs.Bounds.{IsBounded, fits_columns};
+ghost use Rattle.std.specs.Prelude.{◌≡◌, ◌++◌, IsTrue, OnOk, option_copied};
 ghost use Rattle.where_entities.specs.Facts.{colour_fact, colour_word, colour_words, definition_of, definition_words, share_word, text_word};
 
 use iges_directory::Entry;
@@ -83,28 +83,36 @@ fn put_definition(out: &mut Out, definition: Option<&Values>) -> Result<(), NoMe
 }
 
 #[tactic(auto, unfolding(crate::specs::Facts::colour_words))]
-fn put_colour_words(out: &mut Out, file: &File, entry: &Entry) -> Result<(), NoMemory>
-    requires { IsBounded entry.now }
-    ensures { OnOk result (out.new ≡ out.old ++ colour_words file.now entry.now.colour) }
+fn put_colour_words(out: &mut Out, file: &File, colour: i64) -> Result<(), NoMemory>
+    requires { IsTrue (fits_columns colour) }
+    ensures { OnOk result (out.new ≡ out.old ++ colour_words file.now colour) }
 {
-    if entry.colour > 0 {
-        return put_word(out, colour_word(i64::from(entry.colour)));
+    if colour > 0 {
+        return put_word(out, colour_word(colour));
     }
-    put_definition(out, definition_of(file, -i64::from(entry.colour)))
+    put_definition(out, definition_of(file, -colour))
+}
+
+// The fact of this colour, where it is one.
+#[tactic(auto, unfolding(crate::specs::Facts::colour_fact))]
+fn put_colour_fact(out: &mut Out, file: &File, colour: i64) -> Result<(), NoMemory>
+    requires { IsTrue (fits_columns colour) }
+    ensures { OnOk result (out.new ≡ out.old ++ colour_fact file.now colour) }
+{
+    if colour == 0 {
+        return Ok(());
+    }
+    out.put(b"  colour")?;
+    put_signed(out, colour)?;
+    put_colour_words(out, file, colour)?;
+    out.put(b"\n")
 }
 
 /// Appends the fact of an entry's colour, where it has one: its number; then the word of a positive one, or the shares of
 /// red, green and blue and the name as the colour definition spells them that a negated one names (IGES 5.3, 2.2.4.4.13).
-#[tactic(auto, unfolding(crate::specs::Facts::colour_fact))]
 pub fn put_colour(out: &mut Out, file: &File, entry: &Entry) -> Result<(), NoMemory>
     requires { IsBounded entry.now }
     ensures { OnOk result (out.new ≡ out.old ++ colour_fact file.now entry.now.colour) }
 {
-    if entry.colour == 0 {
-        return Ok(());
-    }
-    out.put(b"  colour")?;
-    put_signed(out, i64::from(entry.colour))?;
-    put_colour_words(out, file, entry)?;
-    out.put(b"\n")
+    put_colour_fact(out, file, i64::from(entry.colour))
 }
