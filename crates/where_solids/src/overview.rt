@@ -113,10 +113,15 @@ fn judge_each(
     Ok(verdicts)
 }
 
+// How many entries a table of named shells has room for. A lone solid needs none.
+fn naming_room(file: &File, solids: usize) -> usize {
+    if solids > 1 { file.entry_count() } else { 0 }
+}
+
 fn verdicts(alloc: Global, file: &File, solids: &[EntryNo]) -> Result<ItemList<Verdict>, NoMemory>
     ensures { IfOk result (AreVerdicts file.now solids.now) }
 {
-    let mut last = LastNaming::new(alloc, file.entry_count())?;
+    let mut last = LastNaming::new(alloc, naming_room(file, solids.len()))?;
     let mut walker = Walker::new(alloc, file);
     let verdicts = judge_each(alloc, &mut walker, &mut last, file, solids);
     drop(walker);
