@@ -94,7 +94,7 @@ def made_up(sources):
     """The sources with one more `use` in a definition, and with one more clause of a call; each is to be noticed."""
     other = min(definitions(sources) - wanted(sources).keys())
     use = "use Rattle.{0}.specs.{1}.{{MadeUp}}".format(*re.findall(r"crates/(\w+)/specs/(\w+)", other)[0])
-    definition, call = "crates/iges_solid_cmd/specs/Outcome.antt", CALLS["run"]
+    definition, call = "crates/command_replies/specs/Ending.antt", CALLS["run"]
     yield "use", sources | {definition: f"{use}\n{sources[definition]}"}
     clause = sources[call].replace("    ensures outcome {", "    ensures made_up { MadeUp }\n    ensures outcome {")
     yield "clause", sources | {call: f"ghost {use};\n{clause}"}
@@ -128,10 +128,10 @@ def public_lines(source, names):
 
 
 def private(sources):
-    """The files of definitions on which no public contract rests, but for those of the solids that tests are about."""
+    """The files of definitions on which no public contract rests."""
     roots = set()
     for path, source in sources.items():
-        if path.endswith(".rt") and not path.startswith("crates/small_solids/"):
+        if path.endswith(".rt"):
             names = exported(sources, path.split("/")[1]) | set(re.findall(r"(?m)^pub (?:extern \"C\" )?fn (\w+)", source) if path.endswith("/lib.rt") else ())
             lines = [line for line in public_lines(source, names) if not USE.match(line)]
             roots |= cited(sources, path, "\n".join(lines))

@@ -5,3 +5,4 @@ pub mod One
 pub mod SomeDue
 pub mod Verdicts
 pub mod Owing
+pub mod Endings

@@ -3,3 +3,4 @@ pub mod Texts
 pub mod Due
 pub mod Outcome
 pub mod Replies
+pub mod Ending

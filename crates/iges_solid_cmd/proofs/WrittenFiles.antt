@@ -1,11 +1,7 @@
 -- Of a solid that is extracted, and of one that is compacted, one answer and text are owed.
-use Rattle.std.specs.Prelude.{◌≡◌, ◌⊎◌, ℕ, ◌<◌, ◌≤◌, List, [], length, Ok}
-use Rattle.std.proofs.Common.{refl, sym, ap, subst, ◌∙◌, arith, inl, inr}
-use Rattle.iges_base.specs.declared.TheConstants.{FILE_LIMIT}
+use Rattle.std.specs.Prelude.{◌≡◌, ◌⊎◌, ℕ, List, Ok}
+use Rattle.std.proofs.Common.{refl, ap, subst, inl, inr}
 use Rattle.iges_params.specs.Contents.{Contents}
-use Rattle.iges_write.specs.Text.{IsText}
-use Rattle.iges_write.proofs.FileBack.{one_text}
-use Rattle.solid_data.proofs.Decisions.{Decided, decided_within}
 use Rattle.solid_data.proofs.ObligationLemmas.{FirstFalse-one, FirstFalse-not_all}
 use Rattle.solid_data.specs.Obligations.{AllHold, FirstFalse}
 use Rattle.solid_data.specs.declared.verdict.Failing.{Failing}
@@ -14,7 +10,7 @@ use Rattle.brep_walk.specs.Places.{places}
 use Rattle.brep_walk.proofs.Decided.{places_decided}
 use Rattle.entry_references.specs.declared.fault.ExtractReason.{ExtractReason}
 use Rattle.solid_extract.specs.Extracted.{new_number, IsRefused, IsExtracted}
-use Rattle.solid_extract.proofs.One.{IsExtracted-unique, IsRefused-unique, IsExtracted-IsRefused}
+use Rattle.solid_extract.proofs.One.{IsExtracted-unique, IsExtracted-IsRefused}
 use Rattle.list_compact.specs.Dropped.{dropped}
 use Rattle.list_compact.proofs.NotRefused.{not_refused}
 use Rattle.list_compact.proofs.OneAnswer.{only_file}

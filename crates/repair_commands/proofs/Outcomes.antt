@@ -1,12 +1,11 @@
 -- From a reply to the outcome of a run.
-use Rattle.std.proofs.Common.{◌≡◌, inl, inr, ℕ, List, [], refl, sym, subst, ◌∙◌, Option, Some, None}
+use Rattle.std.proofs.Common.{◌≡◌, inl, inr, ℕ, List, [], refl, sym, subst, Option, Some, None}
 use Rattle.std.specs.Prelude.{MatchOption, IsSome}
-use Rattle.std.specs.Io.KnownBytes.{Appends}
 use Rattle.iges_io.specs.Reading.{Told}
 use Rattle.iges_io.specs.Faults.{Rose}
 use Rattle.command_replies.specs.declared.reply.Reply.{Reply}
 use Rattle.command_replies.specs.declared.answer.Answer.{Answer}
-use Rattle.command_replies.specs.declared.answer.Answer.TheVariants.{Done, No, Usage, BadFile, ReadFault, WriteFault, NoMemory, NoExtract, TooLarge}
+use Rattle.command_replies.specs.declared.answer.Answer.TheVariants.{Usage, ReadFault, WriteFault}
 use Rattle.command_replies.specs.Due as shared
 use Rattle.command_replies.specs.Due.{Exactly, OfNoFile}
 use Rattle.iges_params.specs.Contents.{Contents}
@@ -16,13 +15,16 @@ use Rattle.repair_commands.specs.SolidDue.{OfReorient}
 use Rattle.file_replies.specs.Written as writing
 use Rattle.file_replies.specs.Written.{OfWritten}
 use Rattle.repair_commands.specs.SolidDue as reorient
+use Rattle.command_replies.proofs.Endings as endings
+use Rattle.command_replies.proofs.Endings.{IsJudged, IsJudgement}
+use Rattle.command_replies.specs.Ending.{Finishes, IsComplete, Outcome}
 use Rattle.command_replies.specs.Replies.{IsFileTold, IsReply}
 use Rattle.repair_commands.specs.declared.request.LineCommand.{LineCommand}
 use Rattle.repair_commands.specs.declared.request.Request.{Request}
 use Rattle.repair_commands.specs.declared.request.Request.TheVariants as request
 use Rattle.repair_commands.specs.Request.{request_of, usage_line}
 use Rattle.repair_commands.specs.Due.{DueOf, OfLines, OfLayout, OfNoLayout, bad_layout, file_too_large, in_layout, not_in_layout, relayout, text_too_large}
-use Rattle.repair_commands.specs.Outcome.{Finishes, IsComplete, IsOwed, Outcome}
+use Rattle.repair_commands.specs.Owed.{IsOwed}
 
 some_told : (left : Option (List ℕ)) → (bytes : List ℕ) × Told left bytes
 some_told None = ([], tt)
@@ -65,14 +67,6 @@ usage_owed words file reply is usage =
       due = subst (λ o. MatchOption o (Exactly Usage usage_line reply.answer reply.text) (λ q. DueOf q bytes.0 reply.answer reply.text)) (sym is) usage;
     }
 
--- the answers that may be owed where something is asked for
-abbrev IsJudgement : Answer → Type 0
-IsJudgement Usage = ⊥
-IsJudgement ReadFault = ⊥
-IsJudgement WriteFault = ⊥
-IsJudgement NoMemory = ⊥
-IsJudgement _ = Unit {0}
-
 no_layout_judgement : (bytes : List ℕ) (a : Answer) (t : List ℕ) → OfNoLayout bytes a t → IsJudgement a
 no_layout_judgement bytes a t (file_too_large p) = tt
 no_layout_judgement bytes a t (bad_layout few fault is) = tt
@@ -114,11 +108,6 @@ due_judgement (request.Lines c) bytes a t due = lines_judgement c bytes a t due
 due_judgement (request.Reorient n) bytes a t (inl p) = no_file_judgement bytes a t p
 due_judgement (request.Reorient n) bytes a t (inr p) = reorient_judgement n p.1 a t p.3
 
--- the answers that words may owe
-abbrev IsJudged : Option Request → Answer → Type 0
-IsJudged None a = a ≡ Usage
-IsJudged (Some q) a = IsJudgement a
-
 judged : (words : List (List ℕ)) (file : Option (List ℕ)) (a : Answer) (t : List ℕ) → IsOwed words file a t → IsJudged (request_of words) a
 judged words file a t owed = by_request (request_of words) owed.due
   where
@@ -126,58 +115,21 @@ judged words file a t owed = by_request (request_of words) owed.due
     by_request None due = due.0
     by_request (Some q) due = due_judgement q owed.bytes a t due
 
-no_fault : (o : Option Request) (a : Answer) → IsJudged o a → (a ≡ ReadFault → ⊥) × (a ≡ WriteFault → ⊥) × (a ≡ NoMemory → ⊥)
-no_fault None a is = (λ e. let usage = is in cc, λ e. let usage = is in cc, λ e. let usage = is in cc)
-no_fault (Some q) a is = (λ e. subst IsJudgement e is, λ e. subst IsJudgement e is, λ e. subst IsJudgement e is)
+module _ (words : List (List ℕ)) (file before after : Option (List ℕ)) (faults now : ℕ) (answer : Answer) (text : List ℕ) (result : Answer)
+    (owed : IsOwed words file answer text) where
+  is : IsJudged (request_of words) answer
+  is = judged words file answer text owed
 
-module _ (words : List (List ℕ)) (file before after : Option (List ℕ)) where
-  whole_text : (answer : Answer) (text : List ℕ) → IsOwed words file answer text
-      → (answer ≡ ReadFault → ⊥) × (answer ≡ WriteFault → ⊥) × (answer ≡ NoMemory → ⊥) → Appends before after text
-      → Outcome words file before after answer
-  whole_text Done text owed sound appended = record { text = text; owed = owed; appended = appended }
-  whole_text No text owed sound appended = record { text = text; owed = owed; appended = appended }
-  whole_text Usage text owed sound appended = record { text = text; owed = owed; appended = appended }
-  whole_text BadFile text owed sound appended = record { text = text; owed = owed; appended = appended }
-  whole_text ReadFault text owed sound appended = absurd (sound.0 refl)
-  whole_text WriteFault text owed sound appended = absurd (sound.1 refl)
-  whole_text NoMemory text owed sound appended = absurd (sound.2 refl)
-  whole_text NoExtract text owed sound appended = record { text = text; owed = owed; appended = appended }
-  whole_text TooLarge text owed sound appended = record { text = text; owed = owed; appended = appended }
+  -- what is owed was written, or a part of it
+  pub finished : Finishes before after faults now answer text result → Outcome (IsOwed words file) before after result
+  finished done = endings.finished (IsOwed words file) before after (request_of words) faults now answer text result owed is done
 
-  module _ (faults now : ℕ) (answer : Answer) (text : List ℕ) (result : Answer) (owed : IsOwed words file answer text) where
-    -- what is owed was written, or a part of it
-    pub finished : Finishes before after faults now answer text result → Outcome words file before after result
-    finished (inl h) =
-        subst (Outcome words file before after) (sym h.0)
-        (whole_text answer text owed (no_fault (request_of words) answer (judged words file answer text owed)) h.1)
-    finished (inr h) =
-        subst (Outcome words file before after) (sym h.0)
-        (record { answer = answer; text = text; owed = owed; count = h.1.count; shorter = h.1.shorter; appended = h.1.appended })
+  pub no_read_fault : Finishes before after faults now answer text result → result ≡ ReadFault → ⊥
+  no_read_fault done fault = endings.no_read_fault (IsOwed words file) before after (request_of words) faults now answer text result owed is done fault
 
-    pub no_read_fault : Finishes before after faults now answer text result → result ≡ ReadFault → ⊥
-    no_read_fault (inl h) e = let sound = no_fault (request_of words) answer (judged words file answer text owed) in sound.0 (sym h.0 ∙ e)
-    no_read_fault (inr h) e = let fault = h.0 in cc
+  pub write_fault : Finishes before after faults now answer text result → result ≡ WriteFault → Rose faults now
+  write_fault done fault = endings.write_fault (IsOwed words file) before after (request_of words) faults now answer text result owed is done fault
 
-    pub write_fault : Finishes before after faults now answer text result → result ≡ WriteFault → Rose faults now
-    write_fault (inl h) e = let sound = no_fault (request_of words) answer (judged words file answer text owed) in absurd (sound.1 (sym h.0 ∙ e))
-    write_fault (inr h) e = h.1.rose
-
-    complete_judgement : (a : Answer) → IsJudgement a → IsComplete a
-    complete_judgement Done is = tt
-    complete_judgement No is = tt
-    complete_judgement Usage is = absurd is
-    complete_judgement BadFile is = tt
-    complete_judgement ReadFault is = absurd is
-    complete_judgement WriteFault is = absurd is
-    complete_judgement NoMemory is = absurd is
-    complete_judgement NoExtract is = tt
-    complete_judgement TooLarge is = tt
-
-    complete_judged : (o : Option Request) (a : Answer) → IsSome o → IsJudged o a → IsComplete a
-    complete_judged None a some is = absurd (let there = some in cc)
-    complete_judged (Some q) a some is = complete_judgement a is
-
-    -- the answer to words of a listed form where no write failed
-    pub complete : Finishes before after faults now answer text result → IsSome (request_of words) → (Rose faults now → ⊥) → IsComplete result
-    complete (inl h) some no_rise = subst IsComplete (sym h.0) (complete_judged (request_of words) answer some (judged words file answer text owed))
-    complete (inr h) some no_rise = absurd (no_rise h.1.rose)
+  -- the answer to words of a listed form where no write failed
+  pub complete : Finishes before after faults now answer text result → IsSome (request_of words) → (Rose faults now → ⊥) → IsComplete result
+  complete done some no_rise = endings.complete (IsOwed words file) before after (request_of words) faults now answer text result owed is done some no_rise

@@ -2,6 +2,6 @@ pub mod Request
 pub mod Texts
 pub mod SolidDue
 pub mod Due
-pub mod Outcome
+pub mod Owed
 pub mod SolidLaws
 pub mod Laws

@@ -1,8 +1,6 @@
 -- What is owed of reorienting a solid.
-use Rattle.std.specs.Prelude.{ℕ, ◌<◌, ◌≤◌, Bool, List, [], length}
-use Rattle.iges_base.specs.declared.TheConstants.{FILE_LIMIT}
+use Rattle.std.specs.Prelude.{ℕ, Bool, List}
 use Rattle.iges_params.specs.Contents.{Contents}
-use Rattle.iges_write.specs.Text.{IsText}
 use Rattle.entry_references.specs.declared.fault.ExtractReason.{ExtractReason}
 use Rattle.solid_extract.specs.Extracted.{IsRefused}
 use Rattle.solid_reorient.specs.Fitting.{HasFlags}

@@ -6,15 +6,16 @@ ghost use Rattle.iges_io.specs.Reading.{TakesAtMost};
 ghost use Rattle.std.specs.Prelude.{◌≡◌, ◌+◌, ◌<◌, ◌⊎◌, IfOk, IsErrOf, IsNone, IsSome};
 ghost use Rattle.repair_commands.specs.Request.{request_of};
 ghost use Rattle.repair_commands.specs.Due.{DueOf, OfLines};
-ghost use Rattle.repair_commands.specs.Outcome.{Finishes, IsComplete, IsOwed, Outcome};
+ghost use Rattle.command_replies.specs.Ending.{IsComplete, Outcome};
+ghost use Rattle.repair_commands.specs.Owed.{IsOwed};
 
 use crate::reorienting::reorient_solid;
 use crate::replies::{bytes_reply, usage_reply};
 use crate::request::{LineCommand, Request};
 use crate::words::Words;
-use command_replies::{Answer, Reply, Stop, bytes_in, file_in};
+use command_replies::{Answer, Reply, Stop, bytes_in, file_in, finish};
 use iges_base::FILE_LIMIT;
-use iges_io::{PIECE, Sink, Source, write_all};
+use iges_io::{PIECE, Sink, Source};
 use std::alloc::Global;
 
 // The reply to a command on the lines of a source.
@@ -76,18 +77,6 @@ fn reply_to<F: Source>(alloc: Global, words: &Words, file: &mut F) -> Result<Rep
     }
 }
 
-// Writes a reply, and gives its answer.
-fn finish<O: Sink>(out: &mut O, reply: Reply) -> Answer
-    requires { O.can_write out.old }
-    ensures { Finishes (O.written out.old) (O.written out.new) (O.faults out.old)
-        (O.faults out.new) reply.answer reply.text result }
-{
-    match write_all(out, reply.text.as_slice()) {
-        Ok(()) => reply.answer,
-        Err(_) => Answer::WriteFault,
-    }
-}
-
 /// Runs what these words ask for: reads the file, forms the whole text that is due, and then writes it.
 ///
 /// The answer says how the run ended; its `code` is the program's status.
@@ -102,7 +91,7 @@ pub fn run_repair<F: Source, O: Sink>(
     requires out { O.can_write out.old }
 
     // It answers what is owed and has written exactly the text that is owed, or a fault or out of memory cut it short.
-    ensures outcome { Outcome words.now (F.left file.old) (O.written out.old)
+    ensures outcome { Outcome (IsOwed words.now (F.left file.old)) (O.written out.old)
         (O.written out.new) result }
 
     // A fault is answered only where the count of a source that the words read, or of the sink, rose.

@@ -1,10 +1,10 @@
 -- What the definitions say of answers.
 use Rattle.std.specs.Prelude.{◌⊎◌}
-use Rattle.std.proofs.Common.{◌≡◌, inl, inr, ℕ, List, refl, sym, subst, ◌∙◌, ap}
+use Rattle.std.proofs.Common.{◌≡◌, inl, inr, ℕ}
 use Rattle.iges_params.specs.Contents.{Contents}
 use Rattle.brep_walk.specs.Places.{places}
 use Rattle.brep_walk.specs.SolidOf.{solid_of}
-use Rattle.solid_data.specs.Obligations.{AllHold, FirstFalse}
+use Rattle.solid_data.specs.Obligations.{AllHold}
 use Rattle.solid_data.specs.declared.verdict.Verdict.{Verdict}
 use Rattle.solid_data.specs.declared.verdict.Verdict.TheVariants.{Closed, Fails}
 use Rattle.solid_data.proofs.ObligationLemmas.{AllHold-append, AllHold-append_left, AllHold-append_right, FirstFalse-not_all}

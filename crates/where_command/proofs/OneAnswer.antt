@@ -1,34 +1,33 @@
 -- One answer and one text are owed.
-use Rattle.std.specs.Prelude.{◌≡◌, ◌⊎◌, ℕ, ◌<◌, Bool, IsTrue, List, [], ◌∷◌, ◌++◌, length, Option, Some, None, MatchOption, slice_get}
+use Rattle.std.specs.Prelude.{◌≡◌, ◌⊎◌, ℕ, List, [], ◌∷◌, ◌++◌, Option, Some, None, MatchOption}
 use Rattle.std.proofs.Common.{inl, inr, refl, sym, ap, ◌∙◌, subst, arith}
 use Rattle.std.proofs.lemmas.Option.{slice_get_within}
 use Rattle.iges_base.specs.declared.entry_no.EntryNo.{EntryNo}
-use Rattle.iges_base.specs.declared.TheConstants.{FILE_LIMIT}
 use Rattle.iges_params.specs.Contents.{Contents}
 use Rattle.iges_params.proofs.Answers.{err_is}
 use Rattle.iges_params.proofs.FileExact.{Refusal-read_file}
 use Rattle.brep_walk.specs.Places.{places}
 use Rattle.brep_walk.specs.SolidOf.{solid_of}
-use Rattle.solid_data.specs.Obligations.{Obligation, AllHold, FirstFalse, IsVerdict}
+use Rattle.solid_data.specs.Obligations.{Obligation, IsVerdict}
 use Rattle.solid_data.specs.SolidData.{SolidData}
 use Rattle.solid_data.specs.declared.verdict.Failing.{Failing}
 use Rattle.solid_data.specs.declared.verdict.Verdict.{Verdict}
 use Rattle.solid_data.specs.declared.verdict.Verdict.TheVariants.{Closed, Fails}
 use Rattle.solid_data.proofs.Members.{get_some}
 use Rattle.solid_data.proofs.ObligationLemmas.{FirstFalse-not_all, FirstFalse-one}
-use Rattle.solid_verdict.specs.Closed.{IsVerdictOn, obligations}
+use Rattle.solid_verdict.specs.Closed.{obligations}
 use Rattle.record_paths.specs.declared.path.Path.{Path}
 use Rattle.record_paths.specs.Paths.{IsPathTo, Sited, sited}
 use Rattle.command_replies.specs.declared.answer.Answer.{Answer}
 use Rattle.command_replies.specs.declared.answer.Answer.TheVariants as answer
-use Rattle.command_replies.specs.Due.{Owed, Exactly}
+use Rattle.command_replies.specs.Due.{Exactly}
 use Rattle.command_replies.specs.Outcome.{IsNoFile}
 use Rattle.command_replies.proofs.One.{IsOne, no_file}
 use Rattle.where_places.specs.declared.placed_file.PlacedFile.{PlacedFile}
 use Rattle.where_places.proofs.OnePlacedFile.{one_placed}
 use Rattle.where_text.specs.declared.listing.Listing.{Listing}
 use Rattle.where_text.specs.Listing.{shown}
-use Rattle.solid_hints.specs.AllFaults.{AreAllFaults, failing_shells}
+use Rattle.solid_hints.specs.AllFaults.{failing_shells}
 use Rattle.solid_hints.specs.ShellHints.{IsHint}
 use Rattle.where_solids.specs.Lines.{verdict_line}
 use Rattle.where_unjudged.specs.Listed.{solids_of}
@@ -38,7 +37,7 @@ use Rattle.where_solids.specs.Told.{IsOfRecords, IsOfShells, IsToldOf, record_re
 use Rattle.where_command.specs.declared.asked.Asked.{Asked}
 use Rattle.where_command.specs.declared.asked.Asked.TheVariants as asked
 use Rattle.where_command.specs.Asked.{asked_of, usage_line}
-use Rattle.where_command.specs.Due.{DueOf, OfContents, OfNoFile, OfOverview, OfSolid, answer_to, answer_where, bad_file, bad_file_text, file_too_large}
+use Rattle.where_command.specs.Due.{DueOf, OfContents, OfNoFile, answer_to, answer_where, bad_file, bad_file_text, file_too_large}
 use Rattle.where_command.specs.Laws.{OneAnswerIsOwed}
 use Rattle.solid_hints.proofs.ToldHints.{all_inside}
 use Rattle.where_command.proofs.OneFaults.{one_of_all, same_list}

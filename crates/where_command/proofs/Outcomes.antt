@@ -1,7 +1,6 @@
 -- From a reply to the outcome of a run.
-use Rattle.std.proofs.Common.{◌≡◌, inl, inr, ℕ, List, [], refl, sym, subst, ◌∙◌, Option, Some, None, Bool, true, false}
+use Rattle.std.proofs.Common.{◌≡◌, inl, inr, ℕ, List, [], refl, sym, subst, Option, Some, None, Bool, true, false}
 use Rattle.std.specs.Prelude.{MatchOption, IsSome}
-use Rattle.std.specs.Io.KnownBytes.{Appends}
 use Rattle.iges_io.specs.Reading.{Told}
 use Rattle.iges_io.specs.Faults.{Rose}
 use Rattle.where_places.specs.declared.placed_file.PlacedFile.{PlacedFile}
@@ -9,15 +8,18 @@ use Rattle.solid_data.specs.declared.verdict.Verdict.{Verdict}
 use Rattle.solid_data.specs.declared.verdict.Verdict.TheVariants.{Closed, Fails}
 use Rattle.command_replies.specs.declared.reply.Reply.{Reply}
 use Rattle.command_replies.specs.declared.answer.Answer.{Answer}
-use Rattle.command_replies.specs.declared.answer.Answer.TheVariants.{Done, No, Usage, BadFile, ReadFault, WriteFault, NoMemory, NoExtract, TooLarge}
+use Rattle.command_replies.specs.declared.answer.Answer.TheVariants.{Usage, ReadFault, WriteFault}
 use Rattle.command_replies.specs.Due.{Exactly}
+use Rattle.command_replies.proofs.Endings as endings
+use Rattle.command_replies.proofs.Endings.{IsJudged, IsJudgement}
+use Rattle.command_replies.specs.Ending.{Finishes, IsComplete, Outcome}
 use Rattle.command_replies.specs.Replies.{IsReply}
 use Rattle.where_solids.specs.Overview.{all_close}
 use Rattle.where_command.specs.declared.asked.Asked.{Asked}
 use Rattle.where_command.specs.declared.asked.Asked.TheVariants as asked
 use Rattle.where_command.specs.Asked.{asked_of, usage_line}
 use Rattle.where_command.specs.Due.{DueOf, OfContents, OfNoFile, answer_to, answer_where, bad_file, file_too_large}
-use Rattle.where_command.specs.Outcome.{Finishes, IsComplete, IsOwed, IsPlacedTold, Outcome}
+use Rattle.where_command.specs.Owed.{IsOwed, IsPlacedTold}
 
 some_told : (left : Option (List ℕ)) → (bytes : List ℕ) × Told left bytes
 some_told None = ([], tt)
@@ -52,14 +54,6 @@ usage_owed words file reply is usage =
       due = subst (λ o. MatchOption o (Exactly Usage usage_line reply.answer reply.text) (λ q. DueOf q bytes.0 reply.answer reply.text)) (sym is) usage;
     }
 
--- the answers that may be owed where something is asked for
-abbrev IsJudgement : Answer → Type 0
-IsJudgement Usage = ⊥
-IsJudgement ReadFault = ⊥
-IsJudgement WriteFault = ⊥
-IsJudgement NoMemory = ⊥
-IsJudgement _ = Unit {0}
-
 to_judgement : (v : Verdict) → IsJudgement (answer_to v)
 to_judgement Closed = tt
 to_judgement (Fails x) = tt
@@ -80,11 +74,6 @@ due_judgement : (q : Asked) (bytes : List ℕ) (a : Answer) (t : List ℕ) → D
 due_judgement q bytes a t (inl p) = no_file_judgement bytes a t p
 due_judgement q bytes a t (inr p) = contents_judgement q p.1 a t p.3
 
--- the answers that words may owe
-abbrev IsJudged : Option Asked → Answer → Type 0
-IsJudged None a = a ≡ Usage
-IsJudged (Some q) a = IsJudgement a
-
 judged : (words : List (List ℕ)) (file : Option (List ℕ)) (a : Answer) (t : List ℕ) → IsOwed words file a t → IsJudged (asked_of words) a
 judged words file a t owed = by_asked (asked_of words) owed.due
   where
@@ -92,58 +81,21 @@ judged words file a t owed = by_asked (asked_of words) owed.due
     by_asked None due = due.0
     by_asked (Some q) due = due_judgement q owed.bytes a t due
 
-no_fault : (o : Option Asked) (a : Answer) → IsJudged o a → (a ≡ ReadFault → ⊥) × (a ≡ WriteFault → ⊥) × (a ≡ NoMemory → ⊥)
-no_fault None a is = (λ e. let usage = is in cc, λ e. let usage = is in cc, λ e. let usage = is in cc)
-no_fault (Some q) a is = (λ e. subst IsJudgement e is, λ e. subst IsJudgement e is, λ e. subst IsJudgement e is)
+module _ (words : List (List ℕ)) (file before after : Option (List ℕ)) (faults now : ℕ) (answer : Answer) (text : List ℕ) (result : Answer)
+    (owed : IsOwed words file answer text) where
+  is : IsJudged (asked_of words) answer
+  is = judged words file answer text owed
 
-module _ (words : List (List ℕ)) (file before after : Option (List ℕ)) where
-  whole_text : (answer : Answer) (text : List ℕ) → IsOwed words file answer text → (answer ≡ ReadFault → ⊥) × (answer ≡ WriteFault → ⊥)
-      × (answer ≡ NoMemory → ⊥) → Appends before after text
-      → Outcome words file before after answer
-  whole_text Done text owed sound appended = record { text = text; owed = owed; appended = appended }
-  whole_text No text owed sound appended = record { text = text; owed = owed; appended = appended }
-  whole_text Usage text owed sound appended = record { text = text; owed = owed; appended = appended }
-  whole_text BadFile text owed sound appended = record { text = text; owed = owed; appended = appended }
-  whole_text ReadFault text owed sound appended = absurd (sound.0 refl)
-  whole_text WriteFault text owed sound appended = absurd (sound.1 refl)
-  whole_text NoMemory text owed sound appended = absurd (sound.2 refl)
-  whole_text NoExtract text owed sound appended = record { text = text; owed = owed; appended = appended }
-  whole_text TooLarge text owed sound appended = record { text = text; owed = owed; appended = appended }
+  -- what is owed was written, or a part of it
+  pub finished : Finishes before after faults now answer text result → Outcome (IsOwed words file) before after result
+  finished done = endings.finished (IsOwed words file) before after (asked_of words) faults now answer text result owed is done
 
-  module _ (faults now : ℕ) (answer : Answer) (text : List ℕ) (result : Answer) (owed : IsOwed words file answer text) where
-    -- what is owed was written, or a part of it
-    pub finished : Finishes before after faults now answer text result → Outcome words file before after result
-    finished (inl h) =
-        subst (Outcome words file before after) (sym h.0)
-        (whole_text answer text owed (no_fault (asked_of words) answer (judged words file answer text owed)) h.1)
-    finished (inr h) =
-        subst (Outcome words file before after) (sym h.0)
-        (record { answer = answer; text = text; owed = owed; count = h.1.count; shorter = h.1.shorter; appended = h.1.appended })
+  pub no_read_fault : Finishes before after faults now answer text result → result ≡ ReadFault → ⊥
+  no_read_fault done fault = endings.no_read_fault (IsOwed words file) before after (asked_of words) faults now answer text result owed is done fault
 
-    pub no_read_fault : Finishes before after faults now answer text result → result ≡ ReadFault → ⊥
-    no_read_fault (inl h) e = let sound = no_fault (asked_of words) answer (judged words file answer text owed) in sound.0 (sym h.0 ∙ e)
-    no_read_fault (inr h) e = let fault = h.0 in cc
+  pub write_fault : Finishes before after faults now answer text result → result ≡ WriteFault → Rose faults now
+  write_fault done fault = endings.write_fault (IsOwed words file) before after (asked_of words) faults now answer text result owed is done fault
 
-    pub write_fault : Finishes before after faults now answer text result → result ≡ WriteFault → Rose faults now
-    write_fault (inl h) e = let sound = no_fault (asked_of words) answer (judged words file answer text owed) in absurd (sound.1 (sym h.0 ∙ e))
-    write_fault (inr h) e = h.1.rose
-
-    complete_judgement : (a : Answer) → IsJudgement a → IsComplete a
-    complete_judgement Done is = tt
-    complete_judgement No is = tt
-    complete_judgement Usage is = absurd is
-    complete_judgement BadFile is = tt
-    complete_judgement ReadFault is = absurd is
-    complete_judgement WriteFault is = absurd is
-    complete_judgement NoMemory is = absurd is
-    complete_judgement NoExtract is = tt
-    complete_judgement TooLarge is = tt
-
-    complete_judged : (o : Option Asked) (a : Answer) → IsSome o → IsJudged o a → IsComplete a
-    complete_judged None a some is = absurd (let there = some in cc)
-    complete_judged (Some q) a some is = complete_judgement a is
-
-    -- the answer to words of a listed form where no write failed
-    pub complete : Finishes before after faults now answer text result → IsSome (asked_of words) → (Rose faults now → ⊥) → IsComplete result
-    complete (inl h) some no_rise = subst IsComplete (sym h.0) (complete_judged (asked_of words) answer some (judged words file answer text owed))
-    complete (inr h) some no_rise = absurd (no_rise h.1.rose)
+  -- the answer to words of a listed form where no write failed
+  pub complete : Finishes before after faults now answer text result → IsSome (asked_of words) → (Rose faults now → ⊥) → IsComplete result
+  complete done some no_rise = endings.complete (IsOwed words file) before after (asked_of words) faults now answer text result owed is done some no_rise

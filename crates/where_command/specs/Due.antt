@@ -1,7 +1,6 @@
 -- What is owed.
 use Rattle.std.specs.Prelude.{◌≡◌, ◌⊎◌, ℕ, ◌<◌, ◌≤◌, Bool, true, false, List, [], ◌++◌, length, MatchOption}
 use Rattle.iges_base.specs.declared.TheConstants.{FILE_LIMIT}
-use Rattle.iges_base.specs.declared.entry_no.EntryNo.{EntryNo}
 use Rattle.iges_lines.specs.declared.fault.LineFault.{LineFault}
 use Rattle.iges_params.specs.Refusal.{Refusal}
 use Rattle.solid_data.specs.declared.verdict.Verdict.{Verdict}

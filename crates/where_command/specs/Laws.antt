@@ -1,5 +1,5 @@
 -- What the definitions say of answers and texts.
-use Rattle.std.specs.Prelude.{◌≡◌, ◌↔◌, ◌⊎◌, ℕ, ◌++◌, List}
+use Rattle.std.specs.Prelude.{◌≡◌, ◌⊎◌, ℕ, List}
 use Rattle.where_places.specs.declared.placed_file.PlacedFile.{PlacedFile}
 use Rattle.solid_verdict.specs.Closed.{IsClosed}
 use Rattle.command_replies.specs.declared.answer.Answer.{Answer}

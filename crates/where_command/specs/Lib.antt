@@ -1,4 +1,4 @@
 pub mod Asked
 pub mod Due
-pub mod Outcome
+pub mod Owed
 pub mod Laws

@@ -6,14 +6,15 @@ ghost use Rattle.iges_io.specs.Reading.{TakesAtMost};
 ghost use Rattle.std.specs.Prelude.{◌≡◌, ◌+◌, ◌<◌, ◌⊎◌, IfOk, IsErrOf, IsNone, IsSome};
 ghost use Rattle.where_command.specs.Asked.{asked_of};
 ghost use Rattle.where_command.specs.Due.{DueOf};
-ghost use Rattle.where_command.specs.Outcome.{Finishes, IsComplete, IsOwed, Outcome};
+ghost use Rattle.command_replies.specs.Ending.{IsComplete, Outcome};
+ghost use Rattle.where_command.specs.Owed.{IsOwed};
 
 use crate::asked::Asked;
 use crate::reading::file_in;
 use crate::replies::{contents_reply, usage_reply};
 use crate::words::Words;
-use command_replies::{Answer, Reply, Stop};
-use iges_io::{PIECE, Sink, Source, write_all};
+use command_replies::{Answer, Reply, Stop, finish};
+use iges_io::{PIECE, Sink, Source};
 use std::alloc::Global;
 
 // The reply to what is asked of the file of a source.
@@ -47,18 +48,6 @@ fn reply_to<F: Source>(alloc: Global, words: &Words, file: &mut F) -> Result<Rep
     }
 }
 
-// Writes a reply, and gives its answer.
-fn finish<O: Sink>(out: &mut O, reply: Reply) -> Answer
-    requires { O.can_write out.old }
-    ensures { Finishes (O.written out.old) (O.written out.new) (O.faults out.old)
-        (O.faults out.new) reply.answer reply.text result }
-{
-    match write_all(out, reply.text.as_slice()) {
-        Ok(()) => reply.answer,
-        Err(_) => Answer::WriteFault,
-    }
-}
-
 /// Runs what these words ask for: reads the file, forms the whole text that is due, and then writes it.
 ///
 /// The answer says how the run ended; its `code` is the program's status.
@@ -73,7 +62,7 @@ pub fn run_where<F: Source, O: Sink>(
     requires out { O.can_write out.old }
 
     // It answers what is owed and has written exactly the text that is owed, or a fault or out of memory cut it short.
-    ensures outcome { Outcome words.now (F.left file.old) (O.written out.old)
+    ensures outcome { Outcome (IsOwed words.now (F.left file.old)) (O.written out.old)
         (O.written out.new) result }
 
     // A fault is answered only where the count of a source that the words read, or of the sink, rose.

@@ -7,7 +7,7 @@ ghost use Rattle.command_replies.specs.Replies.{CountAfterCall, IsReply, TakesWi
 ghost use Rattle.std.specs.Io.KnownBytes.{IsAtEnd};
 ghost use Rattle.std.specs.Prelude.{◌≡◌, ◌≤◌, IfOk, MatchResult, OnOk, length};
 ghost use Rattle.where_command.specs.Due.{OfNoFile, bad_file_text};
-ghost use Rattle.where_command.specs.Outcome.{IsPlacedTold};
+ghost use Rattle.where_command.specs.Owed.{IsPlacedTold};
 ghost use Rattle.where_places.specs.PlacedFiles.{IsPlacedFile};
 ghost use Rattle.where_places.specs.Places.{HasPlaces};
 

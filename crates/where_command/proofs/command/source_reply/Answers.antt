@@ -1,4 +1,3 @@
-use Rattle.std.proofs.lemmas.Result.{IfOk-weaker}
 use Rattle.where_command.proofs.Outcomes.{contents_owed, no_file_owed}
 use Rattle.where_command.proofs.command.source_reply.Goals as goal
 
