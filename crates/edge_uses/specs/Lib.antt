@@ -8,6 +8,5 @@ pub mod Building
 pub mod Mates
 pub mod Tally
 pub mod Faults
-pub mod Balls
 pub mod Cells
 pub mod Around

@@ -8,3 +8,4 @@ pub mod EndTrim
 pub mod DigitFronts
 pub mod Eight
 pub mod Columns
+pub mod Spaced

@@ -11,7 +11,6 @@ use Rattle.solid_data.specs.SolidData.{SolidData}
 use Rattle.solid_data.specs.declared.solid.Shell.{Shell}
 use Rattle.solid_data.proofs.Members.{All-at, All-from, has_get}
 use Rattle.solid_data.proofs.Occurring.{numbers_rise, number_below, length-numbers}
-use Rattle.edge_uses.proofs.Steps.{numbers_more}
 use Rattle.edge_uses.proofs.Whole.{rising}
 use Rattle.edge_uses.specs.ShellRows.{shell_rows, rows_of}
 use Rattle.open_certificate.specs.Legal.{IsOpenShell}
@@ -22,11 +21,6 @@ use Rattle.shell_classes.proofs.LeastLemmas.{leasts_one}
 use Rattle.lone_rows.specs.LoneRows.{lone_rows}
 use Rattle.shell_rims.specs.Rims.{AreRims, Rims, ShareEnd}
 use Rattle.open_hint.specs.Missing.{AreMissing, all_faces}
-
-pub number_step : (i : ℕ) (old new : List ℕ) → old ≡ numbers_from 0 i → new ≡ old ++ i ∷ [] → new ≡ numbers_from 0 (i + 1)
-number_step i old new is e =
-    let z : i ≡ 0 + i = omega arith in
-    e ∙ (ap (λ ns. ns ++ i ∷ []) is ∙ (ap (λ n. numbers_from 0 i ++ n ∷ []) z ∙ sym (numbers_more 0 i)))
 
 pub some_faces : (s : SolidData) (k : ℕ) (h : Shell) → IsNumberedSolid s → slice_get s.shells k ≡ Some h → 0 < length (all_faces h)
 some_faces s k h n at =

@@ -2,7 +2,6 @@
 
 ghost use Rattle.std.specs.List.Sorted.{IsStrictlyIncreasing};
 ghost use Rattle.std.specs.Prelude.{◌≡◌, ◌↔◌, ◌<◌, All, IsTrue, Some, None, IfOk, if◌then◌else◌, length, slice_get};
-ghost use Rattle.solid_data.specs.Ring.{numbers_from};
 ghost use Rattle.solid_data.specs.declared.solid.Shell.{Shell as AnyShell};
 ghost use Rattle.edge_uses.specs.ShellRows.{rows_of};
 ghost use Rattle.open_certificate.specs.Legal.{IsOpenShell};
@@ -16,21 +15,8 @@ use iges_base::NoMemory;
 use open_shells::{OpenFault, open_certify};
 use shell_alone::by_themselves;
 use shell_rims::{Rims, rims_of};
-use solid_data::{Shell, ShellAt, Solid};
+use solid_data::{Shell, ShellAt, Solid, numbers_below};
 use std::alloc::Global;
-
-fn numbers_below(alloc: Global, count: usize) -> Result<Vec<u32>, NoMemory>
-    ensures { IfOk result (λ v. v.items ≡ numbers_from 0 count) }
-{
-    if count > u32::MAX as usize {
-        return Err(NoMemory);
-    }
-    let mut out = Vec::new(alloc);
-    'numbers: for i in 0..count {
-        out.push(i as u32)?;
-    }
-    Ok(out)
-}
 
 fn shell_at(solid: &Solid, shell: ShellAt) -> &Shell
     requires { shell.0 < length solid.now.shells }

@@ -6,9 +6,9 @@ use Rattle.solid_data.specs.SolidData.{SolidData}
 use Rattle.solid_data.specs.declared.solid.FaceUse.{FaceUse}
 use Rattle.solid_data.specs.declared.solid.LoopUse.{LoopUse}
 use Rattle.solid_data.specs.declared.solid.LoopUse.TheVariants.{EdgeUse}
+use Rattle.solid_data.specs.declared.solid.VertexKey.{VertexKey}
 use Rattle.edge_uses.specs.declared.row.Row.{Row}
 use Rattle.edge_uses.specs.ShellRows.{shell_rows}
-use Rattle.edge_uses.specs.Balls.{vertex_key}
 use Rattle.orient_certificate.specs.declared.fault.OrientRule.TheVariants.{Count}
 use Rattle.orient_certificate.specs.Partners.{AllHaveTwoRows, ArePartners, IsReached}
 use Rattle.orient_certificate.specs.Flags.{rows_at, rows_with, FlagsFit}
@@ -22,6 +22,9 @@ along way = EdgeUse (record { 0 = 0 }) way
 
 abbrev face_of : ℕ → List LoopUse → FaceUse
 face_of number uses = record { entity = record { 0 = number }; flag = true; loops = record { entity = record { 0 = 7 }; uses = uses } ∷ [] }
+
+abbrev vertex_key : ℕ → VertexKey
+vertex_key index = record { «list» = record { 0 = 3 }; index = index }
 
 -- one shell of these faces, with one edge between two vertices
 abbrev solid_of : List FaceUse → SolidData

@@ -2,7 +2,6 @@
 
 ghost use Rattle.std.specs.Prelude.{◌≡◌, ◌++◌, ◌∷◌, [], ◌<◌, ◌^◌, All, Some, IfOk, flat_map, map, length, option_copied, slice_get};
 ghost use Rattle.std.specs.List.Sorted.{IsStrictlyIncreasing};
-ghost use Rattle.solid_data.specs.Ring.{numbers_from};
 ghost use Rattle.solid_data.specs.declared.solid.Shell.{Shell as AnyShell};
 ghost use Rattle.edge_uses.specs.Before.{face_vertices};
 ghost use Rattle.shell_components.specs.FaceUses.{face_edges, AddedFaces};
@@ -14,7 +13,7 @@ use crate::places::places_met;
 use crate::renumbering::{Renumbering, renumbered_edges, vertex_keys};
 use iges_base::{EntryNo, ItemList, NoMemory};
 use shell_components::{Used, add_face, nothing_used};
-use solid_data::{FaceUse, Faces, Shell, ShellAt, Shells, Solid};
+use solid_data::{FaceUse, Faces, Shell, ShellAt, Shells, Solid, numbers_below};
 use std::alloc::Global;
 
 // The face with this number.
@@ -158,17 +157,6 @@ fn solid_of(
 {
     let renumbering = renumbering_of(alloc, solid, faces, numbers)?;
     renumbered_solid(alloc, solid, flag, faces, numbers, &renumbering)
-}
-
-fn numbers_below(alloc: Global, count: usize) -> Result<Vec<u32>, NoMemory>
-    requires { count < 2 ^ 32 }
-    ensures { IfOk result (λ numbers. numbers.items ≡ numbers_from 0 count) }
-{
-    let mut numbers = Vec::new(alloc);
-    'numbers: for i in 0..count {
-        numbers.push(i as u32)?;
-    }
-    Ok(numbers)
 }
 
 /// The solid that has these faces alone, in this order, in one shell with this flag. They needn't be faces of the given

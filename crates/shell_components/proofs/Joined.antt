@@ -224,9 +224,6 @@ pub least_of_joined : (pairs : List (ℕ × ℕ)) (count : ℕ) (labels : List �
 least_of_joined pairs count labels a b inside h lt joined =
     omega (arith, same_steps pairs count labels joined.0 a b h joined.1, h.marks.low b (inside_steps pairs count joined.0 a b inside lt joined.1))
 
-pub number_pushed_last : (i : ℕ) (out new : List ℕ) → out ≡ numbers_from 0 i → new ≡ out ++ i ∷ [] → new ≡ numbers_from 0 (i + 1)
-number_pushed_last i out new h e = let z : i ≡ 0 + i = omega arith in number_pushed out [] new 0 i h (e ∙ ap (λ n. out ++ n ∷ []) z)
-
 -- what is shown of each pair up to the end is shown of all
 pub all_joined : (pairs : List (ℕ × ℕ)) (labels : List ℕ) (i : ℕ) → length pairs ≤ i
     → ((j : ℕ) (p : ℕ × ℕ) → j < i → slice_get pairs j ≡ Some p → AreInOneTree labels p.0 p.1)

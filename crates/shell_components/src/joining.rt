@@ -7,6 +7,7 @@ ghost use Rattle.shell_components.specs.Components.{AreJoined, AreInside, AreLab
 ghost use Rattle.shell_components.specs.Trees.{AreTrees, AreInOneTree, AreRehung, AreTopsKept, AreSettled, AreHung};
 
 use iges_base::NoMemory;
+use solid_data::numbers_below;
 use std::alloc::Global;
 
 // The node that a node hangs from; a root hangs from itself.
@@ -109,18 +110,6 @@ fn settle(labels: &mut Vec<u32>)
     }
 }
 
-// Each node as a root.
-fn numbers(alloc: Global, count: usize) -> Result<Vec<u32>, NoMemory>
-    requires { count < 2 ^ 32 }
-    ensures { IfOk result (λ v. v.items ≡ numbers_from 0 count) }
-{
-    let mut out = Vec::new(alloc);
-    'numbers: for i in 0..count {
-        out.push(i as u32)?;
-    }
-    Ok(out)
-}
-
 /// For each node, from 0 to `count`, the least one that chains of pairs join it to. It goes once
 /// over the pairs, and takes little more than constant time for each.
 pub fn components(alloc: Global, count: usize, pairs: &[(u32, u32)]) -> Result<Vec<u32>, NoMemory>
@@ -128,7 +117,7 @@ pub fn components(alloc: Global, count: usize, pairs: &[(u32, u32)]) -> Result<V
     requires inside { AreInside pairs.now count }
     ensures { IfOk result (λ labels. AreComponents pairs.now count labels.items) }
 {
-    let mut labels = numbers(alloc, count)?;
+    let mut labels = numbers_below(alloc, count)?;
     join_all(&mut labels, pairs);
     settle(&mut labels);
     Ok(labels)

@@ -16,7 +16,7 @@ use Rattle.edge_uses.specs.declared.row.Row.{Row}
 use Rattle.edge_uses.specs.ShellRows.{ShellRows}
 use Rattle.edge_uses.specs.RowRelations.{AreMates, OnFace}
 use Rattle.edge_uses.specs.Mates.{ArePaired, HaveMates}
-use Rattle.edge_uses.proofs.Steps.{numbers_more}
+use Rattle.solid_data.proofs.Occurring.{numbers_more}
 use Rattle.edge_uses.proofs.Turn.{one_mate, has_mate, paired_rows}
 use Rattle.shell_tables.specs.FaceRows.{IsHead}
 use Rattle.shell_flood.specs.Reaching.{face_of, across, on_new_faces, IsBreadthFirst}

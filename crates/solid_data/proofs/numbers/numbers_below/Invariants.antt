@@ -1,6 +1,6 @@
 use Rattle.std.proofs.Common.{◌≡◌}
 use Rattle.solid_data.specs.Ring.{numbers_from}
-use Rattle.shell_components.proofs.joining.numbers.Given as goal
+use Rattle.solid_data.proofs.numbers.numbers_below.Given as goal
 
 abbrev pub invariant-numbers : goal.invariant-numbers
-invariant-numbers l = l.out.items ≡ numbers_from 0 l.i
+invariant-numbers l = l.numbers.items ≡ numbers_from 0 l.i
