@@ -7,5 +7,5 @@ pub spaced : (b ds : List ℕ) (n s : ℕ) → length b ≡ n → s + length ds 
 spaced b ds n s len ends some written =
     let k : s - 1 + 1 ≡ s = omega (arith, some) in
     let digits : drop (s - 1) (set b (s - 1) 32) ≡ 32 ∷ ds =
-        drop-set b (s - 1) 32 (omega (arith, len, ends, some)) ∙ ap (λ (i : ℕ). 32 ∷ drop i b) k ∙ ap (λ (xs : List ℕ). 32 ∷ xs) (written ∙ append-nil ds) in
+    drop-set b (s - 1) 32 (omega (arith, len, ends, some)) ∙ ap (λ (i : ℕ). 32 ∷ drop i b) k ∙ ap (λ (xs : List ℕ). 32 ∷ xs) (written ∙ append-nil ds) in
     ap (take (n - (s - 1))) digits ∙ take_all (n - (s - 1)) (32 ∷ ds) (omega (arith, ends, some))
