@@ -1,12 +1,18 @@
 -- From a reply to the outcome of a run.
-use Rattle.std.proofs.Common.{◌≡◌, inl, inr, ℕ, List, Option, Some, None, refl, sym, subst, ◌∙◌}
+use Rattle.std.proofs.Common.{◌≡◌, inl, inr, ℕ, List, [], Option, Some, None, refl, sym, subst, ◌∙◌}
 use Rattle.std.specs.Prelude.{IsSome}
 use Rattle.std.specs.Io.KnownBytes.{Appends}
 use Rattle.iges_io.specs.Faults.{Rose}
+use Rattle.iges_io.specs.Reading.{Told}
 use Rattle.command_replies.specs.Due.{Owed}
 use Rattle.command_replies.specs.Ending.{Finishes, IsComplete, Outcome}
 use Rattle.command_replies.specs.declared.answer.Answer.{Answer}
 use Rattle.command_replies.specs.declared.answer.Answer.TheVariants.{Done, No, Usage, BadFile, ReadFault, WriteFault, NoMemory, NoExtract, TooLarge}
+
+-- whatever a source told, it told some bytes
+pub some_told : (left : Option (List ℕ)) → (bytes : List ℕ) × Told left bytes
+some_told None = ([], tt)
+some_told (Some bytes) = (bytes, refl)
 
 -- the answers that may be owed to words of a listed form
 abbrev pub IsJudgement : Answer → Type 0

@@ -38,7 +38,7 @@ use Rattle.command_replies.specs.declared.answer.Answer.TheVariants as answer
 use Rattle.cert_lines.specs.Line.{cut_lines}
 use Rattle.orient_commands.specs.Laws.{AreSameOrRings}
 use Rattle.repair_commands.specs.SolidDue.{OfReorient, unoriented, not_reoriented, reoriented}
-use Rattle.repair_commands.proofs.ExtractionDecided.{extracted_or_refused}
+use Rattle.file_replies.proofs.ExtractionDecided.{extracted_or_refused}
 use Rattle.file_replies.specs.Written.{OfWritten, no_extract_line}
 use Rattle.file_replies.proofs.WrittenFiles.{one_written, refused_line, some_written}
 

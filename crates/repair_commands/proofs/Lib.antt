@@ -1,4 +1,3 @@
-mod ExtractionDecided
 pub mod FlagsDecided
 pub mod NeverDone
 pub mod ShortWords

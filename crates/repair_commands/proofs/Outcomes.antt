@@ -16,7 +16,7 @@ use Rattle.file_replies.specs.Written as writing
 use Rattle.file_replies.specs.Written.{OfWritten}
 use Rattle.repair_commands.specs.SolidDue as reorient
 use Rattle.command_replies.proofs.Endings as endings
-use Rattle.command_replies.proofs.Endings.{IsJudged, IsJudgement}
+use Rattle.command_replies.proofs.Endings.{IsJudged, IsJudgement, some_told}
 use Rattle.command_replies.specs.Ending.{Finishes, IsComplete, Outcome}
 use Rattle.command_replies.specs.Replies.{IsFileTold, IsReply}
 use Rattle.repair_commands.specs.declared.request.LineCommand.{LineCommand}
@@ -25,10 +25,6 @@ use Rattle.repair_commands.specs.declared.request.Request.TheVariants as request
 use Rattle.repair_commands.specs.Request.{request_of, usage_line}
 use Rattle.repair_commands.specs.Due.{DueOf, OfLines, OfLayout, OfNoLayout, bad_layout, file_too_large, in_layout, not_in_layout, relayout, text_too_large}
 use Rattle.repair_commands.specs.Owed.{IsOwed}
-
-some_told : (left : Option (List ℕ)) → (bytes : List ℕ) × Told left bytes
-some_told None = ([], tt)
-some_told (Some bytes) = (bytes, refl)
 
 -- what is owed of the bytes that were told
 pub bytes_owed : (q : LineCommand) (file : Option (List ℕ)) (bytes text : List ℕ) (reply : Reply) → Told file bytes → text ≡ bytes

@@ -11,7 +11,7 @@ use Rattle.command_replies.specs.declared.answer.Answer.{Answer}
 use Rattle.command_replies.specs.declared.answer.Answer.TheVariants.{Usage, ReadFault, WriteFault}
 use Rattle.command_replies.specs.Due.{Exactly}
 use Rattle.command_replies.proofs.Endings as endings
-use Rattle.command_replies.proofs.Endings.{IsJudged, IsJudgement}
+use Rattle.command_replies.proofs.Endings.{IsJudged, IsJudgement, some_told}
 use Rattle.command_replies.specs.Ending.{Finishes, IsComplete, Outcome}
 use Rattle.command_replies.specs.Replies.{IsReply}
 use Rattle.where_solids.specs.Overview.{all_close}
@@ -20,10 +20,6 @@ use Rattle.where_command.specs.declared.asked.Asked.TheVariants as asked
 use Rattle.where_command.specs.Asked.{asked_of, usage_line}
 use Rattle.where_command.specs.Due.{DueOf, OfContents, OfNoFile, answer_to, answer_where, bad_file, file_too_large}
 use Rattle.where_command.specs.Owed.{IsOwed, IsPlacedTold}
-
-some_told : (left : Option (List ℕ)) → (bytes : List ℕ) × Told left bytes
-some_told None = ([], tt)
-some_told (Some bytes) = (bytes, refl)
 
 -- what is owed of a file that was told
 pub contents_owed : (q : Asked) (file : Option (List ℕ)) (p : PlacedFile) (reply : Reply) → IsPlacedTold file p → OfContents q p reply.answer reply.text

@@ -16,7 +16,7 @@ use Rattle.solid_faults.specs.declared.gap.Gap.{Gap}
 use Rattle.where_text.specs.declared.listing.Listing.{Listing}
 use Rattle.where_text.specs.Listing.{shown, more_items}
 use Rattle.where_text.specs.Spelled.{space_word}
-use Rattle.where_shells.specs.Lines.{flag_number, head_lines, edge_words, curve_words, face_line, faces_in, vertex_line}
+use Rattle.where_shells.specs.Lines.{count_words, flag_number, head_lines, edge_words, curve_words, face_line, faces_in, vertex_line}
 
 abbrev pub loop_in : Option FaceUse → ℕ → Option Loop
 loop_in None place = None
@@ -46,14 +46,14 @@ use_words f s (EdgeUse edge along) =
 use_words f s (VertexUse vertex) =
     let key : VertexKey = vertex_name (slice_get s.vertices vertex.0) in codes " vertex" ++ space_word (decimal key.«list».0) ++ space_word (decimal key.index)
 
--- a fact on a tuple of a loop, by its number, from 1, and what it uses
+-- a fact on a tuple of a loop: a word, the tuple's number, from 1, and what it uses
 unfoldable pub tuple_fact : List ℕ → Contents → SolidData → ℕ → LoopUse → List ℕ
-tuple_fact word f s t item = codes " " ++ space_word word ++ codes " tuple" ++ space_word (decimal t) ++ use_words f s item ++ codes "\n"
+tuple_fact word f s t item = count_words word t ++ use_words f s item ++ codes "\n"
 
 -- the two tuples of a gap, where one ends and the other starts; nothing where the loop hasn't both
 unfoldable pub meeting_facts : Contents → SolidData → ℕ → ℕ → Option LoopUse → Option LoopUse → List ℕ
 meeting_facts f s t next (Some this) (Some other) =
-    tuple_fact (codes "this") f s t this ++ vertex_line (codes "  ends") f s (end_of s this) ++ tuple_fact (codes "next") f s next other
+    tuple_fact (codes "  this tuple") f s t this ++ vertex_line (codes "  ends") f s (end_of s this) ++ tuple_fact (codes "  next tuple") f s next other
     ++ vertex_line (codes "  starts") f s (start_of s other)
 meeting_facts f s t next None other = []
 meeting_facts f s t next (Some this) None = []

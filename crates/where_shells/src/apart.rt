@@ -7,44 +7,43 @@ ghost use Rattle.solid_faults.specs.Edges.{shared_of};
 ghost use Rattle.shell_facts.specs.FaceTable.{touches_of};
 ghost use Rattle.where_shells.specs.Apart.{apart_lines, apart_named, apart_text, face_count, in_shell_line, shared_lines, shared_named, shared_text};
 
-use crate::lines::{put_count, put_head, put_vertex_line};
+use crate::lines::{put_count, put_face, put_head, put_vertex_line};
 use crate::view::{Page, ShellView};
 use iges_base::{EntryNo, NoMemory};
-use iges_params::File;
 use shell_facts::FacesUpTo;
 use solid_data::{Rule, VertexId};
-use where_text::{put_face, put_more_facts, put_more_items};
+use where_text::{put_more_facts, put_more_items};
 
 /// How many of the faces at a vertex are written.
 const FACE_LIMIT: usize = 5;
 
 // A line for a face, given with the number of its shell from 0.
 #[tactic(auto, unfolding(crate::specs::Apart::in_shell_line))]
-fn put_in_shell(page: &mut Page, file: &File, face: (u32, EntryNo)) -> Result<(), NoMemory>
-    ensures text { OnOk result (page.new.out ≡ page.old.out ++ in_shell_line file.now face) }
+fn put_in_shell(page: &mut Page, view: &ShellView<'_>, face: (u32, EntryNo)) -> Result<(), NoMemory>
+    ensures text { OnOk result (page.new.out ≡ page.old.out ++ in_shell_line view.now.file.now face) }
     ensures named { OnOk result (page.new.named ≡ page.old.named ++ face.1 ∷ []) }
 {
     put_count(&mut page.out, "  in shell", face.0 as usize + 1)?;
     page.out.put(b" face")?;
-    put_face(&mut page.out, &mut page.named, file, face.1)?;
+    put_face(page, view, face.1)?;
     page.out.put(b"\n")
 }
 
 // Lines for so many of the faces, the first ones.
 fn put_in_shells(
     page: &mut Page,
-    file: &File,
+    view: &ShellView<'_>,
     faces: &FacesUpTo,
     count: usize,
 ) -> Result<(), NoMemory>
     requires { count ≤ length faces.now }
     ensures text { OnOk result (page.new.out
-        ≡ page.old.out ++ flat_map (in_shell_line file.now) (take count faces.now)) }
+        ≡ page.old.out ++ flat_map (in_shell_line view.now.file.now) (take count faces.now)) }
     ensures named { OnOk result (page.new.named
         ≡ page.old.named ++ map (λ (x : ℕ × AnyEntryNo). x.1) (take count faces.now)) }
 {
     'faces: for i in 0..count {
-        put_in_shell(page, file, faces.face(i))?;
+        put_in_shell(page, view, faces.face(i))?;
     }
     Ok(())
 }
@@ -71,7 +70,7 @@ fn put_shared_lines(
 {
     let count = face_count(faces.len());
     put_vertex_line(&mut page.out, view, "vertex", vertex)?;
-    put_in_shells(page, view.file, faces, count)?;
+    put_in_shells(page, view, faces, count)?;
     put_more_facts(&mut page.out, faces.len() - count)
 }
 

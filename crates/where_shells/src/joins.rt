@@ -7,12 +7,14 @@ ghost use Rattle.where_shells.specs.Join.{face_number, gap_face, gap_head, gap_t
 ghost use Rattle.where_shells.specs.Lines.{faces_in};
 ghost use Rattle.where_text.specs.Listing.{shown};
 
-use crate::lines::{put_curve_words, put_edge_words, put_face_line, put_head, put_vertex_line};
+use crate::lines::{
+    put_count, put_curve_words, put_edge_words, put_face_line, put_head, put_vertex_line,
+};
 use crate::view::{Page, ShellView};
 use iges_base::{EntryNo, NoMemory, Out};
 use solid_data::{FaceUse, Loop, LoopAt, LoopUse, Rule};
 use solid_faults::{Gap, ends_at, starts_at};
-use where_text::{put_more_items, put_number, put_word};
+use where_text::{put_more_items, put_number};
 
 fn put_use_words(out: &mut Out, view: &ShellView<'_>, item: LoopUse) -> Result<(), NoMemory>
     ensures { OnOk result (out.new ≡ out.old ++ use_words view.now.file.now view.now.solid.now item) }
@@ -46,10 +48,7 @@ fn put_tuple_fact(
     ensures { OnOk result (out.new ≡ out.old
         ++ tuple_fact word.now view.now.file.now view.now.solid.now tuple item) }
 {
-    out.put(b" ")?;
-    put_word(out, word)?;
-    out.put(b" tuple")?;
-    put_number(out, tuple as u64)?;
+    put_count(out, word, tuple)?;
     put_use_words(out, view, item)?;
     out.put(b"\n")
 }
@@ -74,9 +73,9 @@ fn put_meeting_facts(
     let Some(other) = other else {
         return Ok(());
     };
-    put_tuple_fact(out, view, "this", tuple, *this)?;
+    put_tuple_fact(out, view, "  this tuple", tuple, *this)?;
     put_vertex_line(out, view, "  ends", ends_at(view.solid, *this))?;
-    put_tuple_fact(out, view, "next", next, *other)?;
+    put_tuple_fact(out, view, "  next tuple", next, *other)?;
     put_vertex_line(out, view, "  starts", starts_at(view.solid, *other))
 }
 
@@ -162,7 +161,7 @@ fn put_gap(
     ensures named { OnOk result (page.new.named ≡ page.old.named ++ gap_face faces.now gap ∷ []) }
 {
     put_gap_head(&mut page.out, gap)?;
-    put_face_line(page, view.file, gap_face(faces, gap))?;
+    put_face_line(page, view, gap_face(faces, gap))?;
     let walk = loop_at(faces, gap.at);
     put_loop_at(&mut page.out, view, gap.tuple as usize, walk)
 }

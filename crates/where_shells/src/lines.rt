@@ -4,6 +4,7 @@ ghost use Rattle.brep_lists.specs.Record.{int_at};
 ghost use Rattle.iges_params.specs.Named.{values_of};
 ghost use Rattle.solid_data.specs.SolidData.{vertex_name};
 ghost use Rattle.std.specs.Prelude.{◌≡◌, ◌≤◌, ◌<◌, ◌+◌, ◌-◌, ◌*◌, ◌^◌, ◌++◌, ◌∷◌, [], OnOk, flat_map, pos, slice_get};
+ghost use Rattle.where_text.specs.Places.{face_words, vertex_words};
 ghost use Rattle.where_shells.specs.Lines.{count_words, curve_of, curve_words, edge_words, face_line, head_lines, rule_words, vertex_line};
 
 use crate::view::{Page, ShellView};
@@ -11,9 +12,7 @@ use brep_lists::int_at;
 use iges_base::{EntryNo, NoMemory, Out};
 use iges_params::File;
 use solid_data::{EdgeKey, Rule, ShellAt, VertexId};
-use where_text::{
-    put_face, put_number, put_rule_sentence, put_signed, put_type, put_vertex, put_word,
-};
+use where_text::{put_number, put_rule_sentence, put_signed, put_type, put_word};
 
 /// A word, and how many.
 pub fn put_count(out: &mut Out, word: &str, n: usize) -> Result<(), NoMemory>
@@ -73,6 +72,22 @@ pub fn put_curve_words(out: &mut Out, file: &File, key: EdgeKey) -> Result<(), N
     put_type(out, file, curve)
 }
 
+/// The words of a vertex.
+pub fn put_vertex(out: &mut Out, view: &ShellView<'_>, vertex: VertexId) -> Result<(), NoMemory>
+    ensures { OnOk result (out.new ≡ out.old
+        ++ vertex_words view.now.file.now (vertex_name (slice_get view.now.solid.now.vertices vertex.0))) }
+{
+    view.spelled.put_vertex(out, vertex)
+}
+
+/// The words of a face, which joins those that are named.
+pub fn put_face(page: &mut Page, view: &ShellView<'_>, face: EntryNo) -> Result<(), NoMemory>
+    ensures text { OnOk result (page.new.out ≡ page.old.out ++ face_words view.now.file.now face) }
+    ensures named { OnOk result (page.new.named ≡ page.old.named ++ face ∷ []) }
+{
+    view.spelled.put_face(&mut page.out, &mut page.named, face)
+}
+
 /// A vertex after a word.
 #[tactic(auto, unfolding(crate::specs::Lines::vertex_line))]
 pub fn put_vertex_line(
@@ -85,17 +100,17 @@ pub fn put_vertex_line(
         ++ vertex_line word.now view.now.file.now view.now.solid.now vertex) }
 {
     out.put(word.as_bytes())?;
-    put_vertex(out, view.file, view.solid.vertex_key(VertexId(vertex)))?;
+    put_vertex(out, view, VertexId(vertex))?;
     out.put(b"\n")
 }
 
 /// A face, which joins those that are named.
 #[tactic(auto, unfolding(crate::specs::Lines::face_line))]
-pub fn put_face_line(page: &mut Page, file: &File, face: EntryNo) -> Result<(), NoMemory>
-    ensures text { OnOk result (page.new.out ≡ page.old.out ++ face_line file.now face) }
+pub fn put_face_line(page: &mut Page, view: &ShellView<'_>, face: EntryNo) -> Result<(), NoMemory>
+    ensures text { OnOk result (page.new.out ≡ page.old.out ++ face_line view.now.file.now face) }
     ensures named { OnOk result (page.new.named ≡ page.old.named ++ face ∷ []) }
 {
     page.out.put(b"  face")?;
-    put_face(&mut page.out, &mut page.named, file, face)?;
+    put_face(page, view, face)?;
     page.out.put(b"\n")
 }

@@ -10,16 +10,15 @@ ghost use Rattle.shell_facts.specs.FanFacts.{AreVertexTables};
 ghost use Rattle.where_shells.specs.Link.{fact_faces, fact_line, link_lines, link_named, link_text, loop_words, place_faces, place_words, point_line, row_line, row_words, unlinked_lines, unlinked_named, unlinked_text, walk_faces, walk_words};
 ghost use Rattle.where_shells.specs.Lines.{edge_words, faces_in};
 
-use crate::lines::{put_count, put_edge_words, put_head};
+use crate::lines::{put_count, put_edge_words, put_face, put_head, put_vertex};
 use crate::view::{Page, ShellView};
 use edge_uses::{Paired, Row};
 use iges_base::{NoMemory, Out};
-use iges_params::File;
 use shell_facts::{AtVertex, RowPlace, VertexTables, around, row_places, vertex_tables};
 use solid_data::{FaceUse, Loop, LoopAt, RowId, Rule};
 use solid_faults::{Linking, Unlinked};
 use std::alloc::Global;
-use where_text::{put_face, put_more_facts, put_more_items, put_vertex};
+use where_text::{put_more_facts, put_more_items};
 
 /// The faces of a shell, its rows, where each row is, the least row of the fan of each, and the tables by which what lies at a
 /// vertex is found.
@@ -33,15 +32,15 @@ struct Fans<'a> {
 }
 
 // The face, the loop and the tuple of a row.
-fn put_place(page: &mut Page, file: &File, place: Option<RowPlace>) -> Result<(), NoMemory>
-    ensures text { OnOk result (page.new.out ≡ page.old.out ++ place_words file.now place) }
+fn put_place(page: &mut Page, view: &ShellView<'_>, place: Option<RowPlace>) -> Result<(), NoMemory>
+    ensures text { OnOk result (page.new.out ≡ page.old.out ++ place_words view.now.file.now place) }
     ensures named { OnOk result (page.new.named ≡ page.old.named ++ place_faces place) }
 {
     let Some(place) = place else {
         return Ok(());
     };
     page.out.put(b" face")?;
-    put_face(&mut page.out, &mut page.named, file, place.face)?;
+    put_face(page, view, place.face)?;
     put_count(&mut page.out, " loop", place.walk.0 as usize)?;
     put_count(&mut page.out, " tuple", place.tuple as usize)
 }
@@ -56,7 +55,7 @@ fn put_row(out: &mut Out, view: &ShellView<'_>, row: Option<Row>) -> Result<(), 
     out.put(b" edge")?;
     put_edge_words(out, view.solid.edge_key(row.edge))?;
     out.put(b" to")?;
-    put_vertex(out, view.file, view.solid.vertex_key(row.to))
+    put_vertex(out, view, row.to)
 }
 
 fn put_loop(out: &mut Out, walk: Option<&Loop>) -> Result<(), NoMemory>
@@ -71,12 +70,12 @@ fn put_loop(out: &mut Out, walk: Option<&Loop>) -> Result<(), NoMemory>
 // A face, and its loop at a place from 0.
 fn put_walk(
     page: &mut Page,
-    file: &File,
+    view: &ShellView<'_>,
     face: Option<&FaceUse>,
     place: u32,
 ) -> Result<(), NoMemory>
     ensures text { OnOk result (page.new.out ≡ page.old.out
-        ++ walk_words file.now (option_copied face.entry) place) }
+        ++ walk_words view.now.file.now (option_copied face.entry) place) }
     ensures named { OnOk result (page.new.named
         ≡ page.old.named ++ walk_faces (option_copied face.entry)) }
 {
@@ -84,7 +83,7 @@ fn put_walk(
         return Ok(());
     };
     page.out.put(b" face")?;
-    put_face(&mut page.out, &mut page.named, file, face.entity)?;
+    put_face(page, view, face.entity)?;
     put_loop(&mut page.out, face.loops.get(place as usize))
 }
 
@@ -114,7 +113,7 @@ fn put_row_line(
         ++ place_faces (slice_get fans.now.places.now row.0)) }
 {
     put_count(&mut page.out, "  fan", fan)?;
-    put_place(page, view.file, place_at(fans.places, row))?;
+    put_place(page, view, place_at(fans.places, row))?;
     put_row(&mut page.out, view, fans.paired.rows().row(row))?;
     page.out.put(b"\n")
 }
@@ -122,17 +121,17 @@ fn put_row_line(
 #[tactic(auto, unfolding(crate::specs::Link::point_line))]
 fn put_point_line(
     page: &mut Page,
-    file: &File,
+    view: &ShellView<'_>,
     faces: &[FaceUse],
     walk: LoopAt,
 ) -> Result<(), NoMemory>
     ensures text { OnOk result (page.new.out
-        ≡ page.old.out ++ point_line file.now faces.now walk) }
+        ≡ page.old.out ++ point_line view.now.file.now faces.now walk) }
     ensures named { OnOk result (page.new.named ≡ page.old.named
         ++ walk_faces (slice_get faces.now walk.face.0)) }
 {
     page.out.put(b"  point")?;
-    put_walk(page, file, face_at(faces, walk.face.0), walk.place)?;
+    put_walk(page, view, face_at(faces, walk.face.0), walk.place)?;
     page.out.put(b"\n")
 }
 
@@ -150,7 +149,7 @@ fn put_fact(
 {
     match fact {
         AtVertex::OnFan { fan, row } => put_row_line(page, view, fans, fan, row),
-        AtVertex::Alone { walk } => put_point_line(page, view.file, fans.faces, walk),
+        AtVertex::Alone { walk } => put_point_line(page, view, fans.faces, walk),
     }
 }
 
@@ -187,11 +186,7 @@ fn put_unlinked_lines(
 {
     let count = view.listing.count(facts.len());
     page.out.put(b"vertex")?;
-    put_vertex(
-        &mut page.out,
-        view.file,
-        view.solid.vertex_key(vertex.vertex),
-    )?;
+    put_vertex(&mut page.out, view, vertex.vertex)?;
     put_count(&mut page.out, " fans", vertex.fans as usize)?;
     put_count(&mut page.out, " points", vertex.points as usize)?;
     page.out.put(b"\n")?;

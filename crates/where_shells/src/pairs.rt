@@ -9,7 +9,7 @@ ghost use Rattle.std.specs.Prelude.{◌≡◌, ℕ, ◌<◌, ◌-◌, ◌++◌, 
 ghost use Rattle.where_shells.specs.Pair.{edge_facts, edge_head, edge_named, edge_text, flag_in, flag_words, pair_lines, pair_named, pair_text, place_fact, row_fact, row_facts, row_named, rows_named, tuple_words, usage_words, way_word};
 ghost use Rattle.where_text.specs.Listing.{shown};
 
-use crate::lines::{put_curve_words, put_edge_words, put_rule, put_vertex_line};
+use crate::lines::{put_curve_words, put_edge_words, put_face, put_rule, put_vertex_line};
 use crate::view::{Page, ShellView};
 use edge_uses::Rows;
 use iges_base::{NoMemory, Out};
@@ -17,9 +17,7 @@ use shell_facts::{Groups, RowPlace, row_places, rows_by_edge};
 use solid_data::{EdgeId, EdgeKey, Rule};
 use solid_faults::{Unpaired, begins_at, use_counts};
 use std::alloc::Global;
-use where_text::{
-    put_face, put_more_facts, put_more_items, put_number, put_rule_sentence, put_word,
-};
+use where_text::{put_more_facts, put_more_items, put_number, put_rule_sentence, put_word};
 
 fn way_word(along: bool) -> &'static str
     ensures { result.now ≡ way_word along }
@@ -71,7 +69,7 @@ fn put_place(
     page.out.put(b" ")?;
     put_word(&mut page.out, way_word(place.along))?;
     page.out.put(b" face")?;
-    put_face(&mut page.out, &mut page.named, view.file, place.face)?;
+    put_face(page, view, place.face)?;
     put_tuple_words(&mut page.out, place)?;
     put_flag_words(&mut page.out, shell_flag, place)?;
     page.out.put(b"\n")

@@ -12,7 +12,6 @@ ghost use Rattle.where_shells.specs.Reach.{part_head, part_lines, part_text, par
 use crate::lines::{put_count, put_face_line, put_rule, put_vertex_line};
 use crate::view::{Page, ShellView};
 use iges_base::{EntryNo, NoMemory, Out};
-use iges_params::File;
 use shell_facts::{Part, PartTables, part_tables, parts};
 use solid_data::{Rule, ShellAt};
 use solid_faults::{Unpaired, apart_in};
@@ -55,13 +54,13 @@ fn put_touches(out: &mut Out, view: &ShellView<'_>, vertices: &[u32]) -> Result<
     Ok(())
 }
 
-fn put_faces(page: &mut Page, file: &File, faces: &[EntryNo]) -> Result<(), NoMemory>
+fn put_faces(page: &mut Page, view: &ShellView<'_>, faces: &[EntryNo]) -> Result<(), NoMemory>
     ensures text { OnOk result (page.new.out
-        ≡ page.old.out ++ flat_map (face_line file.now) faces.now) }
+        ≡ page.old.out ++ flat_map (face_line view.now.file.now) faces.now) }
     ensures named { OnOk result (page.new.named ≡ page.old.named ++ faces.now) }
 {
     'faces: for i in 0..faces.len() {
-        put_face_line(page, file, faces[i])?;
+        put_face_line(page, view, faces[i])?;
     }
     Ok(())
 }
@@ -86,7 +85,7 @@ fn put_part(
     put_vertex_line(&mut page.out, view, "  at", least(part.vertices.as_slice()))?;
     put_touches(&mut page.out, view, &touching[..touch_count])?;
     put_more_facts(&mut page.out, touching.len() - touch_count)?;
-    put_faces(page, view.file, &faces[..face_count])?;
+    put_faces(page, view, &faces[..face_count])?;
     put_more_facts(&mut page.out, faces.len() - face_count)
 }
 

@@ -4,7 +4,7 @@ ghost use Rattle.edge_uses.specs.ShellRows.{rows_of};
 ghost use Rattle.shell_facts.specs.FaceTable.{touches_of};
 ghost use Rattle.solid_data.specs.declared.solid.Shell.{Shell as AnyShell};
 ghost use Rattle.solid_faults.specs.Faults.{AreFaults};
-ghost use Rattle.std.specs.Prelude.{◌≡◌, ◌++◌, ◌∷◌, ◌<◌, OnOk, Some, flat_map, length, slice_get};
+ghost use Rattle.std.specs.Prelude.{◌≡◌, ◌++◌, ◌∷◌, ◌<◌, IfOk, OnOk, Some, flat_map, length, slice_get};
 ghost use Rattle.solid_hints.specs.AllFaults.{AreAllFaults};
 ghost use Rattle.where_solids.specs.Lines.{line_at};
 ghost use Rattle.where_solids.specs.ShellTexts.{fault_faces, fault_paragraphs, named_at, paragraphs_at};
@@ -17,8 +17,10 @@ use shell_facts::{VertexFaces, faces_by_vertex};
 use solid_data::{Shell, ShellAt};
 use solid_faults::ShellFaults;
 use solid_hints::HintedSolid;
+use spelled_solid::SpelledSolid;
 use std::alloc::Global;
 use where_shells::{Page, ShellView};
+use where_text::Listing;
 
 fn put_line(alloc: Global, out: &mut Out, view: &HintedSolid<'_>, k: u32) -> Result<(), NoMemory>
     ensures { OnOk result (out.new ≡ out.old ++ line_at view.now.solid.now view.now.all.now k) }
@@ -80,9 +82,11 @@ fn put_shell(
     page: &mut Page,
     view: &HintedSolid<'_>,
     faces: &VertexFaces,
+    spelled: &SpelledSolid<'_>,
     k: u32,
 ) -> Result<(), NoMemory>
     requires faults { AreAllFaults view.now.solid.now view.now.all.now }
+    requires spelled { spelled.now ≡ record { file = view.now.file.now; solid = view.now.solid.now } }
     requires faces { faces.now ≡ touches_of view.now.solid.now }
     ensures paragraphs { OnOk result (page.new.out ≡ page.old.out
         ++ paragraphs_at view.now.listing view.now.file.now view.now.solid.now view.now.all.now k) }
@@ -100,6 +104,7 @@ fn put_shell(
     let described = ShellView {
         file: view.file,
         solid: view.solid,
+        spelled,
         at,
         rows: &rows,
         faces,
@@ -115,9 +120,11 @@ fn put_each(
     page: &mut Page,
     view: &HintedSolid<'_>,
     faces: &VertexFaces,
+    spelled: &SpelledSolid<'_>,
     shells: &[u32],
 ) -> Result<(), NoMemory>
     requires faults { AreAllFaults view.now.solid.now view.now.all.now }
+    requires spelled { spelled.now ≡ record { file = view.now.file.now; solid = view.now.solid.now } }
     requires faces { faces.now ≡ touches_of view.now.solid.now }
     ensures paragraphs { OnOk result (page.new.out ≡ page.old.out
         ++ flat_map (paragraphs_at view.now.listing view.now.file.now view.now.solid.now view.now.all.now) shells.now) }
@@ -125,9 +132,19 @@ fn put_each(
         ++ flat_map (named_at view.now.listing view.now.solid.now view.now.all.now) shells.now) }
 {
     'shells: for i in 0..shells.len() {
-        put_shell(alloc, page, view, faces, shells[i])?;
+        put_shell(alloc, page, view, faces, spelled, shells[i])?;
     }
     Ok(())
+}
+
+// The solid, spelled where many of its parts may be named.
+fn spelled<'a>(alloc: Global, view: &HintedSolid<'a>) -> Result<SpelledSolid<'a>, NoMemory>
+    ensures { IfOk result (λ s. s ≡ record { file = view.now.file.now; solid = view.now.solid.now }) }
+{
+    match view.listing {
+        Listing::Few => Ok(SpelledSolid::new(alloc, view.file, view.solid)),
+        Listing::All => SpelledSolid::spell(alloc, view.file, view.solid),
+    }
 }
 
 /// The paragraphs of these shells, given by their numbers from 0. The shells, and the entities that their paragraphs name,
@@ -148,7 +165,9 @@ pub fn put_paragraphs(
         return Ok(());
     }
     let faces = faces_by_vertex(alloc, view.solid)?;
-    let put = put_each(alloc, page, view, &faces, shells);
+    let spelled = spelled(alloc, view)?;
+    let put = put_each(alloc, page, view, &faces, &spelled, shells);
+    drop(spelled);
     drop(faces);
     put
 }

@@ -9,7 +9,7 @@ pub faces-preserved : goal.faces-preserved
 faces-preserved c =
     let here = among_first c.args.faces.now c.faces.i c.args.count c.face.result c.faces-test.true c.face.ensures in
     record {
-      text = plain_step (in_shell_line c.args.file.now) (take c.args.count c.args.faces.now) c.face.result c.faces.i c.faces.page.out
+      text = plain_step (in_shell_line c.args.view.now.file.now) (take c.args.count c.args.faces.now) c.face.result c.faces.i c.faces.page.out
           c.put_in_shell.new.page.out _ here
           c.faces.invariant.text c.in_ok-put_in_shell.ensures.text;
       named = mapped_step (λ (x : ℕ × EntryNo). x.1) (take c.args.count c.args.faces.now) c.face.result c.faces.i c.face.result.1 c.faces.page.named

@@ -5,8 +5,8 @@ use Rattle.where_shells.proofs.apart.put_in_shells.Given as goal
 
 abbrev pub invariant-faces : goal.invariant-faces
 invariant-faces l = record {
-  text : l.page.out ++ flat_map (in_shell_line l.file) (drop l.i (take l.count l.faces)) ≡ l.fn.page.out
-      ++ flat_map (in_shell_line l.file) (take l.count l.faces);
+  text : l.page.out ++ flat_map (in_shell_line l.view.file.now) (drop l.i (take l.count l.faces)) ≡ l.fn.page.out
+      ++ flat_map (in_shell_line l.view.file.now) (take l.count l.faces);
   named : l.page.named ++ map (λ (x : ℕ × EntryNo). x.1) (drop l.i (take l.count l.faces)) ≡ l.fn.page.named
       ++ map (λ (x : ℕ × EntryNo). x.1) (take l.count l.faces);
 }

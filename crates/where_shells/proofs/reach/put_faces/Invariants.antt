@@ -4,6 +4,6 @@ use Rattle.where_shells.proofs.reach.put_faces.Given as goal
 
 abbrev pub invariant-faces : goal.invariant-faces
 invariant-faces l = record {
-  text : l.page.out ++ flat_map (face_line l.file) (drop l.i l.faces) ≡ l.fn.page.out ++ flat_map (face_line l.file) l.faces;
+  text : l.page.out ++ flat_map (face_line l.view.file.now) (drop l.i l.faces) ≡ l.fn.page.out ++ flat_map (face_line l.view.file.now) l.faces;
   named : l.page.named ++ drop l.i l.faces ≡ l.fn.page.named ++ l.faces;
 }
