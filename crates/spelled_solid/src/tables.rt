@@ -31,23 +31,28 @@ fn keep(alloc: Global, words: &mut Vec<Bytes>, n: u32, text: Bytes) -> Result<()
     Ok(())
 }
 
-// A vertex as `put_vertex` appends it.
-fn vertex_text(alloc: Global, file: &File, key: VertexKey) -> Result<Bytes, NoMemory>
-    ensures { IfOk result (λ text. text ≡ vertex_words file.now key) }
+// A vertex as `put_vertex` appends it. The text before is lost.
+fn vertex_text(
+    alloc: Global,
+    text: &mut Out,
+    file: &File,
+    key: VertexKey,
+) -> Result<Bytes, NoMemory>
+    ensures { IfOk result (λ words. words ≡ vertex_words file.now key) }
 {
-    let mut out = Out::new(alloc);
-    put_vertex(&mut out, file, key)?;
-    Ok(out.into_bytes())
+    text.cut(0);
+    put_vertex(text, file, key)?;
+    Bytes::copy(alloc, text.bytes())
 }
 
-// A face as `put_face` appends it.
-fn face_text(alloc: Global, file: &File, face: EntryNo) -> Result<Bytes, NoMemory>
-    ensures { IfOk result (λ text. text ≡ face_words file.now face) }
+// A face as `put_face` appends it. The text before is lost.
+fn face_text(alloc: Global, text: &mut Out, file: &File, face: EntryNo) -> Result<Bytes, NoMemory>
+    ensures { IfOk result (λ words. words ≡ face_words file.now face) }
 {
-    let mut out = Out::new(alloc);
     let mut named = EntryNumbers::new(alloc);
-    put_face(&mut out, &mut named, file, face)?;
-    Ok(out.into_bytes())
+    text.cut(0);
+    put_face(text, &mut named, file, face)?;
+    Bytes::copy(alloc, text.bytes())
 }
 
 // A count of parts as a number of 32 bits.
@@ -65,10 +70,12 @@ pub fn vertex_table(alloc: Global, file: &File, solid: &Solid) -> Result<Vec<Byt
     ensures { IfOk result (λ words. AreWords (vertex_named file.now solid.now) words.items) }
 {
     let count = short(solid.vertex_count())?;
+    let mut text = Out::new(alloc);
     let mut words = Vec::new(alloc);
     'vertices: for vertex in 0..count {
-        let text = vertex_text(alloc, file, solid.vertex_key(VertexId(vertex)))?;
-        keep(alloc, &mut words, vertex, text)?;
+        let key = solid.vertex_key(VertexId(vertex));
+        let told = vertex_text(alloc, &mut text, file, key)?;
+        keep(alloc, &mut words, vertex, told)?;
     }
     Ok(words)
 }
@@ -84,10 +91,11 @@ fn keep_faces(
         → AreWords (face_named file.now) words.new.items) }
 {
     let faces = shell.faces.as_slice();
+    let mut text = Out::new(alloc);
     'faces: for i in 0..faces.len() {
         let face = faces[i].entity;
-        let text = face_text(alloc, file, face)?;
-        keep(alloc, words, face.0, text)?;
+        let told = face_text(alloc, &mut text, file, face)?;
+        keep(alloc, words, face.0, told)?;
     }
     Ok(())
 }
