@@ -48,12 +48,12 @@ use_words f s (VertexUse vertex) =
 
 -- a fact on a tuple of a loop: a word, the tuple's number, from 1, and what it uses
 unfoldable pub tuple_fact : List ℕ → Contents → SolidData → ℕ → LoopUse → List ℕ
-tuple_fact word f s t item = count_words word t ++ use_words f s item ++ codes "\n"
+tuple_fact word f s t item = word ++ count_words (codes " tuple") t ++ use_words f s item ++ codes "\n"
 
 -- the two tuples of a gap, where one ends and the other starts; nothing where the loop hasn't both
 unfoldable pub meeting_facts : Contents → SolidData → ℕ → ℕ → Option LoopUse → Option LoopUse → List ℕ
 meeting_facts f s t next (Some this) (Some other) =
-    tuple_fact (codes "  this tuple") f s t this ++ vertex_line (codes "  ends") f s (end_of s this) ++ tuple_fact (codes "  next tuple") f s next other
+    tuple_fact (codes "  this") f s t this ++ vertex_line (codes "  ends") f s (end_of s this) ++ tuple_fact (codes "  next") f s next other
     ++ vertex_line (codes "  starts") f s (start_of s other)
 meeting_facts f s t next None other = []
 meeting_facts f s t next (Some this) None = []

@@ -48,7 +48,8 @@ fn put_tuple_fact(
     ensures { OnOk result (out.new ≡ out.old
         ++ tuple_fact word.now view.now.file.now view.now.solid.now tuple item) }
 {
-    put_count(out, word, tuple)?;
+    out.put(word.as_bytes())?;
+    put_count(out, " tuple", tuple)?;
     put_use_words(out, view, item)?;
     out.put(b"\n")
 }
@@ -73,9 +74,9 @@ fn put_meeting_facts(
     let Some(other) = other else {
         return Ok(());
     };
-    put_tuple_fact(out, view, "  this tuple", tuple, *this)?;
+    put_tuple_fact(out, view, "  this", tuple, *this)?;
     put_vertex_line(out, view, "  ends", ends_at(view.solid, *this))?;
-    put_tuple_fact(out, view, "  next tuple", next, *other)?;
+    put_tuple_fact(out, view, "  next", next, *other)?;
     put_vertex_line(out, view, "  starts", starts_at(view.solid, *other))
 }
 

@@ -1,5 +1,7 @@
 //! A shell that is described, and the text on it.
 
+ghost use Rattle.std.specs.Prelude.{◌≡◌};
+
 use edge_uses::Rows;
 use iges_base::Out;
 use iges_params::File;

@@ -1,6 +1,6 @@
 -- A text that is put together piece by piece.
 use Rattle.std.specs.Prelude.{◌≡◌, ◌<◌, ◌≤◌, ◌+◌, ℕ, suc, List, [], ◌∷◌, ◌++◌, Bool, length, map, filter, flat_map, Result, Ok, Err, OnOk}
-use Rattle.std.proofs.Common.{refl, sym, ◌∙◌, ap, arith, get_or, drop, append_assoc}
+use Rattle.std.proofs.Common.{sym, ◌∙◌, ap, arith, get_or, drop, append_assoc}
 use Rattle.std.proofs.lemmas.List.{drop_all, append-nil, length-take}
 use Rattle.std.proofs.lemmas.List.Elements.{filter-append}
 use Rattle.std.proofs.Math.Seq.{drop-cons}

@@ -1,4 +1,4 @@
-use Rattle.std.proofs.Common.{◌≡◌, ap, take}
+use Rattle.std.proofs.Common.{ap, take}
 use Rattle.std.proofs.lemmas.Result.{on_ok_weaker}
 use Rattle.where_shells.proofs.Paragraphs.{pair_told}
 use Rattle.where_shells.proofs.pairs.put_pair_lines.Goals as goal
