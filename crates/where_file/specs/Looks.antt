@@ -172,6 +172,6 @@ line_kind_text line_kind.TwoCrs = codes "hint looks-like two-crs\n  The line end
 line_kind_text line_kind.CrAlone = codes "hint looks-like cr-alone\n  The line has a CR inside: lines that end in CR alone, as on old Macs.\n"
 line_kind_text line_kind.Tabs = codes "hint looks-like tabs\n  The line has a tab: an editor has put it for several spaces.\n"
 line_kind_text line_kind.Utf8 = codes "hint looks-like utf-8\n  The line has 80 characters but more bytes: letters that aren't ASCII, in\n  UTF-8. Columns count bytes.\n"
-line_kind_text line_kind.NoNumbers = codes "hint looks-like no-numbers\n  The line has 72 columns: the letters and numbers in columns 73 to 80 were\n  cut off.\n"
+line_kind_text line_kind.NoNumbers = codes "hint looks-like no-numbers\n  The line has 72 columns: what columns 73 to 80 should hold, the section's\n  letter and the line's number, was cut off or stands in the next line.\n"
 line_kind_text line_kind.Blank = codes "hint looks-like blank\n  The line is blank.\n"
 line_kind_text line_kind.CutOff = codes "hint looks-like cut-off\n  The file ends within this line: it was cut off. Fetch it again.\n"

@@ -72,7 +72,7 @@ fn line_kind_text(kind: LineKind) -> &'static str
             "hint looks-like utf-8\n  The line has 80 characters but more bytes: letters that aren't ASCII, in\n  UTF-8. Columns count bytes.\n"
         },
         LineKind::NoNumbers => {
-            "hint looks-like no-numbers\n  The line has 72 columns: the letters and numbers in columns 73 to 80 were\n  cut off.\n"
+            "hint looks-like no-numbers\n  The line has 72 columns: what columns 73 to 80 should hold, the section's\n  letter and the line's number, was cut off or stands in the next line.\n"
         },
         LineKind::Blank => { "hint looks-like blank\n  The line is blank.\n" },
         LineKind::CutOff => {

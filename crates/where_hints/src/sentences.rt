@@ -45,37 +45,37 @@ fn hint_sentence(hint: Hint) -> &'static str
 {
     match hint {
         Hint::StrayFaces => {
-            "  No edge that is used once each way joins these faces to the rest of the\n  shell, and the rest is closed without them. They're left over: a copy of a\n  face, a patch that was replaced, a rib that juts out. Delete them; there is\n  no hole to fill.\n"
+            "  No edge that is used once each way joins these faces to the rest of the\n  shell, and each piece of that rest is closed by itself. If they are left\n  over (a copy of a face, a patch that was replaced, a rib that juts out),\n  delete them. If they are a body that lacks a face, close it, and write it as\n  a solid of its own.\n"
         }
         Hint::Bodies => {
-            "  Cut at the edges that aren't paired, the shell falls into pieces, and each\n  of these is closed by itself. Write each as a solid of its own, with edges\n  and vertices of its own; if one lies inside of another, write it as a void\n  of that solid.\n"
+            "  Cut at the edges that aren't paired, the shell falls into pieces, and each\n  of those below is closed by itself. If they are bodies, write each as a\n  solid of its own, with edges and vertices of its own; if one lies inside of\n  another, write it as a void of that solid.\n"
         }
         Hint::DoubledFaces => {
-            "  Each of these faces uses the very same edges as an earlier face of the\n  shell: it's there twice. Without the later ones the shell is closed. Delete\n  them.\n"
+            "  Each of these faces uses the very same edges as an earlier face of the\n  shell, and without the later ones the shell is closed. If they lie on the\n  same surfaces, delete them. If not, as a disc under a dome, find out which\n  of the two belongs to the body.\n"
         }
         Hint::ExtraFaces => {
-            "  Without these faces the shell is closed. Either they're a wall inside of the\n  body, or a copy of other faces: delete them. Or two bodies share them as a\n  wall: write each as a solid of its own, with its own copy of the wall.\n"
+            "  Without these faces the shell is closed; it may be so without others\n  instead. If they are a wall inside of the body, or a copy of other faces,\n  delete them. If two bodies share them as a wall, write each as a solid of\n  its own, with its own copy of the wall.\n"
         }
         Hint::Unsewn => {
-            "  No face is missing, but neighbours have edges and vertices of their own.\n  With vertices taken as one where their coordinates are spelled alike, and\n  edges used once as one where two lie between the same places, the shell is\n  closed. Sew (join, knit, stitch) the faces and write the file again.\n"
+            "  With vertices taken as one where their coordinates are spelled alike, and\n  edges used once as one where two lie between the same places, the shell is\n  closed. If these edges lie on the same curves, sew (join, knit, stitch) the\n  faces and write the file again. If two are different curves, as the halves\n  of a circle are, a face may be missing between them.\n"
         }
         Hint::MissingFaces => {
-            "  Only faces are missing: taken as an open shell this one is sound, as\n  igesolid open certifies. Each rim is a ring of edges with a face on one side\n  only. Fill it with a face; two rims may also be the ends of one missing\n  wall.\n"
+            "  Taken as an open shell this one is sound, as igesolid open certifies. Each\n  rim is a ring of edges with a face on one side only. If a face is missing\n  there, fill the rim with one; two rims may also be the ends of one missing\n  wall. If neighbours have edges of their own there, sew them, with a\n  tolerance where coordinates differ.\n"
         }
         Hint::Turned => {
-            "  These faces are inside out against the others that edges join them to: with\n  their flags changed (their normals reversed) each edge there that is used\n  twice is used once each way. This is the smaller of the two sides; igesolid\n  reorient FILE N writes the solid with flags that fit, if some do.\n"
+            "  These faces run against the others that edges join them to: with their flags\n  changed (their normals reversed) each edge there that is used twice is used\n  once each way. This is the smaller of the two sides. igesolid reorient FILE\n  N writes the solid with flags that fit, or says why it can't.\n"
         }
         Hint::Touching => {
-            "  These edges are used more than twice, as often along as against: bodies, or\n  two sides of one, touch along the edge, and there is no thickness there.\n  Some systems accept this. Part the sides, or let them overlap; if the touch\n  is meant, give each two faces that bound the same side an edge of their own.\n"
+            "  These edges are used more than twice, as often along as against, as where\n  bodies, or two sides of one, touch along an edge without thickness. Some\n  systems accept this. Part the sides, or let them overlap; if the touch is\n  meant, give each two faces that bound the same side an edge of their own.\n"
         }
         Hint::Crowded => {
-            "  These edges are used more than twice, but not as often along as against: a\n  face stands inside of the body, juts out of it, or is there twice. Delete\n  it, or split the solid along it.\n"
+            "  These edges are used more than twice, but not as often along as against, as\n  where a face stands inside of the body, juts out of it, or is there twice.\n  Delete such a face, or split the solid along it.\n"
         }
         Hint::Pinch => {
-            "  Here the body touches itself at a point only, and has no thickness. Part the\n  sides that meet, or let them overlap. If the touch is meant, give each fan a\n  vertex of its own with the same coordinates: then LINK holds.\n"
+            "  Several fans of faces meet here, as where a body touches itself at a point\n  without thickness. Part the sides that meet, or let them overlap. If the\n  touch is meant, give each fan a vertex of its own with the same coordinates:\n  then LINK holds.\n"
         }
         Hint::TouchingShells => {
-            "  This shell touches an earlier one of the solid, so there is no thickness\n  between them. Move it away, or merge the two into one void. If the touch is\n  meant, give it edges and vertices of its own: then the shells share none.\n"
+            "  This shell has vertices of an earlier one of the solid, as where the two\n  touch without thickness between them. Move it away, or merge the two into\n  one void. If the touch is meant, give it edges and vertices of its own: then\n  the shells share none.\n"
         }
     }
 }

@@ -9,10 +9,10 @@ use Rattle.where_unjudged.specs.Counts.{count_of_type}
 use Rattle.where_unjudged.specs.Lines.{form_of}
 
 unfoldable pub loose_shells_hint : List ℕ
-loose_shells_hint = codes "hint loose-shells\n  No solid names these shells, so nothing is said of them. To judge one by\n  itself, as an open or a closed one, run igesolid open with its number.\n  Shells of one face each are as a rule faces that were never sewn.\n"
+loose_shells_hint = codes "hint loose-shells\n  No solid whose record fits names these shells, so nothing is said of them.\n  To judge one by itself, as an open or a closed one, run igesolid open with\n  its number. Shells of one face each are as a rule faces that were never\n  sewn.\n"
 
 unfoldable pub loose_faces_hint : List ℕ
-loose_faces_hint = codes "hint loose-faces\n  No shell names these faces, so nothing is said of them. Sew them into a\n  solid and write the file again.\n"
+loose_faces_hint = codes "hint loose-faces\n  No shell whose record fits names these faces, so nothing is said of them. If\n  they belong to a solid, sew them and write the file again.\n"
 
 unfoldable pub trimmed_hint : List ℕ
 trimmed_hint = codes "hint trimmed\n  Trimmed and bounded surfaces (144, 143) share no edges, so whether they\n  close can't be told from them. Sew them in the CAD system and write solids\n  (186, often called B-rep mode).\n"

@@ -13,10 +13,10 @@ use iges_params::File;
 use where_text::EntryNumbers;
 
 const LOOSE_SHELLS: &str =
-    "hint loose-shells\n  No solid names these shells, so nothing is said of them. To judge one by\n  itself, as an open or a closed one, run igesolid open with its number.\n  Shells of one face each are as a rule faces that were never sewn.\n";
+    "hint loose-shells\n  No solid whose record fits names these shells, so nothing is said of them.\n  To judge one by itself, as an open or a closed one, run igesolid open with\n  its number. Shells of one face each are as a rule faces that were never\n  sewn.\n";
 
 const LOOSE_FACES: &str =
-    "hint loose-faces\n  No shell names these faces, so nothing is said of them. Sew them into a\n  solid and write the file again.\n";
+    "hint loose-faces\n  No shell whose record fits names these faces, so nothing is said of them. If\n  they belong to a solid, sew them and write the file again.\n";
 
 const TRIMMED: &str =
     "hint trimmed\n  Trimmed and bounded surfaces (144, 143) share no edges, so whether they\n  close can't be told from them. Sew them in the CAD system and write solids\n  (186, often called B-rep mode).\n";
