@@ -20,7 +20,7 @@ mod spanning;
 mod table;
 mod tally;
 
-pub use apart::{first_shared, vertices_before};
+pub use apart::first_shared;
 pub use before::VerticesBefore;
 pub use cells::{Cells, place_of};
 pub use fault::PairFault;

@@ -146,8 +146,8 @@ fn flagged(alloc: Global, solid: &Solid) -> Result<Solid, NoMemory>
 }
 
 /// Whether a solid is closed where every flag of a face in its shell is read as 1. Where a
-/// solid isn't closed and this is true, no face is missing: either faces are turned, or who wrote
-/// the file let these flags speak of the surface alone. It copies the solid.
+/// solid isn't closed and this is true, faces may be turned, or who wrote the file may have let
+/// these flags speak of the surface alone. It copies the solid.
 pub fn is_closed_flagged(alloc: Global, solid: &Solid) -> Result<bool, NoMemory>
     ensures { IfOk result (λ b. IsTrue b ↔ IsClosedFlagged solid.now) }
 {

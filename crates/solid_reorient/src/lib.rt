@@ -10,5 +10,4 @@ mod table;
 pub use law::{
     one_reorientation, reflagged_is_extracted, reflagged_is_made, reflagged_solid_is_turned,
 };
-pub use reflagging::reflagged;
 pub use reorienting::into_reorient;

@@ -1,23 +1,11 @@
 //! The label of an entity.
 
-ghost use Rattle.iges_base.specs.Word.{trim};
 ghost use Rattle.std.specs.Prelude.{◌≡◌, ◌++◌, OnOk};
 ghost use Rattle.where_entities.specs.Facts.{label_fact};
 
-use iges_fields::{NoMemory, Out, without_front_spaces};
+use iges_base::trimmed;
+use iges_fields::{NoMemory, Out};
 use where_text::put_masked;
-
-// A text without the spaces at its two ends.
-fn trimmed(text: &[u8]) -> &[u8]
-    ensures { result.now ≡ trim text.now }
-{
-    let front = without_front_spaces(text);
-    let mut end = front.len();
-    'spaces: while end > 0 && front[end - 1] == b' ' {
-        end -= 1;
-    }
-    &front[..end]
-}
 
 /// Appends the fact of a label, which is eight bytes, without the spaces at its ends; nothing where it is of spaces alone
 /// (IGES 5.3, 2.2.4.4.18).

@@ -12,4 +12,3 @@ pub use file_line::{from_line, has_cr, has_lf, line_of};
 pub use law::one_placed_file;
 pub use placed_file::{PlacedFile, read_placed_file};
 pub use places::{Places, RecordLines};
-pub use reading::file_places;
