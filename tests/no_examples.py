@@ -2,6 +2,7 @@
 import re
 import subprocess
 
+from commands import OF_LINES
 from spawned import SECONDS
 
 ROW = re.compile(r"(?m)^\| `igesolid (.*?)` \| *(.*?) *\| (\d) \| .+ \|$")
@@ -14,11 +15,12 @@ def printed_words(top):
     return {word for path in top.glob("crates/*/specs/*.antt") for word in PRINTED.findall(path.read_text())}
 
 
-def checks(top, program):
+def checks(top, programs):
     folder = top / "examples" / "no"
     rows = ROW.findall((folder / "README.md").read_text())
     for words, answer, status in rows:
         wanted = "".join(f"{line}\n" for line in re.findall(r"`(.*?)`", answer))
+        program = programs.repair if words.split()[0] in OF_LINES else programs.igesolid
         done = subprocess.run([program, *words.split()], cwd=folder, capture_output=True, timeout=SECONDS)
         yield f"examples/no: {words}", (done.returncode, done.stdout.decode(), done.stderr) == (int(status), wanted, b"")
     run = {word for words, _, _ in rows for word in words.split()}

@@ -2,12 +2,14 @@
 import re
 
 BLANK = b"\x00\t\x0c\r\x1a "
+AS_SPACES = bytes.maketrans(BLANK, b" " * len(BLANK))
 NUMBER = b"0123456789+-" + BLANK
 SECTIONS = b"SGDPT"
 TERMINATE = 4
 MOST_LINES = 9_999_999
 MOST_BYTES = 164_000_000
-KINDS = "mark", "blank", "end", "letter", "past", "number", "ahead", "counts", "after"
+FEWER = "fewer-S", "fewer-G", "fewer-D", "fewer-P"
+KINDS = "mark", "blank", "end", "letter", "past", "number", "ahead", "counts", *FEWER, "after"
 USAGE = b"usage: igesolid-repair relayout FILE | layout FILE | reorient FILE N\n"
 
 
@@ -74,6 +76,11 @@ def number_in(field):
     return int(found[1]) if found else None
 
 
+def number_read(field):
+    """The number, whatever blank bytes are around it; 0 where there is none, or one below 0."""
+    return max(0, number_in(field.translate(AS_SPACES)) or 0)
+
+
 def count_fields(counts):
     return b"".join(SECTIONS[k : k + 1] + b"%7d" % counts[k] for k in range(TERMINATE))
 
@@ -83,11 +90,31 @@ def has_counts(counts, line):
     return all(field[:1] == SECTIONS[k : k + 1] and number_in(field[1:]) == counts[k] for k, field in enumerate(fields))
 
 
+def fewer(counts, line):
+    """For each section whether the terminate line counts more of its lines than there are."""
+    fields = [line[8 * k : 8 * k + 8] for k in range(TERMINATE)]
+    return [field[:1].upper() == SECTIONS[k : k + 1] and number_read(field[1:]) > counts[k] for k, field in enumerate(fields)]
+
+
+def shuffled(lines):
+    """The first line whose number isn't its place, where the numbers are the places in another order; None where they aren't."""
+    strays = [(line, place, number) for place, (line, number) in enumerate(lines, 1) if number != place]
+    places, numbers = [place for _, place, _ in strays], [number for _, _, number in strays]
+    return strays[0][0] if strays and sorted(numbers) == places else None
+
+
 class Relaid:
     """The text of the file, and for each kind of change the numbers of its lines; or BadLayout is raised."""
 
     def __init__(self, data):
         self.counts, self.text, self.changed = [0] * TERMINATE, [], {kind: [] for kind in KINDS}
+        # Of each section, which lines of the file they are, and their numbers.
+        self.numbers = [[] for _ in range(TERMINATE)]
+        self.take_all(data)
+        for line in filter(None, map(shuffled, self.numbers)):
+            raise BadLayout(line, "shuffled")
+
+    def take_all(self, data):
         number = 1
         for piece, feed, after in pieces(data):
             if self.take(number, piece, feed):
@@ -115,13 +142,13 @@ class Relaid:
         self.put(number, piece, line, place, feed)
         if place == TERMINATE:
             return True
+        self.numbers[place].append((number, number_read(line[73:80])))
         self.counts[place] += 1
         return False
 
     def put(self, number, piece, line, place, feed):
         wanted = 1 if place == TERMINATE else self.counts[place] + 1
-        found = number_in(line[73:80])
-        kept = len(line) >= 80 and found == wanted
+        kept = len(line) >= 80 and number_in(line[73:80]) == wanted
         counted = place < TERMINATE or has_counts(self.counts, line)
         happened = {
             "mark": line != piece,
@@ -129,8 +156,9 @@ class Relaid:
             "letter": line[72:73].islower(),
             "past": bool(line[80:].strip(b"\r")),
             "number": not kept,
-            "ahead": found is not None and found > wanted,
+            "ahead": number_read(line[73:80]) > wanted,
             "counts": not counted,
+            **dict(zip(FEWER, fewer(self.counts, line) if place == TERMINATE else [False] * TERMINATE)),
         }
         for kind, it in happened.items():
             if it:

@@ -14,7 +14,7 @@ use Rattle.iges_base.specs.Word.{is_empty, spaces, trim, integer, column_number}
 use Rattle.iges_base.proofs.Spaces.{trim-is}
 use Rattle.iges_base.proofs.Lists.{list_all-implies}
 use Rattle.iges_fields.proofs.Words.{integer_is}
-use Rattle.line_layout.specs.Columns.{has_number}
+use Rattle.line_layout.specs.Columns.{has_number, natural, number_in, or_plain}
 use Rattle.line_layout.specs.Marks.{is_blank_byte, is_tail_byte}
 
 -- digits, signs and spaces
@@ -76,3 +76,7 @@ has_number-is field n e = by_option (column_number field) e
     by_option : (o : Option ℤ) → option_map_or (λ z. int_eq z (pos n)) o false ≡ true → o ≡ Some (pos n)
     by_option None e = absurd cc
     by_option (Some z) e = ap (λ (x : ℤ). Some x) ((signed_Decides z (pos n)).0 e)
+
+-- a number that can be read as it stands
+pub number_in-is : (field : List ℕ) (n : ℕ) → column_number field ≡ Some (pos n) → number_in field ≡ n
+number_in-is field n e = ap (λ (o : Option ℤ). option_map_or natural (or_plain o field) 0) e

@@ -1,5 +1,5 @@
 -- A file that is read is made again with the same lines.
-use Rattle.std.proofs.Common.{◌≡◌, inl, inr, ℕ, ◌+◌, ◌-◌, ◌<◌, ◌≤◌, true, false, not, List, [], ◌∷◌, ◌++◌, length, take, drop, map, Ok, refl, sym, ap, subst}
+use Rattle.std.proofs.Common.{◌≡◌, inl, inr, ℕ, ◌+◌, ◌-◌, ◌<◌, ◌≤◌, true, false, not, List, [], ◌∷◌, ◌++◌, length, take, drop, map, None, Ok, refl, sym, ap, subst}
 use Rattle.std.proofs.Common.{◌∙◌, append_assoc, arith, length-append, zero-add}
 use Rattle.std.specs.Prelude.{◌==◌, flat_map, slice_index}
 use Rattle.std.specs.List.{list_any}
@@ -19,15 +19,17 @@ use Rattle.line_layout.specs.declared.letters.Section.{Section}
 use Rattle.line_layout.specs.declared.letters.Section.TheVariants.{Start, Global, Directory, Param, Terminate}
 use Rattle.line_layout.specs.Columns.{columns}
 use Rattle.line_layout.specs.Counts.{no_lines, count_of, next_number, counted, is_in_order, is_due}
+use Rattle.line_layout.specs.Judging.{section_fault}
 use Rattle.line_layout.specs.Letters.{letter_of, is_last}
 use Rattle.line_layout.specs.Marks.{is_blank}
 use Rattle.line_layout.specs.Relaid.{before, end_byte, pieces, laid, relaid}
 use Rattle.line_layout.specs.Rows.{has_counts}
+use Rattle.line_layout.specs.Strays.{strays_from}
 use Rattle.line_layout.proofs.Looping.{before_both, before_none}
 use Rattle.layout_laws.specs.Counted.{counts_of}
 use Rattle.layout_laws.proofs.Parts.{whole_line, length_field, length_content}
 use Rattle.layout_laws.proofs.Rows.{IsRow, terminate_holds}
-use Rattle.layout_laws.proofs.Steps.{Lines, Numbered, kept_more, kept_last, Fits, fits_from, last_due}
+use Rattle.layout_laws.proofs.Steps.{Lines, Numbered, kept_more, kept_last, kept_placed, last_placed, Fits, fits_from, last_due, relaid_if}
 
 -- ---- a numbered line is a row
 
@@ -111,6 +113,7 @@ pub record Walked (ps : Lines) (n : ℕ) (old new : LineCounts) (todo more : Lin
   pub place : ℕ
   pub left_is : map strip_carriage_return left ≡ more
   pub same : laid ps n old ≡ before (flat_map ended todo) (laid left place new)
+  pub placed : strays_from ps n old ≡ strays_from left place new
 
 module _ (c : LineCounts) (s : Section) (other : is_last s ≡ false) (in_order : is_in_order c s ≡ true) (due : is_due c s ≡ true) where
   pub walk : (todo more ps : Lines) (n m : ℕ) → Numbered (letter_of s) (m + 1) todo → m + length todo ≤ 9999999 → map strip_carriage_return ps ≡ todo ++ more
@@ -120,6 +123,7 @@ module _ (c : LineCounts) (s : Section) (other : is_last s ≡ false) (in_order 
     place = n;
     left_is = is;
     same = ap (laid ps n) (ap (with_count c s) (let e : m ≡ m + 0 = omega arith in e)) ∙ sym (before_none (laid ps n (with_count c s (m + 0))));
+    placed = ap (strays_from ps n) (ap (with_count c s) (let e : m ≡ m + 0 = omega arith in e));
   }
   walk (l ∷ todo) more [] n m h few is = absurd (no_line (sym is))
     where
@@ -145,6 +149,10 @@ module _ (c : LineCounts) (s : Section) (other : is_last s ≡ false) (in_order 
             ∙ ap (before (ended l)) w.same
             ∙ before_both (ended l) (flat_map ended todo) (laid w.left w.place (with_count c s (m + 1 + length todo)))
             ∙ ap (λ (k : ℕ). before (flat_map ended (l ∷ todo)) (laid w.left w.place (with_count c s k))) (omega arith);
+        placed = kept_placed ps n d s l tail.0 p (tail.1 ∙ ap (λ (x : List ℕ). x ++ tail.0) here) tail.2 row (fits_from d s fits) other
+            ∙ ap (strays_from ps (n + 1)) (counted_is c m s)
+            ∙ w.placed
+            ∙ ap (λ (k : ℕ). strays_from w.left w.place (with_count c s k)) (omega arith);
       }
 
 -- ---- the pieces of both readings
@@ -193,7 +201,6 @@ module _ (bytes : List ℕ) (s : SectionLines) (within : length bytes ≤ FILE_L
   few_joined = let k = kept.within in omega (arith, k)
 
   pub same_file : relaid bytes ≡ Ok (flat_map ended (joined s ++ h.last ∷ []))
-  unfolding relaid
   same_file =
       let few = few_joined in
       let long = length_joined in
@@ -213,7 +220,17 @@ module _ (bytes : List ℕ) (s : SectionLines) (within : length bytes ≤ FILE_L
       let w3 = walk c2 Directory refl refl (some (length s.global) global) s.directory (s.param ++ tail) w2.left w2.place 0 h.directory
       (omega (arith, few, long)) w2.left_is in
       let w4 = walk c3 Param refl refl (some (length s.global) global) s.param tail w3.left w3.place 0 h.param (omega (arith, few, long)) w3.left_is in
-      ap (λ (b : ℕ). laid (pieces b bytes) 1 no_lines) has_end
+      relaid_if bytes (flat_map ended (joined s ++ h.last ∷ [])) (ap (λ (b : ℕ). strays_from (pieces b bytes) 1 no_lines) has_end
+      ∙ w1.placed
+      ∙ ap (λ (n : ℕ). strays_from w1.left w1.place (with_count no_lines Start n)) (zero-add (length s.start))
+      ∙ w2.placed
+      ∙ ap (λ (n : ℕ). strays_from w2.left w2.place (with_count c1 Global n)) (zero-add (length s.global))
+      ∙ w3.placed
+      ∙ ap (λ (n : ℕ). strays_from w3.left w3.place (with_count c2 Directory n)) (zero-add (length s.directory))
+      ∙ w4.placed
+      ∙ ap (λ (n : ℕ). strays_from w4.left w4.place (with_count c3 Param n)) (zero-add (length s.param))
+      ∙ last_piece_placed w4.left w4.place w4.left_is)
+      (ap (λ (b : ℕ). laid (pieces b bytes) 1 no_lines) has_end
       ∙ w1.same
       ∙ ap (λ (n : ℕ). before (flat_map ended s.start) (laid w1.left w1.place (with_count no_lines Start n))) (zero-add (length s.start))
       ∙ ap (before (flat_map ended s.start)) (w2.same
@@ -223,19 +240,30 @@ module _ (bytes : List ℕ) (s : SectionLines) (within : length bytes ≤ FILE_L
       ∙ ap (before (flat_map ended s.directory)) (w4.same
       ∙ ap (λ (n : ℕ). before (flat_map ended s.param) (laid w4.left w4.place (with_count c3 Param n))) (zero-add (length s.param))
       ∙ ap (before (flat_map ended s.param)) (last_piece_is w4.left w4.place w4.left_is))))
-      ∙ ap (λ (x : List ℕ). Ok x) text_is
+      ∙ ap (λ (x : List ℕ). Ok x) text_is)
     where
       some : (n : ℕ) → 0 < n → not (n == 0) ≡ true
       some n lt = not_from_false (n == 0) (ne_eqb n 0 (λ e. let k : n ≡ 0 = e in absurd (omega arith)))
+
+      last_row : IsRow (counts_of s) Terminate h.last
+      last_row = numbered_row (counts_of s) Terminate h.last h.terminate.numbered (λ e. terminate_holds s h.last h.terminate)
+
+      last_fits : section_fault (counts_of s) Terminate ≡ None
+      last_fits = fits_from (counts_of s) Terminate (last_due s h.some_global)
+
+      last_piece_placed : (left : Lines) (n : ℕ) → map strip_carriage_return left ≡ h.last ∷ h.after → strays_from left n (counts_of s) ≡ []
+      last_piece_placed [] n e = absurd cc
+      last_piece_placed (p ∷ ps) n e =
+          let here : strip_carriage_return p ≡ h.last = cc in
+          let tail = strip_tail p in
+          last_placed ps n (counts_of s) Terminate h.last tail.0 p (tail.1 ∙ ap (λ (x : List ℕ). x ++ tail.0) here) tail.2 last_row last_fits refl
 
       last_piece_is : (left : Lines) (n : ℕ) → map strip_carriage_return left ≡ h.last ∷ h.after → laid left n (counts_of s) ≡ Ok (ended h.last)
       last_piece_is [] n e = absurd cc
       last_piece_is (p ∷ ps) n e =
           let here : strip_carriage_return p ≡ h.last = cc in
           let tail = strip_tail p in
-          kept_last ps n (counts_of s) h.last tail.0 p (tail.1 ∙ ap (λ (x : List ℕ). x ++ tail.0) here) tail.2
-          (numbered_row (counts_of s) Terminate h.last h.terminate.numbered (λ e. terminate_holds s h.last h.terminate))
-          (fits_from (counts_of s) Terminate (last_due s h.some_global))
+          kept_last ps n (counts_of s) h.last tail.0 p (tail.1 ∙ ap (λ (x : List ℕ). x ++ tail.0) here) tail.2 last_row last_fits
 
       both : (xs ys : Lines) → flat_map ended (xs ++ ys) ≡ flat_map ended xs ++ flat_map ended ys
       both [] ys = refl

@@ -26,12 +26,13 @@ use Rattle.line_layout.specs.Letters.{section_of, is_last}
 use Rattle.line_layout.specs.Marks.{is_blank, has_letter_at, begins_with_two, unmarked}
 use Rattle.line_layout.specs.Relaid.{before, at_end, step, laid}
 use Rattle.line_layout.specs.Rows.{row}
+use Rattle.line_layout.specs.Strays.{strays_from}
 use Rattle.line_layout.proofs.GoodLines.{IsGood, good_line, blank_line}
 use Rattle.layout_laws.specs.Counted.{counts_of}
 use Rattle.layout_laws.specs.Kept.{ends, kept_lines, content_of}
 use Rattle.layout_laws.proofs.Rows.{IsRow, good_row, made_row, letter_names, number_is, row_content}
 use Rattle.layout_laws.proofs.RowUnchanged.{unchanged_last, unchanged_more}
-use Rattle.layout_laws.proofs.Steps.{Lines, row_numbered, row_line, row_terminate, row_in_line, kept_more, kept_last, Fits, fits_is, fits_from, put, counts_put}
+use Rattle.layout_laws.proofs.Steps.{Lines, row_numbered, row_line, row_terminate, row_in_line, kept_more, kept_last, kept_placed, last_placed, Fits, fits_is, fits_from, put, counts_put}
 use Rattle.layout_laws.proofs.Steps.{join_put, Begun, begun_put, last_due, global_of, before_ok}
 
 -- What the pieces become behind these sections.
@@ -47,6 +48,7 @@ pub record Made (t : SectionLines) (ps : Lines) (text : List ℕ) : Type 0 where
   pub are_lines : AllByRecursion IsLine (rows ++ last ∷ [])
   pub contents : map content_of rows ≡ map content_of (kept_lines ps)
   pub again : (n : ℕ) → laid (rows ++ last ∷ []) n (counts_of t) ≡ Ok text
+  pub placed : (n : ℕ) → strays_from (rows ++ last ∷ []) n (counts_of t) ≡ []
   pub unchanged : (k : Change) (n : ℕ) → changed_from k (cuts 10 (flat_map ended (rows ++ last ∷ []))) n (counts_of t) ≡ []
 
 unmarked_in_line : (piece : List ℕ) → is_in_line piece ≡ true → is_in_line (unmarked piece) ≡ true
@@ -84,6 +86,7 @@ made_last t ps text r begun fits w inside is none = record {
   are_lines = (row_line (counts_of t) Terminate r w inside, tt);
   contents = ap (λ (ls : Lines). map content_of ls) (sym none);
   again = λ n. kept_last [] n (counts_of t) r [] r (sym (append-nil r)) refl w (fits_from (counts_of t) Terminate fits) ∙ ap (λ (x : List ℕ). Ok x) (sym is);
+  placed = λ n. last_placed [] n (counts_of t) Terminate r [] r (sym (append-nil r)) refl w (fits_from (counts_of t) Terminate fits) refl;
   unchanged = λ k n. unchanged_last (counts_of t) Terminate r w inside (fits_from (counts_of t) Terminate fits) k n [] refl refl;
 }
 
@@ -135,6 +138,8 @@ module _ (t : SectionLines) (piece : List ℕ) (ps : Lines) (n : ℕ) (text : Li
         again = λ k. kept_more (m.rows ++ m.last ∷ []) k c s r [] r (sym (append-nil r)) refl w good.fits other
             ∙ ap (before (ended r)) (ap (laid (m.rows ++ m.last ∷ []) (k + 1)) (sym (counts_put t s r)) ∙ m.again (k + 1))
             ∙ ap (λ (x : List ℕ). Ok x) (sym b.2);
+        placed = λ k. kept_placed (m.rows ++ m.last ∷ []) k c s r [] r (sym (append-nil r)) refl w good.fits other
+            ∙ ap (strays_from (m.rows ++ m.last ∷ []) (k + 1)) (sym (counts_put t s r)) ∙ m.placed (k + 1);
         unchanged = λ k i. unchanged_more c s r w row_inside good.fits k i (flat_map ended (m.rows ++ m.last ∷ [])) other
             (ap (changed_from k (cuts 10 (flat_map ended (m.rows ++ m.last ∷ []))) (i + 1)) (sym (counts_put t s r)) ∙ m.unchanged k (i + 1));
       }
@@ -167,6 +172,7 @@ made_piece t piece ps n text begun inside next Blank is e =
       are_lines = m.are_lines;
       contents = m.contents ∙ ap (λ (ls : Lines). map content_of ls) (sym (kept_blank (counts_of t) piece ps is));
       again = m.again;
+      placed = m.placed;
       unchanged = m.unchanged;
     }
 made_piece t piece ps n text begun inside next (Bad reason) is e = absurd cc

@@ -16,11 +16,12 @@ use Rattle.line_layout.specs.declared.change.Change.{Change}
 use Rattle.line_layout.specs.Changes.{changed_from, changed_lines, cuts}
 use Rattle.line_layout.specs.Counts.{no_lines}
 use Rattle.line_layout.specs.Relaid.{pieces, end_byte, laid, relaid}
+use Rattle.line_layout.specs.Strays.{strays_from}
 use Rattle.line_layout.proofs.Looping.{none_few}
 use Rattle.layout_laws.specs.Kept.{content_of, IsMadeOf}
 use Rattle.layout_laws.proofs.Making.{Made, made}
 use Rattle.layout_laws.proofs.PieceBytes.{pieces_in_line, pieces_text, text_has_end}
-use Rattle.layout_laws.proofs.Steps.{Lines, Begun}
+use Rattle.layout_laws.proofs.Steps.{Lines, Begun, laid_if, relaid_if}
 
 abbrev nothing : SectionLines
 nothing = record { start = []; global = []; directory = []; param = [] }
@@ -45,8 +46,7 @@ pieces_of bytes = pieces (end_byte bytes) bytes
 
 module _ (bytes out : List ℕ) (e : relaid bytes ≡ Ok out) where
   made_all : Made nothing (pieces_of bytes) out
-  unfolding relaid
-  made_all = made (pieces_of bytes) 1 nothing out nothing_begun (pieces_in_line bytes) e
+  made_all = made (pieces_of bytes) 1 nothing out nothing_begun (pieces_in_line bytes) (laid_if bytes out e)
 
   sectioned : AreSectioned (lines out) made_all.sections
   sectioned =
@@ -81,10 +81,10 @@ module _ (bytes out : List ℕ) (e : relaid bytes ≡ Ok out) where
       ap (λ (b : ℕ). pieces b out) (ap end_byte is ∙ has_end rows last) ∙ ap (pieces 10) is ∙ pieces_text (rows ++ last ∷ []) h
 
   pub same_again : relaid out ≡ Ok out
-  unfolding relaid
   same_again =
       let m = made_all in
-      ap (λ (ps : Lines). laid ps 1 no_lines) (rows_again m.rows m.last m.text_is (in_line_all (m.rows ++ m.last ∷ []) m.are_lines)) ∙ m.again 1
+      let again = rows_again m.rows m.last m.text_is (in_line_all (m.rows ++ m.last ∷ []) m.are_lines) in
+      relaid_if out out (ap (λ (ps : Lines). strays_from ps 1 no_lines) again ∙ m.placed 1) (ap (λ (ps : Lines). laid ps 1 no_lines) again ∙ m.again 1)
 
   none_changed : (k : Change) → changed_lines k out ≡ []
   unfolding changed_lines

@@ -17,7 +17,7 @@ use Rattle.iges_write.proofs.Fields.{length-counts_columns, terminates}
 use Rattle.line_layout.specs.declared.counting.LineCounts.{LineCounts}
 use Rattle.line_layout.specs.declared.letters.Section.{Section}
 use Rattle.line_layout.specs.declared.letters.Section.TheVariants.{Start, Global, Directory, Param, Terminate}
-use Rattle.line_layout.specs.Columns.{columns, has_number, has_count}
+use Rattle.line_layout.specs.Columns.{columns, has_number, has_count, number_in}
 use Rattle.line_layout.specs.Counts.{next_number, AreFew}
 use Rattle.line_layout.specs.Judging.{letter, line_tests, line_fault, section_fault}
 use Rattle.line_layout.specs.Letters.{letter_of, section_of, is_last}
@@ -25,7 +25,7 @@ use Rattle.line_layout.specs.Marks.{is_blank_byte, is_tail_byte, is_blank, has_l
 use Rattle.line_layout.specs.Rows.{right, counts_columns, has_counts, content, number_field, row}
 use Rattle.line_layout.proofs.GoodLines.{IsGood}
 use Rattle.layout_laws.specs.Counted.{counts_of}
-use Rattle.layout_laws.proofs.FieldBytes.{is_field_byte, number_bytes, field_in_tail, has_number-is}
+use Rattle.layout_laws.proofs.FieldBytes.{is_field_byte, number_bytes, field_in_tail, has_number-is, number_in-is}
 use Rattle.layout_laws.proofs.Parts.{line_of, content_is, field_is, beyond_is, length_is, letter_is, at_field, length_field, length_content, same_columns}
 use Rattle.layout_laws.proofs.Shifted.{tail_no_letter, all_at, plain_line}
 
@@ -236,6 +236,10 @@ module _ (c : LineCounts) (s : Section) (r tail piece : List ℕ) (is : piece �
 
   field_at : columns 74 80 piece ≡ w.field
   field_at = ap (columns 74 80) whole ∙ field_is w.front w.field tail (letter_of s) w.long w.seven
+
+  -- its number is its place
+  pub placed : number_in (columns 74 80 (unmarked piece)) ≡ next_number c s
+  placed = ap (λ (l : List ℕ). number_in (columns 74 80 l)) unmarked_is ∙ ap number_in field_at ∙ number_in-is w.field (next_number c s) w.number
 
   content_at : columns 1 72 piece ≡ w.front
   content_at = ap (columns 1 72) whole ∙ content_is w.front w.field tail (letter_of s) w.long w.seven

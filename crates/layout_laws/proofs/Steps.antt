@@ -1,10 +1,11 @@
 -- A line of a section, and the sections with it.
-use Rattle.std.proofs.Common.{◌≡◌, inl, inr, ℕ, ◌+◌, ◌<◌, true, false, not, List, [], ◌∷◌, ◌++◌, length, get_or, take, drop, pos, Some, None, Ok, Err, refl}
+use Rattle.std.proofs.Common.{◌≡◌, inl, inr, ℕ, ◌+◌, ◌<◌, true, false, not, List, [], ◌∷◌, ◌++◌, length, get_or, take, drop, pos, Option, Some, None, Ok, Err, refl}
 use Rattle.std.proofs.Common.{sym, ap, subst, ◌∙◌, append_assoc, arith, length-append}
 use Rattle.std.specs.Prelude.{◌&&◌, ◌==◌}
 use Rattle.std.specs.Fmt.{decimal}
 use Rattle.std.specs.List.{AllByRecursion, enumerate_from}
-use Rattle.std.proofs.lemmas.Bool.{and_parts, and_from, cases_Bool, cond-true, cond-false, eqb-true, eqb-false, ne_eqb, lt-ltb, ltb-true, not-true}
+use Rattle.std.specs.Option.{option_map_or}
+use Rattle.std.proofs.lemmas.Bool.{and_parts, and_from, cases_Bool, cond-true, cond-false, eq-eqb, eqb-true, eqb-false, ne_eqb, lt-ltb, ltb-true, not-true}
 use Rattle.std.proofs.lemmas.Bool.{not_from_false}
 use Rattle.std.proofs.lemmas.List.{append-nil, take-append-drop, drop_more, drop_all}
 use Rattle.iges_base.specs.Ended.{ended}
@@ -21,18 +22,21 @@ use Rattle.line_layout.specs.declared.judging.Judged.{Judged}
 use Rattle.line_layout.specs.declared.judging.Judged.TheVariants.{Good}
 use Rattle.line_layout.specs.declared.letters.Section.{Section}
 use Rattle.line_layout.specs.declared.letters.Section.TheVariants.{Start, Global, Directory, Param, Terminate}
-use Rattle.line_layout.specs.Columns.{columns, has_count, has_number}
+use Rattle.line_layout.specs.declared.strays.Stray.{Stray}
+use Rattle.line_layout.specs.Columns.{columns, has_count, has_number, number_in}
 use Rattle.line_layout.specs.Counts.{count_of, next_number, counted, is_in_order, is_due, AreFew}
-use Rattle.line_layout.specs.Judging.{letter, section_tests, section_fault, judge}
+use Rattle.line_layout.specs.Judging.{letter, lines_after, section_tests, section_fault, judge}
 use Rattle.line_layout.specs.Letters.{letter_of, is_last}
 use Rattle.line_layout.specs.Marks.{is_blank, unmarked}
-use Rattle.line_layout.specs.Relaid.{Laid, before, step, laid}
+use Rattle.line_layout.specs.Relaid.{Laid, before, step, laid, relaid, unless_shuffled}
 use Rattle.line_layout.specs.Rows.{right, count_field, counts_columns, has_counts, content, number_field, row}
+use Rattle.line_layout.specs.Strays.{shuffled_line, stray_at, strays_from, unless_placed}
 use Rattle.line_layout.proofs.GoodLines.{judged_good}
+use Rattle.line_layout.proofs.Looping.{laid_lines, strays_in}
 use Rattle.layout_laws.specs.Counted.{counts_of}
 use Rattle.layout_laws.proofs.FieldBytes.{is_field_byte, number_bytes, has_number-is}
 use Rattle.layout_laws.proofs.Parts.{line_of, length_is, letter_is, field_is}
-use Rattle.layout_laws.proofs.Rows.{IsRow, kept_good, same_row}
+use Rattle.layout_laws.proofs.Rows.{IsRow, kept_good, placed, same_row}
 use Rattle.layout_laws.proofs.Shifted.{differs, all_at}
 
 abbrev pub Lines : Type 0
@@ -162,6 +166,31 @@ module _ (ps : Lines) (n : ℕ) (c : LineCounts) (s : Section) (r tail piece : L
       ap (λ (j : Judged). step n c (unmarked piece) j (laid ps (n + 1))) judged
       ∙ step_more n c (unmarked piece) s (laid ps (n + 1)) e
       ∙ ap (λ (x : List ℕ). before (ended x) (laid ps (n + 1) (counted c s))) (same_row c s r tail piece is blank w)
+
+  no_stray : stray_at n c (unmarked piece) (Good s) ≡ []
+  no_stray =
+      let found = number_in (columns 74 80 (unmarked piece)) in
+      let stray : Stray = record { line = n; letter = letter_of s; place = next_number c s; number = found } in
+      elim (cases_Bool (is_last s)) [
+        | inl t ↦ cond-true (is_last s) [] (unless_placed stray) t
+        | inr f ↦ cond-false (is_last s) [] (unless_placed stray) f
+            ∙ cond-true (found == next_number c s) [] (stray ∷ []) (eq-eqb found (next_number c s) (placed c s r tail piece is blank w))
+      ]
+
+  -- its number is its place
+  abbrev further : Option LineCounts → List Stray
+  further o = option_map_or (strays_from ps (n + 1)) o []
+
+  none_here : strays_from (piece ∷ ps) n c ≡ further (lines_after c (Good s))
+  unfolding strays_from
+  none_here = ap (λ (j : Judged). stray_at n c (unmarked piece) j ++ further (lines_after c j)) judged
+      ∙ ap (λ (rs : List Stray). rs ++ further (lines_after c (Good s))) no_stray
+
+  pub kept_placed : is_last s ≡ false → strays_from (piece ∷ ps) n c ≡ strays_from ps (n + 1) (counted c s)
+  kept_placed e = none_here ∙ ap further (cond-false (is_last s) None (Some (counted c s)) e)
+
+  pub last_placed : is_last s ≡ true → strays_from (piece ∷ ps) n c ≡ []
+  last_placed e = none_here ∙ ap further (cond-true (is_last s) None (Some (counted c s)) e)
 
 pub kept_last : (ps : Lines) (n : ℕ) (c : LineCounts) (r tail piece : List ℕ) → piece ≡ r ++ tail → is_blank tail ≡ true → IsRow c Terminate r
     → section_fault c Terminate ≡ None
@@ -323,6 +352,23 @@ last_due t some = record {
 
 pub global_of : (t : SectionLines) → Fits (counts_of t) Terminate → 0 < length t.global
 global_of t h = some_of (length t.global) h.due
+
+-- ---- the file and its lines
+
+module _ (bytes out : List ℕ) where
+  pub laid_if : relaid bytes ≡ Ok out → laid_lines bytes ≡ Ok out
+  unfolding relaid
+  laid_if e = made_of (shuffled_line (strays_in bytes)) (laid_lines bytes) e
+    where
+      made_of : (o : Option ℕ) (r : Laid) → unless_shuffled o r ≡ Ok out → r ≡ Ok out
+      made_of None (Ok text) h = h
+      made_of None (Err fault) h = absurd cc
+      made_of (Some n) (Ok text) h = absurd cc
+      made_of (Some n) (Err fault) h = absurd cc
+
+  pub relaid_if : strays_in bytes ≡ [] → laid_lines bytes ≡ Ok out → relaid bytes ≡ Ok out
+  unfolding relaid
+  relaid_if none is = ap (λ (rs : List Stray). unless_shuffled (shuffled_line rs) (laid_lines bytes)) none ∙ ap (unless_shuffled None) is
 
 -- ---- a text before what follows it
 

@@ -14,10 +14,10 @@ use Rattle.line_layout.specs.declared.judging.Judged.{Judged}
 use Rattle.line_layout.specs.declared.judging.Judged.TheVariants.{Blank, Bad, Good}
 use Rattle.line_layout.specs.declared.letters.Section.{Section}
 use Rattle.line_layout.specs.declared.letters.Section.TheVariants.{Start, Global, Directory, Param, Terminate}
-use Rattle.line_layout.specs.Changes.{Cut, changed_from, changed_lines, cuts, dropped, ends_in_CR, going_on, happens, is_changed, lines_after, once}
+use Rattle.line_layout.specs.Changes.{Cut, changed_from, changed_lines, cuts, dropped, ends_in_CR, going_on, happens, is_changed, once}
 use Rattle.line_layout.specs.Columns.{columns, has_number}
 use Rattle.line_layout.specs.Counts.{counted, next_number, no_lines}
-use Rattle.line_layout.specs.Judging.{judge, letter}
+use Rattle.line_layout.specs.Judging.{judge, letter, lines_after}
 use Rattle.line_layout.specs.Letters.{is_last, letter_of}
 use Rattle.line_layout.specs.Marks.{begins_with_two, has_letter_at, unmarked}
 use Rattle.line_layout.specs.Relaid.{Laid, before, end_byte, laid, pieces, relaid, step}
@@ -25,7 +25,7 @@ use Rattle.line_layout.specs.Rows.{content, has_counts, number_field, row}
 use Rattle.line_layout.proofs.Cutting.{cut_first, cut_first_cut, cut_last, cut_last_cut, made_cut, no_cuts}
 use Rattle.layout_laws.proofs.Parts.{whole_line}
 use Rattle.layout_laws.proofs.Rows.{content_same}
-use Rattle.layout_laws.proofs.Steps.{before_ok, step_more}
+use Rattle.layout_laws.proofs.Steps.{before_ok, laid_if, step_more}
 
 -- ---- of lists and bytes
 
@@ -271,5 +271,5 @@ module _ (e : ℕ) where
       ∙ ap (λ (b : ℕ). piece ++ b ∷ after) (sym lf) ∙ sym is
 
 pub unchanged_stays : (bytes out : List ℕ) → relaid bytes ≡ Ok out → ((k : Change) → changed_lines k bytes ≡ []) → out ≡ bytes
-unfolding relaid changed_lines
-unchanged_stays bytes out made none = stays (end_byte bytes) bytes (parted (end_byte bytes) bytes) 1 no_lines out made none
+unfolding changed_lines
+unchanged_stays bytes out made none = stays (end_byte bytes) bytes (parted (end_byte bytes) bytes) 1 no_lines out (laid_if bytes out made) none

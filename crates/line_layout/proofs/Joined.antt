@@ -1,5 +1,5 @@
 -- What is noted so far, and what is left.
-use Rattle.std.proofs.Common.{◌≡◌, ℕ, zero, suc, ◌+◌, ◌<◌, arith, Bool, true, false, List, [], ◌∷◌, ◌++◌, length, length-append, replicate, Option, Some, None}
+use Rattle.std.proofs.Common.{◌≡◌, ℕ, zero, suc, ◌+◌, ◌<◌, arith, false, List, [], ◌∷◌, ◌++◌, length, length-append, replicate, Option, Some, None}
 use Rattle.std.proofs.Common.{refl, sym, ap, ◌∙◌}
 use Rattle.std.specs.Prelude.{◌==◌, if◌then◌else◌}
 use Rattle.std.proofs.lemmas.Bool.{cond-false, eqb-true, false_from_ne_true}
@@ -8,9 +8,9 @@ use Rattle.line_layout.specs.declared.change.Change.{Change}
 use Rattle.line_layout.specs.declared.change.ChangeCount.{ChangeCount}
 use Rattle.line_layout.specs.declared.counting.LineCounts.{LineCounts}
 use Rattle.line_layout.specs.Changes.{Cut, MayCount, changed_from, changed_lines, cuts, dropped, first_cut, going_on, happens, has_feed, is_of_counts}
-use Rattle.line_layout.specs.Changes.{lines_after, noted, once, tally_of}
+use Rattle.line_layout.specs.Changes.{noted, once, tally_of}
 use Rattle.line_layout.specs.Counts.{no_lines}
-use Rattle.line_layout.specs.Judging.{judge}
+use Rattle.line_layout.specs.Judging.{judge, lines_after}
 use Rattle.line_layout.specs.Relaid.{end_byte}
 use Rattle.line_layout.proofs.Looping.{few_good}
 

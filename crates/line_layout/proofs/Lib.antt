@@ -3,3 +3,4 @@ pub mod Right
 pub mod GoodLines
 pub mod Looping
 pub mod Joined
+pub mod Shuffled

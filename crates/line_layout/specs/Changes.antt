@@ -1,10 +1,7 @@
 -- What is changed to make a file, and in which lines.
 use Rattle.std.specs.Prelude.{◌≡◌, ℕ, ◌<◌, ◌+◌, ◌-◌, ◌==◌, ◌&&◌, ◌||◌, Bool, true, false, not, nat_lt, List, [], ◌∷◌, ◌++◌, length, drop, replicate, Option}
-use Rattle.std.specs.Prelude.{Some, None, pos, if◌then◌else◌, slice_index}
+use Rattle.std.specs.Prelude.{Some, None, if◌then◌else◌, slice_index}
 use Rattle.std.specs.List.{list_any}
-use Rattle.std.specs.Option.{option_map_or}
-use Rattle.std.specs.Ordering.{int_cmp, is_lt}
-use Rattle.iges_base.specs.Word.{column_number}
 use Rattle.line_layout.specs.declared.change.Change.{Change}
 use Rattle.line_layout.specs.declared.change.Change.TheVariants as change
 use Rattle.line_layout.specs.declared.change.ChangeCount.{ChangeCount}
@@ -12,9 +9,9 @@ use Rattle.line_layout.specs.declared.counting.LineCounts.{LineCounts}
 use Rattle.line_layout.specs.declared.judging.Judged.{Judged}
 use Rattle.line_layout.specs.declared.judging.Judged.TheVariants as judged
 use Rattle.line_layout.specs.declared.letters.Section.{Section}
-use Rattle.line_layout.specs.Columns.{columns}
-use Rattle.line_layout.specs.Counts.{no_lines, count_of, counted, next_number}
-use Rattle.line_layout.specs.Judging.{judge}
+use Rattle.line_layout.specs.Columns.{columns, has_greater, number_in}
+use Rattle.line_layout.specs.Counts.{no_lines, count_of, next_number}
+use Rattle.line_layout.specs.Judging.{judge, lines_after}
 use Rattle.line_layout.specs.Letters.{letter_of, is_last}
 use Rattle.line_layout.specs.Marks.{unmarked}
 use Rattle.line_layout.specs.Relaid.{end_byte}
@@ -50,10 +47,6 @@ ends_in_CR text = nat_lt 0 (length text) && slice_index text (length text - 1) =
 abbrev pub has_letter : ℕ → List ℕ → Bool
 has_letter letter line = nat_lt 72 (length line) && slice_index line 72 == letter
 
--- the field holds a larger number
-abbrev pub has_larger : List ℕ → ℕ → Bool
-has_larger field n = option_map_or (λ z. is_lt (int_cmp (pos n) z)) (column_number field) false
-
 -- a line of this section, after so many lines of each, is changed so: its piece, and whether LF ends it
 unfoldable pub is_changed : Change → LineCounts → Section → List ℕ → Bool → Bool
 is_changed change.Mark c s piece feed = nat_lt (length (unmarked piece)) (length piece)
@@ -62,8 +55,12 @@ is_changed change.End c s piece feed = not feed || ends_in_CR piece
 is_changed change.Letter c s piece feed = not (has_letter (letter_of s) (unmarked piece))
 is_changed change.Past c s piece feed = list_any (λ b. not (b == 13)) (drop 80 (unmarked piece))
 is_changed change.Number c s piece feed = not (keeps_number (next_number c s) (unmarked piece))
-is_changed change.Ahead c s piece feed = has_larger (columns 74 80 (unmarked piece)) (next_number c s)
+is_changed change.Ahead c s piece feed = nat_lt (next_number c s) (number_in (columns 74 80 (unmarked piece)))
 is_changed change.Counts c s piece feed = is_last s && not (has_counts c (unmarked piece))
+is_changed change.FewerStart c s piece feed = is_last s && has_greater 83 c.start (columns 1 8 (unmarked piece))
+is_changed change.FewerGlobal c s piece feed = is_last s && has_greater 71 c.global (columns 9 16 (unmarked piece))
+is_changed change.FewerDirectory c s piece feed = is_last s && has_greater 68 c.directory (columns 17 24 (unmarked piece))
+is_changed change.FewerParam c s piece feed = is_last s && has_greater 80 c.param (columns 25 32 (unmarked piece))
 is_changed change.After c s piece feed = false
 
 abbrev pub is_of_blank : Change → Bool
@@ -83,12 +80,6 @@ abbrev pub happens : Change → LineCounts → Judged → List ℕ → Bool → 
 happens k c judged.Blank piece feed = is_of_blank k
 happens k c (judged.Bad reason) piece feed = false
 happens k c (judged.Good s) piece feed = is_changed k c s piece feed
-
--- the lines so far after a piece, if the lines go on there
-abbrev pub lines_after : LineCounts → Judged → Option LineCounts
-lines_after c judged.Blank = Some c
-lines_after c (judged.Bad reason) = None
-lines_after c (judged.Good s) = if is_last s then None else Some (counted c s)
 
 -- how many of the bytes after the terminate line are dropped
 abbrev pub dropped : Change → Judged → List ℕ → ℕ

@@ -9,8 +9,8 @@ use Rattle.line_layout.specs.declared.judging.Judged.{Judged}
 use Rattle.line_layout.specs.declared.judging.Judged.TheVariants.{Blank, Bad, Good}
 use Rattle.line_layout.specs.declared.letters.Section.{Section}
 use Rattle.line_layout.specs.Columns.{columns}
-use Rattle.line_layout.specs.Counts.{count_of, is_in_order, is_due}
-use Rattle.line_layout.specs.Letters.{section_of}
+use Rattle.line_layout.specs.Counts.{count_of, counted, is_in_order, is_due}
+use Rattle.line_layout.specs.Letters.{is_last, section_of}
 use Rattle.line_layout.specs.Marks.{is_blank, is_tail_byte, begins_with_two, has_tab, unmarked}
 
 -- the letter in column 73
@@ -65,3 +65,9 @@ judge_line c piece line = unless_named piece (line_fault line) (judge_section c 
 -- where so many lines of each section come before it
 unfoldable pub judge : LineCounts → List ℕ → Judged
 judge c piece = if is_blank (unmarked piece) then Blank else judge_line c piece (unmarked piece)
+
+-- the lines so far after a piece, if the lines go on there
+abbrev pub lines_after : LineCounts → Judged → Option LineCounts
+lines_after c Blank = Some c
+lines_after c (Bad reason) = None
+lines_after c (Good s) = if is_last s then None else Some (counted c s)

@@ -4,6 +4,7 @@ pub mod Marks
 pub mod Columns
 pub mod Judging
 pub mod Rows
+pub mod Strays
 pub mod Relaid
 pub mod Taking
 pub mod Changes

@@ -1,10 +1,10 @@
 -- A file in the layout of the fixed form.
-use Rattle.std.specs.Prelude.{◌≡◌, ℕ, ◌+◌, ◌==◌, List, [], ◌∷◌, ◌++◌, Result, Ok, Err, if◌then◌else◌}
+use Rattle.std.specs.Prelude.{◌≡◌, ℕ, ◌+◌, ◌==◌, List, [], ◌∷◌, ◌++◌, Option, Some, None, Result, Ok, Err, if◌then◌else◌}
 use Rattle.std.specs.List.{list_any}
 use Rattle.iges_base.specs.Ended.{ended}
 use Rattle.line_layout.specs.declared.counting.LineCounts.{LineCounts}
 use Rattle.line_layout.specs.declared.fault.LayoutFault.{LayoutFault}
-use Rattle.line_layout.specs.declared.fault.LayoutReason.TheVariants.{Missing}
+use Rattle.line_layout.specs.declared.fault.LayoutReason.TheVariants.{Missing, Shuffled}
 use Rattle.line_layout.specs.declared.fault.RelaidFault.{RelaidFault}
 use Rattle.line_layout.specs.declared.fault.RelaidFault.TheVariants as faults
 use Rattle.line_layout.specs.declared.judging.Judged.{Judged}
@@ -14,6 +14,7 @@ use Rattle.line_layout.specs.Counts.{no_lines, counted}
 use Rattle.line_layout.specs.Judging.{judge}
 use Rattle.line_layout.specs.Marks.{unmarked}
 use Rattle.line_layout.specs.Rows.{row}
+use Rattle.line_layout.specs.Strays.{shuffled_line, strays_from}
 
 -- a byte before the pieces of what follows it
 abbrev pub before_pieces : ℕ → List (List ℕ) → List (List ℕ)
@@ -56,9 +57,16 @@ unfoldable pub laid : List (List ℕ) → ℕ → LineCounts → Laid
 laid [] n c = at_end n c
 laid (piece ∷ pieces) n c = step n c (unmarked piece) (judge c piece) (laid pieces (n + 1))
 
--- the file, or the first piece that fails
+-- the file, unless this is a line of a section whose numbers are in another order
+abbrev pub unless_shuffled : Option ℕ → Laid → Laid
+unless_shuffled (Some n) (Ok text) = Err (record { line = n; reason = Shuffled })
+unless_shuffled None (Ok text) = Ok text
+unless_shuffled o (Err fault) = Err fault
+
+-- The file, or the first piece that fails. Where none fails by itself, it is the first line of a section whose numbers are
+-- its places in another order.
 unfoldable pub relaid : List ℕ → Laid
-relaid bytes = laid (pieces (end_byte bytes) bytes) 1 no_lines
+relaid bytes = unless_shuffled (shuffled_line (strays_from (pieces (end_byte bytes) bytes) 1 no_lines)) (laid (pieces (end_byte bytes) bytes) 1 no_lines)
 
 abbrev pub Fails : RelaidFault → Laid → Type 0
 Fails faults.NoMemory read = Unit {0}

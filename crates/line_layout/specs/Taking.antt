@@ -1,5 +1,5 @@
 -- Private: what a piece gives, with any continuation.
-use Rattle.std.specs.Prelude.{◌≡◌, ℕ, List, Result, Ok, Err}
+use Rattle.std.specs.Prelude.{◌≡◌, ℕ, List, Option, Some, None, Result, Ok, Err}
 use Rattle.line_layout.specs.declared.counting.LineCounts.{LineCounts}
 use Rattle.line_layout.specs.declared.fault.RelaidFault.{RelaidFault}
 use Rattle.line_layout.specs.declared.relaying.Next.{Next}
@@ -17,3 +17,9 @@ abbrev pub KeepsFew : Result Next RelaidFault → Type 0
 KeepsFew (Ok (More c)) = AreFew c
 KeepsFew (Ok Nothing) = Unit {0}
 KeepsFew (Err e) = Unit {0}
+
+-- how the lines go on
+abbrev pub GoesOn : Result Next RelaidFault → Option LineCounts → Type 0
+GoesOn (Ok (More c)) after = after ≡ Some c
+GoesOn (Ok Nothing) after = after ≡ None
+GoesOn (Err e) after = Unit {0}

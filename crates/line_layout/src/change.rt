@@ -13,10 +13,18 @@ pub enum Change {
     Past,
     /// The number in columns 74 to 80 is made anew.
     Number,
-    /// A number that is made anew was larger than its line's place: a line may be lost before it.
+    /// A number was larger than its line's place: a line may be lost before it.
     Ahead,
     /// The counts of the terminate line are made anew, or the whole line.
     Counts,
+    /// The terminate line counts more lines of the start section than there are: one may be lost.
+    FewerStart,
+    /// The same of the global section.
+    FewerGlobal,
+    /// The same of the directory.
+    FewerDirectory,
+    /// The same of the parameter data.
+    FewerParam,
     /// A byte after the terminate line is dropped.
     After,
 }

@@ -1,16 +1,16 @@
-ghost use Rattle.line_layout.specs.Changes.{MayCount, dropped, ends_in_CR, happens, has_feed, has_larger, has_letter, is_changed, is_of_blank, is_of_counts, is_of_rest, lines_after};
+ghost use Rattle.line_layout.specs.Changes.{MayCount, dropped, ends_in_CR, happens, has_feed, has_letter, is_changed, is_of_blank, is_of_counts, is_of_rest};
 ghost use Rattle.line_layout.specs.Counts.{AreFew, count_of};
+ghost use Rattle.line_layout.specs.Judging.{lines_after};
 ghost use Rattle.std.specs.List.{list_any};
 ghost use Rattle.std.specs.Prelude.{◌≡◌, ◌≤◌, ◌<◌, ◌==◌, ◌^◌, IfSome, drop, length, not};
 
 use crate::change::Change;
-use crate::columns::{beyond, columns};
+use crate::columns::{beyond, columns, has_greater, number_in};
 use crate::counting::{LineCounts, count_of, counted};
 use crate::judging::Judged;
 use crate::letters::{Section, is_last, letter_of};
 use crate::marks::unmarked;
 use crate::row::{holds_counts, keeps_number};
-use iges_base::column_number;
 
 // Whether LF ends a piece that is followed by these bytes.
 pub(crate) fn has_feed(ending: u8, bytes: &[u8], piece: &[u8], after: &[u8]) -> bool
@@ -40,18 +40,6 @@ fn is_past(line: &[u8]) -> bool
     beyond(line).iter().any(|b| *b != b'\r')
 }
 
-// Whether a field of at most eight columns holds a larger number.
-fn has_larger(field: &[u8], n: u64) -> bool
-    requires field { length field.now ≤ 8 }
-    requires n { n < 2 ^ 63 }
-    ensures { result ≡ has_larger field.now n }
-{
-    match column_number(field) {
-        Some(z) => (n as i64) < z,
-        None => false,
-    }
-}
-
 // Whether a line of this section is changed so, where so many lines of each come before it.
 #[tactic(auto, unfolding(crate::specs::Changes::is_changed))]
 fn is_changed(
@@ -73,8 +61,20 @@ fn is_changed(
         Change::Letter => !has_letter(letter_of(section), line),
         Change::Past => is_past(line),
         Change::Number => !keeps_number(number, line),
-        Change::Ahead => has_larger(columns(line, 74, 80), number),
+        Change::Ahead => number < number_in(columns(line, 74, 80)),
         Change::Counts => is_last(section) && !holds_counts(counts, line),
+        Change::FewerStart => {
+            is_last(section) && has_greater(columns(line, 1, 8), b'S', counts.start)
+        }
+        Change::FewerGlobal => {
+            is_last(section) && has_greater(columns(line, 9, 16), b'G', counts.global)
+        }
+        Change::FewerDirectory => {
+            is_last(section) && has_greater(columns(line, 17, 24), b'D', counts.directory)
+        }
+        Change::FewerParam => {
+            is_last(section) && has_greater(columns(line, 25, 32), b'P', counts.param)
+        }
         Change::Blank | Change::After => false,
     }
 }

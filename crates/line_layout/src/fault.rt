@@ -23,6 +23,8 @@ pub enum LayoutReason {
     Missing,
     /// Its section has more lines than seven columns can number.
     Many,
+    /// Its number isn't its place, and the numbers of its section are the places in another order.
+    Shuffled,
 }
 
 /// A line, counted from 1, and what is wrong there.

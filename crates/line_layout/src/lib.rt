@@ -13,6 +13,7 @@ mod marks;
 mod piece;
 mod relaying;
 mod row;
+mod strays;
 mod tallying;
 
 pub use change::{Change, ChangeCount};

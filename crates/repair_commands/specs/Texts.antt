@@ -1,7 +1,7 @@
 -- What is written of a layout.
 use Rattle.std.specs.Prelude.{ℕ, ◌==◌, List, [], ◌++◌, codes, decimal, if◌then◌else◌}
 use Rattle.line_layout.specs.declared.change.Change.{Change}
-use Rattle.line_layout.specs.declared.change.Change.TheVariants.{Mark, Blank, End, Letter, Past, Number, Ahead, Counts, After}
+use Rattle.line_layout.specs.declared.change.Change.TheVariants.{Mark, Blank, End, Letter, Past, Number, Ahead, Counts, FewerStart, FewerGlobal, FewerDirectory, FewerParam, After}
 use Rattle.line_layout.specs.declared.change.ChangeCount.{ChangeCount}
 use Rattle.line_layout.specs.declared.fault.LayoutFault.{LayoutFault}
 use Rattle.line_layout.specs.declared.fault.LayoutReason.{LayoutReason}
@@ -19,8 +19,9 @@ layout_word reason.Long = codes "long"
 layout_word reason.Order = codes "order"
 layout_word reason.Missing = codes "missing"
 layout_word reason.Many = codes "many"
+layout_word reason.Shuffled = codes "shuffled"
 
--- the first line whose content can't be told apart, and why
+-- the first line whose content can't be told apart, or of a section whose order isn't certain, and why
 abbrev pub bad_layout_line : LayoutFault → List ℕ
 bad_layout_line fault = codes "bad layout line " ++ decimal fault.line ++ codes " " ++ layout_word fault.reason ++ codes "\n"
 
@@ -36,6 +37,10 @@ change_word Past = codes "past"
 change_word Number = codes "number"
 change_word Ahead = codes "ahead"
 change_word Counts = codes "counts"
+change_word FewerStart = codes "fewer-S"
+change_word FewerGlobal = codes "fewer-G"
+change_word FewerDirectory = codes "fewer-D"
+change_word FewerParam = codes "fewer-P"
 change_word After = codes "after"
 
 -- how often, and the first line; nothing where it doesn't happen
@@ -49,4 +54,5 @@ change_line bytes k = tally_line (change_word k) (tally_of (changed_lines k byte
 unfoldable pub changes_text : List ℕ → List ℕ
 changes_text bytes =
     change_line bytes Mark ++ change_line bytes Blank ++ change_line bytes End ++ change_line bytes Letter ++ change_line bytes Past
-    ++ change_line bytes Number ++ change_line bytes Ahead ++ change_line bytes Counts ++ change_line bytes After
+    ++ change_line bytes Number ++ change_line bytes Ahead ++ change_line bytes Counts ++ change_line bytes FewerStart ++ change_line bytes FewerGlobal
+    ++ change_line bytes FewerDirectory ++ change_line bytes FewerParam ++ change_line bytes After

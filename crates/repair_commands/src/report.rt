@@ -21,6 +21,7 @@ fn layout_word(reason: LayoutReason) -> &'static str
         LayoutReason::Order => "order",
         LayoutReason::Missing => "missing",
         LayoutReason::Many => "many",
+        LayoutReason::Shuffled => "shuffled",
     }
 }
 
@@ -47,6 +48,10 @@ fn change_word(change: Change) -> &'static str
         Change::Number => "number",
         Change::Ahead => "ahead",
         Change::Counts => "counts",
+        Change::FewerStart => "fewer-S",
+        Change::FewerGlobal => "fewer-G",
+        Change::FewerDirectory => "fewer-D",
+        Change::FewerParam => "fewer-P",
         Change::After => "after",
     }
 }
@@ -87,5 +92,9 @@ pub fn put_changes(out: &mut Out, bytes: &[u8]) -> Result<(), NoMemory>
     put_change(out, bytes, Change::Number)?;
     put_change(out, bytes, Change::Ahead)?;
     put_change(out, bytes, Change::Counts)?;
+    put_change(out, bytes, Change::FewerStart)?;
+    put_change(out, bytes, Change::FewerGlobal)?;
+    put_change(out, bytes, Change::FewerDirectory)?;
+    put_change(out, bytes, Change::FewerParam)?;
     put_change(out, bytes, Change::After)
 }

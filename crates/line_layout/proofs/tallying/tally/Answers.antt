@@ -1,9 +1,9 @@
-use Rattle.std.proofs.Common.{◌≡◌, ◌+◌, ◌<◌, ◌≤◌, length, sym, ap, subst, ◌∙◌, arith, Bool, List, ℕ, [], ◌∷◌, refl}
+use Rattle.std.proofs.Common.{◌≡◌, ◌+◌, ◌≤◌, length, sym, ap, subst, ◌∙◌, arith, List, ℕ, [], ◌∷◌, refl}
 use Rattle.std.proofs.lemmas.Bool.{eqb-true}
 use Rattle.line_layout.specs.declared.judging.Judged.{Judged}
-use Rattle.line_layout.specs.Changes.{changed_from, changed_lines, cuts, dropped, happens, is_of_counts, lines_after, noted, once, tally_of}
+use Rattle.line_layout.specs.Changes.{changed_from, changed_lines, cuts, dropped, happens, noted, once, tally_of}
 use Rattle.line_layout.specs.Counts.{AreFew}
-use Rattle.line_layout.specs.Judging.{judge}
+use Rattle.line_layout.specs.Judging.{judge, lines_after}
 use Rattle.line_layout.proofs.Joined.{begins_so, ends_so, goes_no_further, goes_on, joined}
 use Rattle.line_layout.proofs.Looping.{few_good, none_few}
 use Rattle.line_layout.proofs.tallying.tally.Goals as goal
