@@ -9,7 +9,7 @@ from spawned import SECONDS
 
 # Where the kit isn't, if it isn't installed among the system's own commands.
 PLAIN_PATH = "/usr/bin:/bin:/usr/sbin:/sbin"
-BUILT = shutil.ignore_patterns("out", ".git", "__pycache__")
+LEFT_OUT = shutil.ignore_patterns("out", ".git", "__pycache__")
 # It proves nothing: its library builds end at once, with a delay or refused, and its programs are those that are given.
 KIT = """#!/bin/sh
 case $1 in
@@ -33,17 +33,12 @@ exit "${STATUS:-0}"
 """
 
 
-def left_out(folder, names):
-    """What a build leaves, and git's own; the proofs on a module `out` stand in a folder of that name."""
-    return set() if pathlib.Path(folder).name == "proofs" else BUILT(folder, names)
-
-
 class Clone:
     """A copy of the repository in a folder, without what a build left."""
 
     def __init__(self, top, folder, program, where, repair):
         self.top, self.folder, self.program, self.where, self.repair = folder / "clone", folder, program, where, repair
-        shutil.copytree(top, self.top, ignore=left_out, symlinks=True)
+        shutil.copytree(top, self.top, ignore=LEFT_OUT, symlinks=True)
         shutil.rmtree(self.top / "bench", ignore_errors=True)
         self.log = folder / "kit.log"
         (folder / "kit").mkdir()

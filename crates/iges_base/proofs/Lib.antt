@@ -9,3 +9,5 @@ pub mod DigitFronts
 pub mod Eight
 pub mod Columns
 pub mod Spaced
+pub mod EightDigits
+pub mod FrontDigits

@@ -1,4 +1,5 @@
 pub mod Ended
 pub mod First
 pub mod InLine
+pub mod FrontDigits
 pub mod Word

@@ -1,21 +1,25 @@
-//! What all crates share: bytes, a text that grows, a list, spaces and integers in a text, the number of an entry, that
+//! What all crates share: bytes, a text that grows, a list, spaces, digits and integers in a text, the number of an entry, that
 //! memory ran out, and how large a file may be.
 #![tactic(auto)]
 
 mod bytes;
 mod column;
+mod counting;
 mod digits;
 mod entry_no;
 mod front;
+mod leading_digits;
 mod list;
 mod no_memory;
 mod out;
 
 pub use bytes::Bytes;
 pub use column::column_number;
+pub use counting::about_count;
 pub use digits::{is_digits, unsigned};
 pub use entry_no::EntryNo;
 pub use front::{trimmed, without_front_spaces};
+pub use leading_digits::{LeadingDigits, digits_len, digits_of};
 pub use list::ItemList;
 pub use no_memory::NoMemory;
 pub use out::{Out, put_number, write_number};

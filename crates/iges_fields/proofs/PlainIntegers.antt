@@ -1,73 +1,25 @@
 -- Digits at the front of a text, behind which a delimiter stands.
-use Rattle.std.proofs.Common.{◌≡◌, ℕ, zero, suc, ◌+◌, ◌-◌, ◌*◌, ◌^◌, ◌<◌, ◌≤◌, Bool, true, false, not, List, [], ◌∷◌, ◌++◌, length, take, drop, get_or, ℤ, pos}
+use Rattle.std.proofs.Common.{◌≡◌, ℕ, zero, suc, ◌-◌, ◌^◌, ◌<◌, ◌≤◌, Bool, true, false, not, List, [], ◌∷◌, ◌++◌, length, take, drop, get_or, ℤ, pos}
 use Rattle.std.proofs.Common.{Ok, refl, sym, ap, subst, ◌∙◌, arith}
 use Rattle.std.specs.Prelude.{◌==◌, neg_ℤ}
 use Rattle.std.specs.Char.{is_ascii_digit}
 use Rattle.std.specs.List.{list_all, prefix_len}
 use Rattle.std.specs.Str.Parse.{digits_value, signed_digits_value, without_leading_sign}
-use Rattle.std.proofs.Math.Nat.{pow-le-pow_right, pow-suc}
 use Rattle.std.proofs.Math.Seq.{drop-cons}
 use Rattle.std.proofs.lemmas.Bool.{and_from, and_parts, both_ways, cond-false, false_from_ne_true, le-leb, not-true}
-use Rattle.std.proofs.lemmas.Int.Digits.{digits_value_more}
 use Rattle.std.proofs.lemmas.List.{length-drop, length-take-le, take-append-drop}
-use Rattle.std.proofs.lemmas.List.Folds.{list_all_more}
-use Rattle.std.proofs.lemmas.Str.{digit_value_digit}
 use Rattle.iges_fields.specs.declared.value.Value.TheVariants as value
 use Rattle.iges_fields.specs.Delims.{Delims, are_permitted}
 use Rattle.iges_fields.specs.FreeText.{begins_text, fits_64_bits, is_delimiter_of}
 use Rattle.iges_fields.specs.Reading.{read_item, word_item}
 use Rattle.iges_base.specs.Word.{after_spaces, are_digits, is_empty, is_integer, trim}
-use Rattle.iges_base.proofs.DigitFronts.{digit_range, digit_is_not}
+use Rattle.iges_base.proofs.DigitFronts.{digit_is_not}
 use Rattle.iges_fields.proofs.ItemFronts.{trim_plain, unsigned_plain}
 use Rattle.iges_base.proofs.Spaces.{after_spaces-other}
 use Rattle.iges_base.proofs.Lists.{prefix_len-front, list_all-implies}
 use Rattle.iges_fields.proofs.Steps.{item_is_word, no_H_behind, word_default, word_from, word_int}
 use Rattle.iges_fields.proofs.WordKinds.{digit_mantissa}
 use Rattle.iges_fields.proofs.Words.{digit_number_byte, number_byte_no_space, number_byte_no_stop, stop_no_H, stop_no_space}
-
--- ---- digit by digit
-
-pub record IsDigitsSoFar (text : List ℕ) (len value : ℕ) : Type 0 where
-  pub within : len ≤ length text
-  pub most : len ≤ 18
-  pub all : list_all is_ascii_digit (take len text) ≡ true
-  pub is : value ≡ digits_value 10 (take len text)
-  pub few : value < 10 ^ len
-
-pub no_digits_yet : (text : List ℕ) → IsDigitsSoFar text 0 0
-no_digits_yet text = record { within = omega arith; most = omega arith; all = refl; is = refl; few = omega arith }
-
-powers : (n : ℕ) → n ≤ 18 → 10 ^ n ≤ 10 ^ 18
-powers n h = pow-le-pow_right (omega arith) h
-
-pub digits_few : (text : List ℕ) (len value : ℕ) → IsDigitsSoFar text len value → value < 10 ^ 18
-digits_few text len value so_far = let p = powers len so_far.most in omega (arith, so_far.few, p)
-
-module _ (text : List ℕ) (len value : ℕ) (so_far : IsDigitsSoFar text len value) (h : len < length text) (m : len < 18)
-    (e : is_ascii_digit (get_or text len 0) ≡ true) where
-  abbrev byte : ℕ
-  byte = get_or text len 0
-
-  pub digit_small : byte - 48 ≤ 9
-  digit_small = let range = digit_range byte e in omega (arith, range.0, range.1)
-
-  pub digit_next : IsDigitsSoFar text (len + 1) (value * 10 + (byte - 48))
-  digit_next =
-      let range = digit_range byte e in
-      let more = digits_value_more 10 text len h in
-      let worth = digit_value_digit byte range in
-      let small = digit_small in
-      let ten : 10 ^ (len + 1) ≡ 10 ^ len * 10 = power_next len in
-      record {
-        within = omega (arith, h);
-        most = omega (arith, m);
-        all = list_all_more is_ascii_digit text len 0 h ∙ and_from _ _ so_far.all e;
-        is = omega (arith, more, worth, so_far.is);
-        few = omega (arith, so_far.few, small, ten);
-      }
-    where
-      power_next : (n : ℕ) → 10 ^ (n + 1) ≡ 10 ^ n * 10
-      power_next n = let next : n + 1 ≡ suc n = omega arith in ap (λ (m : ℕ). 10 ^ m) next ∙ pow-suc 10 n
 
 -- digits are no spaces
 pub no_space_first : (t : List ℕ) (m : ℕ) → 0 < m → m ≤ length t → list_all is_ascii_digit (take m t) ≡ true → t ≡ after_spaces t

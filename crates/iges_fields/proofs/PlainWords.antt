@@ -12,11 +12,12 @@ use Rattle.std.proofs.lemmas.List.Folds.{list_all-append, list_any-append}
 use Rattle.iges_fields.specs.declared.value.Value.{Value}
 use Rattle.iges_fields.specs.declared.value.Value.TheVariants as value
 use Rattle.iges_fields.specs.declared.fault.FieldFault.{FieldFault}
-use Rattle.iges_fields.specs.declared.plain.Digits.{Digits}
+use Rattle.iges_base.specs.declared.leading_digits.LeadingDigits.{LeadingDigits}
 use Rattle.iges_fields.specs.declared.plain_word.PlainWord.{PlainWord}
 use Rattle.iges_fields.specs.Delims.{Delims, are_permitted}
 use Rattle.iges_fields.specs.FreeText.{Spells, fits_64_bits, item_fault}
-use Rattle.iges_fields.specs.Fronts.{AreDigits, IsPlainFront, is_mantissa_byte, is_power, value_of, up_to_past}
+use Rattle.iges_base.specs.FrontDigits.{AreLeadingDigits}
+use Rattle.iges_fields.specs.Fronts.{IsPlainFront, is_mantissa_byte, is_power, value_of, up_to_past}
 use Rattle.iges_fields.specs.Reading.{good_item, read_at, unless_fault}
 use Rattle.iges_base.specs.Word.{after_spaces, are_digits, is_empty, is_integer, spaces}
 use Rattle.iges_fields.specs.Word.{is_exponent_letter, is_mantissa, is_point, is_real}
@@ -127,7 +128,7 @@ module _ (body u : List ℕ) (u-is : u ≡ without_leading_sign body) (n : ℕ) 
       front_stop body (take n u) rest (sym u-is ∙ sym (take-append-drop n u) ∙ ap (λ (t : List ℕ). take n u ++ t) (sym rest-is)) some
       (omega (arith, ap length rest-is, length-drop n u, ap length u-is, unsigned_within body))
 
-  pub front_digits : (ds : Digits) → ds.len ≡ n → AreDigits u ds → AreDigits (without_leading_sign (take (length body - length rest) body)) ds
+  pub front_digits : (ds : LeadingDigits) → ds.len ≡ n → AreLeadingDigits u ds → AreLeadingDigits (without_leading_sign (take (length body - length rest) body)) ds
   front_digits ds len-is are =
       let w = without_leading_sign (take (length body - length rest) body) in
       let same : take ds.len w ≡ take ds.len u = ap (take ds.len) front_is ∙ take-take ds.len n u (omega (arith, len-is)) in
@@ -139,7 +140,7 @@ module _ (body u : List ℕ) (u-is : u ≡ without_leading_sign body) (n : ℕ) 
         few = are.few;
       }
 
-  pub front_long : (ds : Digits) → ds.len ≡ n → AreDigits u ds → ds.len ≡ length (without_leading_sign (take (length body - length rest) body))
+  pub front_long : (ds : LeadingDigits) → ds.len ≡ n → AreLeadingDigits u ds → ds.len ≡ length (without_leading_sign (take (length body - length rest) body))
   front_long ds len-is are = sym (ap length front_is ∙ ap (λ (m : ℕ). length (take m u)) (sym len-is) ∙ length-take-le ds.len u are.within)
 
 -- ---- integers
@@ -148,7 +149,7 @@ pub some_digits : (xs : List ℕ) → 0 < length xs → list_all is_ascii_digit 
 some_digits [] some all = absurd (omega (arith, some))
 some_digits (x ∷ xs) some all = and_from (not (is_empty (x ∷ xs))) (list_all is_ascii_digit (x ∷ xs)) refl all
 
-module _ (word : List ℕ) (ds : Digits) (are : AreDigits (without_leading_sign word) ds) (all : ds.len ≡ length (without_leading_sign word)) where
+module _ (word : List ℕ) (ds : LeadingDigits) (are : AreLeadingDigits (without_leading_sign word) ds) (all : ds.len ≡ length (without_leading_sign word)) where
   whole : take ds.len (without_leading_sign word) ≡ without_leading_sign word
   whole = ap (λ (n : ℕ). take n (without_leading_sign word)) all ∙
       (ap (take (length (without_leading_sign word))) (sym (append-nil (without_leading_sign word))) ∙ take_at (without_leading_sign word) []

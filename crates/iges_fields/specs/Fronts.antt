@@ -1,10 +1,9 @@
 -- Private: the digits and points at the front of a text.
-use Rattle.std.specs.Prelude.{◌≡◌, ◌<◌, ◌≤◌, ◌^◌, ℕ, min, Bool, true, ◌||◌, ◌&&◌, List, [], ◌∷◌, length, take, get_or, count_by}
+use Rattle.std.specs.Prelude.{◌≡◌, ◌<◌, ℕ, min, Bool, true, ◌||◌, ◌&&◌, List, [], ◌∷◌, length, take, get_or, count_by}
 use Rattle.std.specs.Char.{is_ascii_digit}
-use Rattle.std.specs.List.{list_all, prefix_len}
+use Rattle.std.specs.List.{prefix_len}
 use Rattle.std.specs.Str.Parse.{digits_value}
 use Rattle.iges_fields.specs.declared.mantissa.Mantissa.{Mantissa}
-use Rattle.iges_fields.specs.declared.plain.Digits.{Digits}
 use Rattle.iges_fields.specs.declared.plain_word.PlainWord.{PlainWord}
 use Rattle.iges_fields.specs.declared.plain_word.PlainWord.TheVariants as plain
 use Rattle.iges_fields.specs.declared.value.Value.{Value}
@@ -26,13 +25,6 @@ pub record IsMantissa (text : List ℕ) (m : Mantissa) : Type 0 where
   pub len : m.len ≡ prefix_len is_mantissa_byte text
   pub points : m.points ≡ count_by is_point (take m.len text)
   pub value : m.points ≡ 0 → m.value ≡ up_to_past (digits_value 10 (take m.len text))
-
--- digits at the front, no more than eighteen, and the number that they write
-pub record AreDigits (text : List ℕ) (ds : Digits) : Type 0 where
-  pub within : ds.len ≤ length text
-  pub all : list_all is_ascii_digit (take ds.len text) ≡ true
-  pub value : ds.value ≡ digits_value 10 (take ds.len text)
-  pub few : ds.value < 10 ^ 18
 
 -- nothing, or an exponent's letter and its integer
 abbrev pub is_power : List ℕ → Bool

@@ -2,7 +2,8 @@
 
 ghost use Rattle.iges_fields.specs.FreeText.{Spells};
 ghost use Rattle.iges_base.specs.Word.{after_spaces};
-ghost use Rattle.iges_fields.specs.Fronts.{AreDigits, IsPlainFront, value_of};
+ghost use Rattle.iges_base.specs.FrontDigits.{AreLeadingDigits};
+ghost use Rattle.iges_fields.specs.Fronts.{IsPlainFront, value_of};
 ghost use Rattle.std.specs.Char.{is_ascii_digit};
 ghost use Rattle.std.specs.List.{list_all};
 ghost use Rattle.std.specs.Prelude.{◌≡◌, ◌∷◌, ◌≤◌, IfSome, IsTrue, drop, length, take};
@@ -10,9 +11,8 @@ ghost use Rattle.std.specs.Str.Parse.{without_leading_sign};
 
 use crate::delimiters::Delimiters;
 use crate::kind::{WordKind, whole_kind};
-use crate::plain::{Digits, digits_of};
-use crate::reals::{digits_len, power_len};
-use iges_base::unsigned;
+use crate::reals::power_len;
+use iges_base::{LeadingDigits, digits_len, digits_of, unsigned};
 
 /// What a word without spaces is.
 #[derive(Clone, Copy)]
@@ -27,9 +27,9 @@ pub enum PlainWord {
 
 // The first so many bytes, which are digits behind their sign.
 #[inline(always)]
-fn whole_word(body: &[u8], len: usize, digits: Digits) -> Option<(PlainWord, usize)>
+fn whole_word(body: &[u8], len: usize, digits: LeadingDigits) -> Option<(PlainWord, usize)>
     requires within { len ≤ length body.now }
-    requires digits { AreDigits (without_leading_sign (take len body.now)) digits }
+    requires digits { AreLeadingDigits (without_leading_sign (take len body.now)) digits }
     requires all { digits.len ≡ length (without_leading_sign (take len body.now)) }
     ensures { IfSome result (λ x. (x.1 ≡ len)
         × Spells (value_of x.0 (take len body.now)) (take len body.now)) }
@@ -83,8 +83,8 @@ fn real_len(delims: &Delimiters, body: &[u8], whole: usize, after: &[u8]) -> Opt
 
 /// The length of the real at the front of the text that begins with these digits. None says nothing of the text.
 #[inline(always)]
-pub fn unsigned_real(delims: &Delimiters, text: &[u8], digits: Digits) -> Option<usize>
-    requires { AreDigits text.now digits }
+pub fn unsigned_real(delims: &Delimiters, text: &[u8], digits: LeadingDigits) -> Option<usize>
+    requires { AreLeadingDigits text.now digits }
     ensures { IfSome result (λ len. IsPlainFront delims.now text.now PlainWord.Real len
         × (text.now ≡ after_spaces text.now)) }
 {

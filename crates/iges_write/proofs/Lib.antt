@@ -12,6 +12,7 @@ pub mod Widths
 pub mod FileBack
 pub mod Made
 pub mod Sheets
+pub mod Endings
 pub mod EntryLines
 pub mod Pages
 pub mod Places

@@ -1,5 +1,5 @@
 -- Private: lines that are written one after the other.
-use Rattle.std.specs.Prelude.{◌≡◌, ℕ, ◌+◌, ◌<◌, ◌≤◌, nat_le, true, false, List, [], ◌∷◌, ◌++◌, length, Result, Ok, Err}
+use Rattle.std.specs.Prelude.{◌≡◌, ℕ, ◌+◌, ◌<◌, ◌≤◌, nat_le, true, false, List, [], ◌∷◌, ◌++◌, length, Option, Some, None, Result, Ok, Err}
 use Rattle.std.specs.Fmt.{decimal}
 use Rattle.iges_base.specs.declared.TheConstants.{FILE_LIMIT}
 use Rattle.iges_fields.specs.declared.value.Value.{Value}
@@ -7,7 +7,7 @@ use Rattle.iges_fields.specs.Delims.{Delims}
 use Rattle.iges_write.specs.declared.fault.WriteFileFault.{WriteFileFault}
 use Rattle.iges_write.specs.declared.fault.WriteFileFault.TheVariants as fault
 use Rattle.iges_write.specs.Filled.{padded}
-use Rattle.iges_write.specs.Text.{right}
+use Rattle.iges_write.specs.Text.{count_field, right}
 
 -- The finished lines, and the one that is being made.
 pub record Sheet : Type 0 where
@@ -88,6 +88,16 @@ pub record IsSheet (text : List ℕ) (number limit : ℕ) : Type 0 where
 abbrev pub Fails : WriteFileFault → Sheet → Type 0
 Fails fault.TooLarge next = next.limit < length next.text
 Fails fault.NoMemory next = Unit {0}
+
+-- what comes after the columns of a line, where anything does
+abbrev pub tail_bytes : Option (List ℕ) → List ℕ
+tail_bytes (Some tail) = tail
+tail_bytes None = []
+
+-- What a page always keeps: it is a sheet of bytes, and knows how the line being made will end.
+pub record IsPage (text ending : List ℕ) (letter number limit : ℕ) : Type 0 where
+  pub sheet : IsSheet text number limit
+  pub ending_is : ending ≡ count_field letter number
 
 -- the next sheet, or it is too large
 abbrev pub Steps : {A : Type 0} → Result A WriteFileFault → Sheet → Sheet → Type 0

@@ -3,7 +3,7 @@ ghost use Rattle.iges_write.specs.Sheet.{Steps};
 ghost use Rattle.iges_write.specs.Text.{count_field, counts_columns};
 ghost use Rattle.std.specs.Prelude.{◌≡◌, ◌++◌, IfOk, length};
 
-use crate::column::{put_seven, put_spaces};
+use crate::column::{count_field, put_spaces};
 use crate::fault::WriteFileFault;
 use crate::page::Page;
 use iges_fields::NoMemory;
@@ -25,8 +25,8 @@ pub struct Counts {
 fn put_count(line: &mut Vec<u8>, letter: u8, count: u64) -> Result<(), NoMemory>
     ensures { IfOk result (λ _. line.new.items ≡ line.old.items ++ count_field letter count) }
 {
-    line.push(letter)?;
-    put_seven(line, count)
+    line.extend_from_slice(&count_field(letter, count))?;
+    Ok(())
 }
 
 // The columns 1 to 72 of the terminate line, in place of `line`.

@@ -3,24 +3,27 @@ ghost use Rattle.iges_base.specs.declared.TheConstants.{FILE_LIMIT};
 ghost use Rattle.iges_fields.specs.declared.value.Value.TheVariants as value;
 ghost use Rattle.iges_write.specs.FileSheet.{blank};
 ghost use Rattle.iges_write.specs.Filling.{fill};
+ghost use Rattle.iges_write.specs.Text.{count_field};
 ghost use Rattle.iges_write.specs.Parts.{parts, single_parts, value_parts, word_parts};
 ghost use Rattle.iges_write.specs.Sheet.{Steps, add, append_text, begin, end_line, make_room, next_delimiter, put_lines, put_part, put_parts, record_tail, with_tail};
 ghost use Rattle.std.specs.Prelude.{◌≡◌, ◌+◌, ◌<◌, ◌≤◌, ◌^◌, [], ◌∷◌, ◌++◌, length, map, IfOk, IsTrue, decimal};
 
-use crate::column::{finish_line, put_seven};
+use crate::column::{count_field, finish_line, next_field};
 use crate::fault::WriteFileFault;
-use iges_fields::{Bytes, Delimiters, NoMemory, Value};
+use iges_fields::{Bytes, Delimiters, Value};
 use itoa::{Buffer, write_digits};
 use std::alloc::Global;
 use std::marker::Model;
 
 /// Lines that are written one after the other: the finished ones, each with its section's letter and its number, and the
-/// line being made. A section has lines of `width` free columns, 72, or 64 where `tail` comes after them.
+/// line being made, whose letter and number are `ending`. A section has lines of `width` free columns, 72, or 64 where `tail`
+/// comes after them.
 #[derive(Drop)]
 pub struct Page {
     text: Vec<u8>,
     line: Vec<u8>,
-    tail: Vec<u8>,
+    tail: Option<[u8; 8]>,
+    ending: [u8; 8],
     letter: u8,
     number: u64,
     width: usize,
@@ -28,21 +31,21 @@ pub struct Page {
 }
 
 impl Model for Page {
-    ghost use Rattle.iges_write.specs.Sheet.{IsSheet, Sheet};
+    ghost use Rattle.iges_write.specs.Sheet.{IsPage, Sheet, tail_bytes};
 
     ghost Value = { Sheet };
 
     ghost view = { λ p. record {
       text = p.text.items;
       line = p.line.items;
-      tail = p.tail.items;
+      tail = tail_bytes p.tail;
       letter = p.letter;
       number = p.number;
       width = p.width;
       limit = p.limit;
     } };
 
-    ghost invariant = { λ p. IsSheet p.text.items p.number p.limit };
+    ghost invariant = { λ p. IsPage p.text.items p.ending p.letter p.number p.limit };
 }
 
 impl Page {
@@ -54,7 +57,8 @@ impl Page {
         Page {
             text: Vec::new(alloc),
             line: Vec::new(alloc),
-            tail: Vec::new(alloc),
+            tail: None,
+            ending: first_ending(letter),
             letter,
             number: 1,
             width,
@@ -76,18 +80,14 @@ impl Page {
     fn end_line(&mut self) -> Result<(), WriteFileFault>
         ensures { Steps result self.new (end_line self.old) }
     {
-        finish_line(
-            &mut self.line,
-            self.width,
-            self.tail.as_slice(),
-            self.letter,
-            self.number,
-        )?;
+        let next = next_field(self.ending, self.letter, self.number);
+        finish_line(&mut self.line, self.width, self.tail, self.ending)?;
         if self.line.len() as u64 > self.limit - self.text.len() as u64 {
             return Err(WriteFileFault::TooLarge);
         }
         self.text.extend_from_slice(self.line.as_slice())?;
         self.line.clear();
+        self.ending = next;
         self.number += 1;
         Ok(())
     }
@@ -261,7 +261,8 @@ impl Page {
         ensures { self.new ≡ begin self.old letter width }
     {
         self.line.clear();
-        self.tail.clear();
+        self.tail = None;
+        self.ending = first_ending(letter);
         self.letter = letter;
         self.number = 1;
         self.width = width;
@@ -295,19 +296,17 @@ impl Page {
     }
 
     // From here on an entry's number comes after the free columns.
-    fn set_tail(&mut self, number: u64) -> Result<(), NoMemory>
-        ensures { IfOk result (λ _. self.new ≡ with_tail self.old (record_tail number)) }
+    fn set_tail(&mut self, number: u64)
+        ensures { self.new ≡ with_tail self.old (record_tail number) }
     {
-        self.tail.clear();
-        self.tail.push(b' ')?;
-        put_seven(&mut self.tail, number)
+        self.tail = Some(count_field(b' ', number));
     }
 
     // From here on nothing comes after the free columns.
     fn clear_tail(&mut self)
         ensures { self.new ≡ with_tail self.old [] }
     {
-        self.tail.clear();
+        self.tail = None;
     }
 
     /// Puts the record of the entry with this number, on lines of its own.
@@ -323,7 +322,7 @@ impl Page {
         ensures { Steps result self.new (put_lines self.old (map (λ l. l ++ record_tail number)
             (fill self.old.width [] (parts self.old.width delims.now (value.Int kind.now ∷ values.now))))) }
     {
-        self.set_tail(number)?;
+        self.set_tail(number);
         self.fill_record(&i64::from(*kind), values, delims)?;
         self.clear_tail();
         Ok(())
@@ -382,6 +381,13 @@ impl Page {
     {
         Bytes::from_vec(self.text)
     }
+}
+
+// The ending of a section's first line.
+fn first_ending(letter: u8) -> [u8; 8]
+    ensures { result ≡ count_field letter 1 }
+{
+    [letter, b' ', b' ', b' ', b' ', b' ', b' ', b'1']
 }
 
 // The delimiter before these values.

@@ -97,19 +97,26 @@ next_value kept own vs i v p c list new at ep ec inv en =
     ∙ (ap (λ (x : Value). map (as_kept kept own) (enumerate_from 1 (take i vs)) ++ new_value kept own (1 + length (take i vs)) x ∷ []) got
     ∙ ap (λ (n : ℕ). map (as_kept kept own) (enumerate_from 1 (take i vs)) ++ new_value kept own n v ∷ []) long))))))
 
+plain : (kept : List ℕ) (x : Value) → value_as kept false false x ≡ x
+plain kept value.Default = refl
+plain kept (value.Int n) = refl
+plain kept (value.Real w) = refl
+plain kept (value.Text t) = refl
+
+-- what is no pointer and isn't cut stays
+pub stays : (kept : List ℕ) (p c : Bool) (vs : List Value) (i : ℕ) (v : Value) → p ≡ false → c ≡ false → slice_get vs i ≡ Some v
+    → vs ≡ set vs i (value_as kept p c v)
+stays kept p c vs i v ep ec at =
+    set_same vs i v (value_as kept p c v) at
+    (ap (λ (b : Bool). value_as kept b c v) ep ∙ ap (λ (b : Bool). value_as kept false b v) ec ∙ plain kept v)
+
 -- without a pointer all stay
 pub all_plain : (kept : List ℕ) (own : Own) (k : ℕ) (vs : List Value) → own.pointers ≡ [] → own.cut ≡ [] → map (as_kept kept own) (enumerate_from k vs) ≡ vs
 all_plain kept own k [] ep ec = refl
 all_plain kept own k (v ∷ vs) ep ec =
-    let stays : new_value kept own k v ≡ v =
-    sym (value_is kept own k false false v (sym (ap (λ (ps : List ℕ). is_among ps k) ep)) (sym (ap (λ (ps : List ℕ). is_among ps k) ec))) ∙ plain v in
-    λ j. stays j ∷ all_plain kept own (k + 1) vs ep ec j
-  where
-    plain : (x : Value) → value_as kept false false x ≡ x
-    plain value.Default = refl
-    plain (value.Int n) = refl
-    plain (value.Real w) = refl
-    plain (value.Text t) = refl
+    let same : new_value kept own k v ≡ v =
+    sym (value_is kept own k false false v (sym (ap (λ (ps : List ℕ). is_among ps k) ep)) (sym (ap (λ (ps : List ℕ). is_among ps k) ec))) ∙ plain kept v in
+    λ j. same j ∷ all_plain kept own (k + 1) vs ep ec j
 
 -- the values of which the first i are as they are kept
 module _ (kept : List ℕ) (own : Own) (vs : List Value) where

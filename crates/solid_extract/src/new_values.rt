@@ -60,12 +60,17 @@ fn integer_for(renaming: &Renaming, value: &Value, is_pointer: bool, is_cut: boo
     }
 }
 
-// Puts in place of the i-th value, i from 0, what it is as it is kept.
+// Puts in place of the i-th value, i from 0, what it is as it is kept. Most values stay.
+#[inline(always)]
+#[tactic(auto, using(crate::proofs::KeptValues::stays))]
 fn renew(values: &mut Values, renaming: &Renaming, i: usize, is_pointer: bool, is_cut: bool)
     requires { i < length values.old }
     ensures { (v : OneValue) → slice_get values.old i ≡ Some v
         → values.new ≡ set values.old i (value_as renaming.now is_pointer is_cut v) }
 {
+    if !is_pointer && !is_cut {
+        return;
+    }
     let value = values.get(i).unwrap();
     if let Some(number) = integer_for(renaming, value, is_pointer, is_cut) {
         values.set(i, Value::Int(number));

@@ -1,4 +1,4 @@
-use Rattle.std.proofs.Common.{rules, refl, ap, subst, arith, ◌≡◌, ◌≤◌, ◌∙◌, ◌+◌, ◌∷◌, [], ◌++◌, List, ℕ, length, length-append}
+use Rattle.std.proofs.Common.{rules, refl, ap, subst, arith, ◌≤◌, ◌∙◌, ◌∷◌, [], ◌++◌, List, ℕ, length, length-append}
 use Rattle.std.specs.Fmt.{decimal}
 use Rattle.std.proofs.lemmas.Fmt.{length-decimal-le}
 use Rattle.iges_write.specs.Sheet.{Sheet, Steps, put_part}

@@ -11,22 +11,22 @@ returns-in_err-fill_record c =
     let s = c.args.self.now in
     let t = c.set_tail.new.self in
     let lines = λ (n : ℕ). fill n [] (parts n c.args.delims.now (value.Int c.args.kind.now ∷ c.args.values.now)) in
-    let is = c.in_ok-set_tail.ensures in
+    let is = c.set_tail.ensures in
     let kind : to_z w64 (of_z w64 c.from.result) ≡ c.args.kind.now = search rules in
     let filled = subst (λ (z : ℤ). Fails c.in_err-fill_record.field-0.0 (put_lines t (fill t.width [] (parts t.width c.args.delims.now
     (value.Int z ∷ c.args.values.now))))) kind (c.in_err-fill_record.ensures {u = tt}) in
-    same_fails c.from_residual-in_err-fill_record.result _ _ _
+    same_fails c.from_residual.result _ _ _
     (subst (λ (n : ℕ). Fails c.in_err-fill_record.field-0.0 (put_lines s (map (λ (l : List ℕ). l ++ record_tail c.args.number) (lines n))))
     (ap (λ (x : Sheet). x.width) is)
     (record_fails s t (record_tail c.args.number) (lines t.width) c.requires.empty c.requires.no_tail is _ filled))
-    c.from_residual-in_err-fill_record.ensures.1
+    c.from_residual.ensures.1
 
 pub returns : goal.returns
 returns c =
     let s = c.args.self.now in
     let t = c.set_tail.new.self in
     let lines = λ (n : ℕ). fill n [] (parts n c.args.delims.now (value.Int c.args.kind.now ∷ c.args.values.now)) in
-    let is = c.in_ok-set_tail.ensures in
+    let is = c.set_tail.ensures in
     let kind : to_z w64 (of_z w64 c.from.result) ≡ c.args.kind.now = search rules in
     let filled = subst (λ (z : ℤ). c.fill_record.new.self ≡ put_lines t (fill t.width [] (parts t.width c.args.delims.now (value.Int z ∷ c.args.values.now))))
     kind (c.in_ok-fill_record.ensures {u = tt}) in

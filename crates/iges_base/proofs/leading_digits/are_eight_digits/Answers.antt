@@ -1,6 +1,6 @@
 use Rattle.std.proofs.Common.{sym, ◌∙◌}
-use Rattle.iges_fields.proofs.EightDigits.{all_eight}
-use Rattle.iges_fields.proofs.reals.are_eight_digits.Goals as goal
+use Rattle.iges_base.proofs.EightDigits.{all_eight}
+use Rattle.iges_base.proofs.leading_digits.are_eight_digits.Goals as goal
 
 pub returns : goal.returns
 returns c all =

@@ -1,5 +1,5 @@
 use Rattle.std.proofs.Common.{length, ◌≤◌}
-use Rattle.iges_fields.proofs.counting.count_in_blocks.Given as goal
+use Rattle.iges_base.proofs.counting.count_in_blocks.Given as goal
 
 abbrev pub invariant-pieces : goal.invariant-pieces
 invariant-pieces l = record { within : length l.rest ≤ length l.text }
