@@ -1,0 +1,5 @@
+pub mod Spelled
+pub mod Equal
+pub mod Canonical
+pub mod Keys
+pub mod Laws
