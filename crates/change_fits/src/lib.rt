@@ -1,0 +1,10 @@
+//! Whether a change of a shell fits: what it may be, item by item.
+#![tactic(auto)]
+
+mod covering;
+mod fitting;
+mod new_names;
+
+pub use covering::covers;
+pub use fitting::fits;
+pub use new_names::names_new;

@@ -1,0 +1,29 @@
+//! A change of a shell as data: which faces stay, in which pieces, and what the uses of their loops name then. And what such a
+//! change may be, clause by clause, decided exactly, in time linear in the change.
+//!
+//! A change comes from a search that may be as clever as it likes: where everything comes from stands in the change, so
+//! that each item is looked at by itself. Geometry is known here by numbers alone, equal where the records are equal.
+#![tactic(auto)]
+
+mod change;
+mod geometry;
+mod keeping;
+mod loops;
+mod moves;
+mod pieces;
+mod seams;
+mod tracks;
+mod uses;
+
+pub use change::{
+    Change, EdgeName, EdgeNow, FaceNow, Fate, LoopNow, Move, NewEdge, NewVertex, Seam, Told,
+    UseNow, VertexName,
+};
+pub use geometry::{CurveKnown, Geometry};
+pub use keeping::keeps_geometry;
+pub use loops::{faces_fit, item_at};
+pub use moves::{Step, move_fits};
+pub use pieces::pieces_in_order;
+pub use seams::seam_fits;
+pub use tracks::Track;
+pub use uses::{new_edge_fits, use_fits};
