@@ -1,9 +1,10 @@
-"""Static libraries by the kit, for packaging/c/make and packaging/web/module.
+"""Static libraries by the kit, for packaging/c/make and packaging/llvm_module; and the kit's clang.
 
 `rt lib` proves each crate below a library first. The gate, `rt ci`, has done that just before, and leaves each crate's proved library in
 crates/NAME/out/rlib, but not what tells `rt lib` so: it would prove them all again, for half of the gate's time. So where all of them
 stand, and none is older than a source of its crate or of one below, the library is built straight from them. `rattle build` proves only
 the crate of the library itself. Otherwise `rt lib` makes it."""
+import functools
 import os
 import pathlib
 import re
@@ -16,8 +17,14 @@ ROW = re.compile(r"(?m)^(\w+)(?: staticlib)?:(.*)$")
 SOURCES = "src", "specs", "proofs"
 
 
+@functools.lru_cache
 def kit_folder():
     return pathlib.Path(subprocess.run(["rt", "doc"], capture_output=True, text=True, check=True).stdout.strip()).parent
+
+
+def clang(*words, name="clang", **how):
+    """A run of the kit's clang, or of what it is under another name."""
+    return subprocess.run([name, *map(str, words)], executable=kit_folder() / "toolchain" / "bin" / "clang", check=True, **how)
 
 
 class Crates:

@@ -1,8 +1,10 @@
 """The library for C: programs in C that use it, compiled with every warning and run under valgrind; threads; a heap with a cap; and each
 example by the shared library and by packaging/c/main.c over the static one, beside the programs."""
 import ctypes
+import os
 import re
 import shutil
+import signal
 import subprocess
 
 from libraries import EXAMPLES, HEADER, TOP, answer, examples, requests, shipped
@@ -15,7 +17,7 @@ VALGRIND = "valgrind", "--quiet", "--leak-check=full", "--show-leak-kinds=all", 
 HELGRIND = "valgrind", "--quiet", "--tool=helgrind", "--error-exitcode=99"
 # A symbol of a section that can be written, and has bytes there.
 VARIABLE = re.compile(r" (?:\.(?:data|bss|tdata|tbss)(?!\.rel\.ro)\S*|\*COM\*)\t0*[1-9a-f]")
-# What stands around an example of a page.
+# What stands around the example of the page.
 AROUND = """#include "igesolid.h"
 #include <stdio.h>
 int main(int count, char **given) {
@@ -75,18 +77,15 @@ def of_c(folder, archive, shared, skipped):
         yield f"library: the header in C++{done.stderr}", done.returncode == 0
 
 
-def of_pages(folder, archive, program, where):
-    """The examples in C of the pages, each on a file: they compile, and print what the program prints."""
-    file = EXAMPLES / "occt" / "16_three_solids.igs"
-    for page, words in (("README.md", (where, file, "3")), ("docs/LIBRARY.md", (program, "certify", file, "all"))):
-        code = re.search(r"(?s)```c\n(.*?)```", (TOP / page).read_text())[1]
-        source, made = folder / "page.c", folder / "page"
-        source.write_text(AROUND % code)
-        done = run("gcc", "-std=c11", "-Wall", "-Wextra", "-Werror", "-I", HEADER, source, archive, "-o", made)
-        yield f"{page}: its C{done.stderr}", done.returncode == 0
-        wanted = run(*words)
-        told = run(made, file)
-        yield f"{page}: its C, run", (told.returncode, told.stdout) == (wanted.returncode, wanted.stdout)
+def of_page(folder, archive, program):
+    """The example in C of docs/LIBRARY.md, on a file: it compiles, and prints what the program prints."""
+    file, page = EXAMPLES / "occt" / "16_three_solids.igs", "docs/LIBRARY.md"
+    source, made = folder / "page.c", folder / "page"
+    source.write_text(AROUND % re.search(r"(?s)```c\n(.*?)```", (TOP / page).read_text())[1])
+    done = run("gcc", "-std=c11", "-Wall", "-Wextra", "-Werror", "-I", HEADER, source, archive, "-o", made)
+    yield f"{page}: its C{done.stderr}", done.returncode == 0
+    wanted, told = run(program, "certify", file, "all"), run(made, file)
+    yield f"{page}: its C, run", (told.returncode, told.stdout) == (wanted.returncode, wanted.stdout)
 
 
 def of_main(folder, archive, program, where):
@@ -99,6 +98,17 @@ def of_main(folder, archive, program, where):
         yield f"library: main.c, {call}: no warning{done.stderr}", (done.returncode, done.stderr) == (0, "")
         made[call] = Runner(path)
     yield from alike("library: main.c", made, native)
+    yield "library: main.c: a pipe without a reader", without_reader(folder / "main-run", "extract", EXAMPLES / "cube.igs", "1") == (5, "")
+
+
+def without_reader(*words):
+    """The status and standard error of a run that writes to a pipe whose reader has gone."""
+    reader, writer = os.pipe()
+    os.close(reader)
+    default = lambda: signal.signal(signal.SIGPIPE, signal.SIG_DFL)
+    done = subprocess.run(list(map(str, words)), stdout=writer, stderr=subprocess.PIPE, text=True, preexec_fn=default)
+    os.close(writer)
+    return done.returncode, done.stderr
 
 
 def alike(name, made, native):
@@ -182,5 +192,5 @@ def checks(context):
     folder = context.new_folder()
     yield from of_names(archive, shared)
     yield from of_c(folder, archive, shared, context.skipped)
-    yield from of_pages(folder, archive, program, where)
+    yield from of_page(folder, archive, program)
     yield from of_main(folder, archive, program, where)

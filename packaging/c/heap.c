@@ -1,8 +1,10 @@
 /* The heap of the library: what the proved code calls for memory, over the C library's malloc, as the kit's own C has it; and the
- * end of a text, which the proved code gave away for good. */
+ * end of a text, which the proved code gave away for good. On Windows C gives a struct back in another way than the proved code
+ * expects, so there the heap is packaging/windows/heap.ll. */
 #include "igesolid.h"
 #include <stdlib.h>
 
+#ifndef _WIN32
 typedef struct {
     uint64_t ok;
     void *p;
@@ -27,6 +29,7 @@ Tried rattle_realloc(void *p, size_t kept, size_t n, size_t align) {
 void rattle_dealloc(void *p) {
     free(p);
 }
+#endif
 
 /* A text has a block exactly where it has bytes. */
 void igesolid_free(igesolid_text *text) {

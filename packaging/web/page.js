@@ -30,36 +30,74 @@ function time(ms) {
   return ms < 1000 ? `${ms.toFixed(ms < 10 ? 1 : 0)} ms` : `${(ms / 1000).toFixed(2)} s`;
 }
 
-let worker = null, ready = null, last = 0;
-const waiting = new Map();
+let module = null, worker = null, ready = null, running = null, last = 0;
+// What is asked and not yet answered, in order; the files that were given, by their keys; and those whose bytes the worker holds.
+const jobs = [], givens = new Map(), held = new Set();
 
-function sent(message, passed = []) {
-  return new Promise(settle => {
-    message.job = ++last;
-    waiting.set(last, settle);
-    worker.postMessage(message, passed);
-  });
+/** Starts a worker, and gives it the module. */
+function employ() {
+  worker = new Worker(URL.createObjectURL(new Blob([element("work").textContent], { type: "text/javascript" })));
+  worker.onmessage = ({ data }) => { if (data.job === running?.message.job) end(data); };
+  worker.onerror = fault => { if (running) end({ fault: fault.message }); };
+  held.clear();
+  worker.postMessage({ module });
 }
 
-/** Starts the worker, and gives it the module that stands in the page. */
+/** Compiles the module that stands in the page. */
 async function begin() {
   if (typeof WebAssembly !== "object" || typeof Worker !== "function") throw new Error("it has no WebAssembly");
-  worker = new Worker(URL.createObjectURL(new Blob([element("work").textContent], { type: "text/javascript" })));
-  worker.onmessage = ({ data }) => { waiting.get(data.job)(data); waiting.delete(data.job); };
-  worker.onerror = fault => { for (const settle of waiting.values()) settle({ fault: fault.message }); waiting.clear(); };
   const text = element("module").textContent.trim();
-  const module = await WebAssembly.compile(Uint8Array.from(atob(text), it => it.charCodeAt(0)));
-  const told = await sent({ module });
-  if (told.fault) throw new Error(told.fault);
+  module = await WebAssembly.compile(Uint8Array.from(atob(text), it => it.charCodeAt(0)));
+  employ();
+}
+
+/** Gives the worker the next job, with the bytes of its file where the worker doesn't hold them. */
+async function next() {
+  if (running || jobs.length === 0) return;
+  const job = running = jobs.shift(), { message } = job;
+  try {
+    if (!message.bytes && !held.has(message.file)) message.bytes = await givens.get(message.file)?.arrayBuffer();
+  } catch (fault) {
+    if (running === job) end({ fault: `The file can't be read: ${fault.message}` });
+  }
+  // The file may have been removed meanwhile.
+  if (running !== job) return;
+  if (message.bytes) held.add(message.file);
+  worker.postMessage(message, message.bytes ? [message.bytes] : []);
+}
+
+function end(got) {
+  const { settle } = running;
+  running = null;
+  settle(got);
+  next();
 }
 
 /** What the worker answers; a sentence in `fault` where it can't. */
-async function asked(message, passed) {
+async function asked(message) {
   try {
     await ready;
-    return await sent(message, passed);
   } catch (fault) {
     return { fault: `This browser can't run the checker: ${fault.message}` };
+  }
+  return new Promise(settle => {
+    message.job = ++last;
+    jobs.push({ message, settle });
+    next();
+  });
+}
+
+/** Ends what is asked of a file. A call can't be stopped, but its worker can; another one goes on with the other files. */
+function removed(key) {
+  givens.delete(key);
+  const others = jobs.filter(it => it.message.file !== key), said = { fault: "The file was removed." };
+  for (const { message, settle } of jobs.splice(0, jobs.length, ...others)) if (message.file === key) settle(said);
+  if (running?.message.file === key) {
+    worker.terminate();
+    employ();
+    end(said);
+  } else if (held.delete(key)) {
+    worker.postMessage({ file: key, forget: true });
   }
 }
 
@@ -84,9 +122,9 @@ function button(label, box, what, run) {
   const it = made("button", { textContent: label });
   it.onclick = async () => {
     it.disabled = true;
-    const end = busy(box, what);
+    const stop = busy(box, what);
     await run();
-    end();
+    stop();
     it.disabled = false;
   };
   return it;
@@ -196,14 +234,12 @@ async function judge(given) {
   const file = { name: given.name, stem: given.name.replace(/\.[^.]*$/, ""), key: `${++last} ${given.name}` };
   const note = made("span"), remove = made("button", { textContent: "Remove" });
   const box = made("section", {}, made("header", {}, made("b", { textContent: given.name }), made("span", { textContent: size(given.size) }), note, remove));
-  remove.onclick = () => { box.remove(); asked({ file: file.key, forget: true }); };
+  remove.onclick = () => { box.remove(); removed(file.key); };
+  givens.set(file.key, given);
   element("files").prepend(box);
-  const end = busy(box, "reading and judging");
-  const got = await given.arrayBuffer().then(
-    bytes => asked({ file: file.key, bytes, words: ["where", "-"] }, [bytes]),
-    fault => ({ fault: `The file can't be read: ${fault.message}` }),
-  );
-  end();
+  const stop = busy(box, "reading and judging");
+  const got = await asked({ file: file.key, words: ["where", "-"] });
+  stop();
   const isJudged = !got.fault && got.status <= 1;
   if (isJudged) {
     note.textContent = `${time(got.took)}, ${size(got.memory)} of memory`;
