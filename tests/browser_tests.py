@@ -308,7 +308,15 @@ def of_index(browser, folder, programs):
     column = "[...document.querySelectorAll('tbody tr')].map(it => it.cells[%d].textContent)"
     press = "document.querySelectorAll('th button')[%d].click()"
     names = browser.run(column % 0)
-    yield "browser: an index", len(names) == 5 and names == sorted(names) and is_quiet(browser)
+    verdicts = browser.run(column % 1)
+    yield "browser: an index", len(names) == 5 and verdicts[3:] == ["closed"] * 2 and names[:3] == sorted(names[:3]) and is_quiet(browser)
+    choose = "(() => { const it = document.getElementById('%s'); it.value = %r; it.dispatchEvent(new Event('%s')); })()"
+    browser.run(choose % ("verdict", "not closed", "change"))
+    yield "browser: an index, of one verdict", browser.run(column % 1) == ["not closed"] * 2
+    browser.run(choose % ("name", "PINCHED", "input"))
+    yield "browser: an index, of a name", [it.endswith("77_pinched_edge.igs") for it in browser.run(column % 0)] == [True]
+    browser.run(choose % ("verdict", "", "change"))
+    browser.run(choose % ("name", "", "input"))
     browser.run(press % 1)
     yield "browser: an index by its verdicts", browser.run(column % 1) == ["bad file", "closed", "closed", "not closed", "not closed"]
     browser.run(press % 2)
@@ -321,6 +329,24 @@ def of_index(browser, folder, programs):
         yield f"browser: {target.split('-')[0]} of an index: {shown}", is_quiet(browser) and shown.split()[0] in ("fail", "bad")
         is_drawn = browser.run("view === null ? document.getElementById('excerpt').innerText.length > 20 : view.faults.length > 0")
         yield f"browser: {target.split('-')[0]} of an index is drawn", is_drawn
+
+
+def of_large_index(browser, folder):
+    """An index of 10,000 rows has few nodes at any time, and each row can be found."""
+    sys.path.insert(0, str(TOP / "python"))
+    from igesolid.check.html_index import index_of
+
+    rows = [[f"parts/{k:05}.igs", "closed" if k % 3 else "not closed", 1, int(k % 3 > 0), "", [] if k % 3 else [[f"pages/{k}.html", "solid 1"]]] for k in range(10_000)]
+    (folder / "large.html").write_bytes(index_of(rows, "10,000 files"))
+    browser.open(folder / "large.html")
+    nodes, shown = "document.getElementsByTagName('*').length", "document.getElementById('shown').textContent"
+    told = [(browser.run(nodes) < 2_500, browser.run(shown))]
+    for act in ("document.getElementById('on').click()", "document.querySelectorAll('th button')[0].click()", "document.querySelectorAll('th button')[0].click()"):
+        browser.run(act)
+        told.append((browser.run(nodes) < 2_500, browser.run(shown)))
+    wanted = ["1 to 200", "201 to 400", "1 to 200", "1 to 200"]
+    yield f"browser: an index of 10,000 rows: {told}", told == [(True, f"{it} of 10000") for it in wanted]
+    yield "browser: its last row is first", browser.run("document.querySelector('tbody td').textContent") == "parts/09999.igs" and is_quiet(browser)
 
 
 def flank():
@@ -502,6 +528,7 @@ def checks(folder, programs, skipped):
             yield from run(browser, folder)
         yield from of_surfaces(browser, folder, programs.where)
         yield from of_index(browser, folder, programs)
+        yield from of_large_index(browser, folder)
         yield from of_large_solids(browser, folder)
     finally:
         browser.close()

@@ -1,6 +1,5 @@
 """Many files: `igesolid check`, the Python package under it, and the recipes of docs/MANY.md as they are printed there."""
 import ast
-import base64
 import concurrent.futures
 import csv
 import hashlib
@@ -9,16 +8,17 @@ import json
 import os
 import pathlib
 import re
+import resource
 import shutil
 import signal
 import subprocess
 import sys
 import time
-import zipfile
 
 import clone
 import dask_cluster
 import html_tests
+import package_tests
 import slurm_cluster
 from libraries import shipped
 from programs import TOP
@@ -331,6 +331,7 @@ def interrupts(parts):
         yield f"{name}: a word", "Traceback" not in said and said.endswith("igesolid: interrupted: 1 of 2 files are judged\r\n")
     yield from interrupted_programs(parts, pids)
     yield from early_interrupts(parts)
+    yield from noted_signals(parts)
     yield from interrupted_report(parts)
 
 
@@ -386,6 +387,80 @@ def early_interrupts(parts):
         os.close(master)
         is_whole = not table.exists() or parts.check("parts", "--table", "early.csv")[0] == 3
         yield f"check: a signal at {n * 0.03:.2f} s", b"Traceback" not in said and process.returncode in (-2, -15, 3) and is_whole
+
+
+def noted_signals(parts):
+    """From Python's first line on, a signal ends it with a report of what is done, and its status; a second one needn't wait for it."""
+    heeding = lambda: [signal.signal(it, signal.SIG_DFL) for it in (signal.SIGINT, signal.SIGTERM, signal.SIGHUP)]
+    for n in range(0, 15, 3):
+        process = subprocess.Popen(
+            direct(parts, "--json", "parts"), cwd=parts.folder, stdout=subprocess.PIPE, stderr=subprocess.PIPE, env=parts.copy.environment(), preexec_fn=heeding
+        )  # fmt: skip
+        number = signal.SIGINT if n % 2 else signal.SIGTERM
+        # Of the signals that are noted, the last.
+        while not is_caught(process.pid, signal.SIGHUP) and process.poll() is None:
+            time.sleep(0.001)
+        time.sleep(n * 0.02)
+        process.send_signal(number)
+        text, said = process.communicate(timeout=SECONDS)
+        told = json.loads(text)
+        if told["interrupted"]:
+            held = process.returncode == 128 + number == told["status"] and said.startswith(b"igesolid: interrupted: ")
+        else:
+            held = (process.returncode, said) == (3, b"")
+        yield f"check: a signal {n * 0.02:.2f} s after the first line", held and len(told["files"]) <= len(FILES)
+
+
+def direct(parts, *words):
+    """The command without the launcher."""
+    return ["python3", "-B", parts.launcher.parent.parent / "lib" / "igesolid" / "companion" / "check", "--program", parts.copy.program, "--where-program", parts.copy.where, *words]
+
+
+def is_caught(process, number):
+    """Whether a process has a handler of its own for a signal."""
+    caught = re.search(r"(?m)^SigCgt:\s*(\w+)", pathlib.Path(f"/proc/{process}/status").read_text())
+    return caught is not None and int(caught[1], 16) >> number - 1 & 1 == 1
+
+
+def pressure(parts):
+    """Few descriptors; what is passed over in a folder; and names that aren't UTF-8."""
+    limited = lambda most, *words: parts.copy.run(*direct(parts, *words), cwd=parts.folder, limit=lambda: resource.setrlimit(resource.RLIMIT_NOFILE, (most, most)))
+    whole = parts.check("parts")
+    yield "check: at most 8 descriptors a job", limited(3 + 8, "parts", "--jobs", "1") == whole
+    yield "check: at most 8 descriptors a job, of two", limited(3 + 16, "parts", "--jobs", "2") == whole
+    told = json.loads(limited(8, "parts", "--jobs", "1", "--json")[1])["files"]
+    reasons = {it.get("reason", "").split(": ")[-1] for it in told if it["verdict"] == "not read"}
+    yield "check: too few descriptors are said", {it["verdict"] for it in told} == {"not read"} and reasons == {"Too many open files"}
+    os.mkfifo(parts.parts / "pipe.igs")
+    (parts.parts / "link.iges").symlink_to("none")
+    (parts.parts / "linked").symlink_to("no")
+    said = "igesolid: passed over in folders: 3 that are no files, or links to folders; the first is parts/linked\n"
+    yield "check: what is passed over is said", parts.check("parts") == (*whole[:2], said)
+    for name in ("pipe.igs", "link.iges", "linked"):
+        (parts.parts / name).unlink()
+    odd = b"a\xff.igs"
+    shutil.copy(parts.parts / "cube.igs", os.path.join(os.fsencode(parts.folder), odd))
+    for command, words in (("where", [odd]), ("where", [odd, "1"]), ("where", ["--json", odd, "1"]), ("page", [odd, "1"]), ("marks", [odd, "1"])):
+        status, text, error = parts.copy.run(parts.launcher, command, *words, cwd=parts.folder)
+        is_said = error == "igesolid: a\ufffd.igs: this argument isn't UTF-8\n" and (text == b"" or text.startswith(b"usage: "))
+        yield f"{command} {words}: a name that isn't UTF-8", status == 2 and is_said
+
+
+def many(parts):
+    """Many small files: memory and descriptors don't grow with their number."""
+    peaks = []
+    for count in (20, 420):
+        (parts.folder / f"{count}").mkdir()
+        for k in range(count):
+            os.link(parts.parts / "cube.igs", parts.folder / f"{count}" / f"{k}.igs")
+        limit = lambda: resource.setrlimit(resource.RLIMIT_NOFILE, (11, 11))
+        process = subprocess.Popen(direct(parts, f"{count}", "--jobs", "1"), cwd=parts.folder, stdout=subprocess.PIPE, env=parts.copy.environment(), preexec_fn=limit)
+        text = process.stdout.read()
+        _, status, used = os.wait4(process.pid, 0)
+        process.returncode = status
+        peaks.append(used.ru_maxrss)
+        yield f"check: {count} files", status == 0 and text.endswith(f"\n{count} files: {count} closed; {count} solids, {count} closed\n".encode())
+    yield f"check: kilobytes of 20 and of 420 files: {peaks}", peaks[1] - peaks[0] < 2_000
 
 
 def progress(parts):
@@ -585,6 +660,7 @@ def package(parts):
     data = (parts.parts / "cube.igs").read_bytes()
     yield "package: bytes", all(igesolid.read(kind(data), engine).is_closed for kind in (bytes, bytearray, memoryview))
     yield from errors(parts, igesolid, engine, "package")
+    yield from package_tests.checks(parts.copy, parts.folder, parts.skipped)
 
 
 def calls(parts, igesolid, engine):
@@ -682,40 +758,6 @@ def installed_package(parts, prefix):
     yield "package: all of it is installed", all((prefix / "lib" / "igesolid" / name).is_file() for name in names) and "python/igesolid/py.typed" in names
 
 
-def wheel(parts, skipped):
-    """The wheel, made twice of the repository, has the package and the library, and reads a file by it."""
-    library = shipped("libigesolid-x86_64-linux.so")
-    if library is None:
-        skipped("the wheel: dist/ holds no library of these sources")
-        return
-    run = lambda *words, **how: subprocess.run(list(map(str, words)), capture_output=True, text=True, timeout=SECONDS, **how)
-    made = []
-    for name in "one", "other":
-        (parts.folder / name).mkdir()
-        done = run(sys.executable, TOP / "packaging" / "wheel", parts.folder / name)
-        yield f"wheel: it is made{done.stderr}", (done.returncode, done.stderr) == (0, "")
-        made.append(pathlib.Path(done.stdout.strip()))
-    yield "wheel: the same bytes again", made[0].read_bytes() == made[1].read_bytes() and made[0].name == made[1].name
-    place = parts.folder / "unpacked"
-    with zipfile.ZipFile(made[0]) as files:
-        files.extractall(place)
-    lines = [line.split(",") for line in next(place.glob("*.dist-info/RECORD")).read_text().splitlines()]
-    sums = [base64.urlsafe_b64encode(hashlib.sha256((place / name).read_bytes()).digest()).rstrip(b"=").decode() for name, _, _ in lines[:-1]]
-    yield "wheel: its record", sums == [it.removeprefix("sha256=") for _, it, _ in lines[:-1]] and len(lines) == len([it for it in place.rglob("*") if it.is_file()])
-    words = "import igesolid; print(type(igesolid.default_engine()).__name__, igesolid.read('parts/cube.igs'))"
-    told = "Library <file of 8829 bytes: [<solid 1: closed>]>\n"
-    done = run("python3", "-B", "-c", words, cwd=parts.folder, env={**os.environ, "PYTHONPATH": str(place), "PATH": clone.PLAIN_PATH})
-    yield f"wheel: it reads{done.stderr}", (done.returncode, done.stdout) == (0, told)
-    if run(sys.executable, "-m", "pip", "--version").returncode != 0:
-        skipped("the wheel, installed: pip isn't installed")
-        return
-    target = parts.folder / "by pip"
-    done = run(sys.executable, "-m", "pip", "install", "--quiet", "--no-index", "--no-deps", "--disable-pip-version-check", "--root-user-action=ignore", "--target", target, made[0])
-    yield f"wheel: pip installs it{done.stderr}", done.returncode == 0
-    done = run(sys.executable, "-B", "-c", words, cwd=parts.folder, env={**os.environ, "PYTHONPATH": str(target)})
-    yield f"wheel: what pip installed reads{done.stderr}", (done.returncode, done.stdout) == (0, told)
-
-
 def image(parts, skipped):
     """The Debian package has what the image recipe names. The image itself isn't built."""
     if shutil.which("dpkg-deb") is None:
@@ -741,7 +783,7 @@ def installed(copy):
 def checks(copy, skipped):
     parts, prefix = installed(copy)
     parts.skipped = skipped
-    for part in (texts, forms, statuses, tables, certificates, interrupts, progress, launched, package):
+    for part in (texts, forms, statuses, pressure, many, tables, certificates, interrupts, progress, launched, package):
         parts.fill()
         yield from part(parts)
     yield from html_tests.checks(parts)
@@ -750,8 +792,6 @@ def checks(copy, skipped):
     parts.fill()
     yield from installed_package(parts, prefix)
     yield from image(parts, skipped)
-    parts.fill()
-    yield from wheel(parts, skipped)
 
 
 def clusters(copy, skipped):

@@ -1,12 +1,11 @@
 """The report of `igesolid check --html`: the index, the pages, and what stands in their way."""
 import base64
 import gzip
-import html
+import json
 import re
 import shutil
 
-ROW = re.compile(r"(?m)^<tr><td>(.*?)<td class=\"\w+\">(.*?)<td class=count>(\d+)<td class=count>(\d+)<td>(.*?)<td>(.*?)$")
-LINK = re.compile(r'<a href="([^"]*)">([^<]*)</a>')
+ROWS = re.compile(r'<script type="application/json" id="rows">(.*?)</script>')
 CLOSED = {"parts/below/TWO SOLIDS.IGS": 2, "parts/cube.igs": 1, "parts/it's $HOME.Iges": 1, "parts/no/three.igs": 3}
 # The rows of what isn't closed, and what each of their links is called.
 FAILING = {
@@ -19,8 +18,7 @@ FAILING = {
 def index_in(folder):
     """The text of an index, and its rows by their files; the last item of a row are its links."""
     text = (folder / "index.html").read_text()
-    rows = {html.unescape(it[0]): (*map(html.unescape, it[1:5]), LINK.findall(it[5])) for it in ROW.findall(text)}
-    return text, rows
+    return text, {file: (*map(str, row), pages) for file, *row, pages in json.loads(ROWS.search(text)[1])}
 
 
 def parts_of(page):
@@ -47,8 +45,11 @@ def rows(parts):
     wanted.update((name, (*row[:3], row[3].format(words), row[4])) for name, row in FAILING.items())
     told = {name: (*row[:4], [words for _, words in row[4]]) for name, row in found.items()}
     yield "check --html: the rows", told == wanted
+    yield "check --html: what fails stands first", [row[0] for row in found.values()] == ["bad file", "no solid", "not closed", *["closed"] * 4]
+    choices = dict(re.findall(r'<option value="([^"]*)">[^<]* \((\d+)\)</option>', text))
+    yield "check --html: the verdicts to choose", choices == {"": "7", "fails": "3", "bad file": "1", "closed": "4", "no solid": "1", "not closed": "1"}
     yield "check --html: the total", f"<p>{said.decode().splitlines()[-1]}.</p>" in text
-    yield "check --html: nothing from elsewhere", not re.search(r"https?:|src=|import\b", text) and text.count("<script") == 1
+    yield "check --html: nothing from elsewhere", not re.search(r"https?:|src=|import\b", text) and text.count("<script") == 2
     links = [target for row in found.values() for target, _ in row[4]]
     yield "check --html: the pages", sorted(links) == sorted(f"pages/{it.name}" for it in (folder / "pages").iterdir()) and len(links) == 2
     of_bad, of_solid = ((folder / found[name][4][0][0]).read_bytes() for name in ("parts/no/bad.igs", "parts/no/tetrahedra.iges"))

@@ -15,7 +15,7 @@ INSTALLED = (
     "share/bash-completion/completions/igesolid", "share/zsh/site-functions/_igesolid", "share/fish/vendor_completions.d/igesolid.fish",
     *(f"lib/igesolid/{name}" for name in command_table.programs()),
     *(f"lib/igesolid/companion/{row.words.split()[0]}" for row in command_table.of_kind("python")),
-    "lib/igesolid/companion/page.html", "lib/igesolid/companion/pictures/iges.py", "lib/igesolid/python/igesolid/check/html_report.py",
+    "lib/igesolid/companion/page.html", "lib/igesolid/python/igesolid/pictures/iges.py", "lib/igesolid/python/igesolid/check/html_report.py",
 )  # fmt: skip
 PAGES = (
     *(f"docs/{name}.md" for name in ("THEOREM", "PROOFS", "COMMANDS", "FORMAT", "CERTIFICATE")),

@@ -5,13 +5,12 @@ import random
 import subprocess
 import sys
 
+from sample_file import text_of
+from spawned import SECONDS
+from surfaces import surface_text
+
 TOP = pathlib.Path(__file__).resolve().parent.parent
 RECORDED = TOP / "tests" / "recorded"
-sys.path[:0] = [str(TOP / "companion"), str(TOP / "python")]
-from pictures import iges, overlay, solids  # noqa: E402
-from sample_file import text_of  # noqa: E402
-from spawned import SECONDS  # noqa: E402
-from surfaces import surface_text  # noqa: E402
 
 # A program whose text has a line that isn't one of igesolid-where.
 ODD = """#!/bin/sh
@@ -26,15 +25,24 @@ def example(name):
     return next((TOP / "examples").rglob(f"{name}.igs"))
 
 
+def load():
+    """The modules for pictures, imported in this part's process alone, for another imports those of a copy."""
+    global iges, overlay, solids
+    if str(TOP / "python") not in sys.path:
+        sys.path.insert(0, str(TOP / "python"))
+    from igesolid.pictures import iges, overlay, solids
+
+
 def recorded():
     """The name and the number of each recorded text, the text, and the file's lines."""
+    load()
     for path in sorted(RECORDED.glob("*.txt")):
         name, number = path.stem.rsplit(".", 1)
         yield name, int(number), path.read_text(), iges.lines_of(example(name).read_bytes())
 
 
 def parts_of(text):
-    """A text of where, read into its parts. The package is imported in this part's process alone, for another imports that of a copy."""
+    """A text of where, read into its parts."""
     from igesolid.where import Where
 
     read = Where(text)
@@ -242,6 +250,7 @@ def of_program(folder, program, where):
 
 
 def checks(folder, program, where):
+    load()
     for run in (grammar, values, random_geometry, near):
         yield from run()
     yield from commands(folder, where)

@@ -113,7 +113,7 @@ def of_examples(browser, program, where):
             if (status, base64.b64decode(text)) != answer(program, where, example, words):
                 wrong.append(" ".join(words))
         yield f"web: {example.name}{': ' + wrong[0] if wrong else ''}", wrong == []
-        browser.run(f"asked({{ file: {json.dumps(key)}, forget: true }}).then(() => null)")
+        browser.run(f"removed({json.dumps(key)})")
 
 
 def of_tables(browser, where):
@@ -199,6 +199,24 @@ def of_sizes(browser, page, folder):
         browser.run(f"[...{FIRST}.querySelectorAll('button')].find(it => it.textContent === 'Remove').click()")
 
 
+def of_removed(browser, page):
+    """What is removed while the worker is at it ends, and the next file doesn't wait; the others are read again."""
+    open_page(browser, page)
+    choose(browser, EXAMPLES / "two_solids.igs")
+    browser.run("worker.postMessage = () => {}")
+    root = browser.call("DOM.getDocument")["root"]["nodeId"]
+    node = browser.call("DOM.querySelector", nodeId=root, selector="#chosen")["nodeId"]
+    browser.call("DOM.setFileInputFiles", nodeId=node, files=[str(EXAMPLES / "ball.igs")])
+    wait(browser, "running !== null && document.querySelectorAll('section').length === 2")
+    browser.run(f"[...{FIRST}.querySelectorAll('button')].find(it => it.textContent === 'Remove').click()")
+    wait(browser, "running === null")
+    choose(browser, EXAMPLES / "cube.igs")
+    yield "web: after a file was removed", browser.run(f"{FIRST}.querySelector('p.good').textContent") == "1 of 1 closed"
+    browser.run("document.querySelectorAll('section')[1].querySelector('tr.solid button').click()")
+    wait(browser, "!document.querySelectorAll('section')[1].querySelector('pre').hidden")
+    yield "web: and the file before it", browser.run("document.querySelectorAll('section')[1].querySelector('pre').textContent").startswith("closed 1\n")
+
+
 def of_others(browser, page):
     """Browsers that lack something get a sentence."""
     for name, script in (("WebAssembly", "delete window.WebAssembly"), ("workers", "window.Worker = class { constructor() { throw new Error('none') } }"), ("a module", "WebAssembly.compile = () => Promise.reject(new Error('refused'))")):
@@ -229,6 +247,7 @@ def checks(context):
         yield from of_network(browser, page)
         yield from of_phone(browser, page)
         yield from of_sizes(browser, page, context.new_folder())
+        yield from of_removed(browser, page)
         yield from of_others(browser, page)
     finally:
         browser.close()

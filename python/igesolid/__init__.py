@@ -6,15 +6,16 @@
     for solid in file.solids:
         print(solid.number, solid.verdict)
 
-docs/LIBRARY.md of the repository describes the classes and the errors. Needs Python 3.8 and Linux.
+docs/LIBRARY.md of the repository describes the classes and the errors. Needs Python 3.8.
 """
 from .engine import Answer, Engine, Program
-from .errors import BadFile, Error, NoExtract, NoMemory, NoProgram, NotRead, TooLarge, WrongRecord
-from .files import File, Solid, Verdict, default_engine, read
+from .errors import BadFile, BadLayout, Error, NoExtract, NoFlags, NoMemory, NoProgram, NotRead, TooLarge, WrongRecord
+from .files import File, Solid, Verdict, default_engine, layout, read, relayout
 from .library import Library
-from .where import NotUnderstood, Where
+from .where import Where
+from .where_lines import NotUnderstood
 
 __all__ = [
-    "Answer", "BadFile", "Engine", "Error", "File", "Library", "NoExtract", "NoMemory", "NoProgram", "NotRead", "NotUnderstood", "Program",
-    "Solid", "TooLarge", "Verdict", "Where", "WrongRecord", "default_engine", "read",
+    "Answer", "BadFile", "BadLayout", "Engine", "Error", "File", "Library", "NoExtract", "NoFlags", "NoMemory", "NoProgram", "NotRead",
+    "NotUnderstood", "Program", "Solid", "TooLarge", "Verdict", "Where", "WrongRecord", "default_engine", "layout", "read", "relayout",
 ]  # fmt: skip

@@ -1,6 +1,6 @@
 """Why there is no verdict, as exceptions. Each has the status with which the program ends then."""
 import re
-from typing import Dict, Type
+from typing import Dict, Type, Union
 
 
 class Error(Exception):
@@ -20,6 +20,13 @@ class BadFile(Error):
 
     def __str__(self) -> str:
         return f"bad file line {self.line} {self.reason}"
+
+
+class BadLayout(BadFile):
+    """It isn't certain how the lines of the file are put right: the number of the first such line, and the word of docs/REPAIR.md."""
+
+    def __str__(self) -> str:
+        return f"bad layout line {self.line} {self.reason}"
 
 
 class NotRead(Error, OSError):
@@ -54,7 +61,13 @@ class TooLarge(Error):
 
 
 class WrongRecord(Error):
-    """A solid can't be compacted, since a record of it is wrong: the program's answer, `fail RULE ENTITY PLACE`."""
+    """A solid can't be compacted or reoriented, since a record of it is wrong: the program's answer, `fail RULE ENTITY PLACE`."""
+
+    status = 1
+
+
+class NoFlags(Error):
+    """No face flags fit a solid: the program's answer, `fail COUNT` or `fail REACH` and the place, or an orientation with a ring."""
 
     status = 1
 
@@ -66,18 +79,20 @@ class NoProgram(Error):
 _TEXTS: Dict[Type[Error], str] = {NotRead: "a read failed", NoMemory: "out of memory", TooLarge: "more than 164,000,000 bytes"}
 
 
+_SAID = re.compile(r"(bad file line|bad layout line|no extract) (\d+) ([a-z0-9-]+)")
+_KINDS: Dict[str, Type[Union[BadFile, NoExtract]]] = {"bad file line": BadFile, "bad layout line": BadLayout, "no extract": NoExtract}
+_NO_FLAGS = re.compile(r"ORIENT |fail (?:COUNT|REACH) ")
+
+
 def error_of(status: int, text: bytes) -> Error:
     """The error that an answer tells."""
     answer = text.decode("utf-8", "replace").strip()
-    bad_file = re.match(r"bad file line (\d+) ([a-z-]+)", answer)
-    if status == BadFile.status and bad_file:
-        return BadFile(int(bad_file[1]), bad_file[2])
-    no_extract = re.fullmatch(r"no extract (\d+) ([a-z-]+)", answer)
-    if status == NoExtract.status and no_extract:
-        return NoExtract(int(no_extract[1]), no_extract[2])
+    said = _SAID.match(answer)
+    if said and _KINDS[said[1]].status == status:
+        return _KINDS[said[1]](int(said[2]), said[3])
     for kind, words in _TEXTS.items():
         if status == kind.status:
             return kind(words)
     if status == WrongRecord.status:
-        return WrongRecord(answer)
+        return NoFlags(answer) if _NO_FLAGS.match(answer) else WrongRecord(answer)
     return NoProgram(f"the program ended with status {status}")

@@ -1,13 +1,17 @@
 """Files, their solids and the verdicts on these."""
 import os
 import re
-from typing import List, NamedTuple, Optional, Tuple, Union
+import warnings
+from types import TracebackType
+from typing import List, NamedTuple, Optional, Tuple, Type, Union
 
 from .content import Content, content_of_bytes, content_of_path
 from .engine import Engine, Program
-from .errors import NoProgram, error_of
-from .library import Library
+from .errors import Error, NoMemory, NoProgram, error_of
+from .library import Library, library_beside
 from .where import Where
+
+Source = Union[str, bytes, bytearray, memoryview, "os.PathLike[str]"]
 
 VERDICT = re.compile(r"solid (\d+) (?:closed|fail ([A-Z]+) (\d+) (\d+))")
 DONE, NO = 0, 1
@@ -29,34 +33,61 @@ class Verdict(NamedTuple):
         return "closed" if self.is_closed else f"fail {self.rule} {self.entity} {self.place}"
 
 
+class Asked:
+    """The bytes of a file, and who answers what is asked of them."""
+
+    def __init__(self, content: Content, engine: Engine):
+        self.content, self.engine = content, engine
+
+    def text_of(self, command: str, *words: str, answered: Tuple[int, ...] = (DONE,)) -> bytes:
+        """What a command writes if it ends with one of these statuses."""
+        try:
+            status, text = self.engine.ask(command, self.content, *words)
+        except MemoryError as fault:
+            raise fault if isinstance(fault, Error) else NoMemory("out of memory") from None
+        if status not in answered:
+            raise error_of(status, text)
+        return text
+
+    def where(self, *words: str) -> Where:
+        return Where(self.text_of("where", *words, answered=(DONE, NO)).decode("utf-8", "replace"))
+
+    def layout(self) -> str:
+        return self.text_of("layout", answered=(DONE, NO)).decode("ascii", "replace")
+
+
 class Solid:
     """A solid of a file, by its directory number."""
 
-    def __init__(self, file: "File", number: int, verdict: Verdict):
-        self.number, self.verdict, self._file = number, verdict, file
+    def __init__(self, asked: Asked, number: int, verdict: Verdict):
+        self.number, self.verdict, self._asked = number, verdict, asked
 
     @property
     def certificate(self) -> Optional[bytes]:
         """The certificate that the solid is closed, or None if it isn't. It is made each time that it is asked for."""
-        return self._file.text_of("certify", self.number) if self.verdict.is_closed else None
+        return self._asked.text_of("certify", str(self.number)) if self.verdict.is_closed else None
 
     @property
     def where(self) -> Where:
         """Where the solid fails, as `igesolid where FILE N` prints it: of each list 20 members at most (docs/WHERE.md)."""
-        return self._file.where(str(self.number))
+        return self._asked.where(str(self.number))
 
     @property
     def where_all(self) -> Where:
         """The same with all members, as `igesolid where FILE N all` prints it."""
-        return self._file.where(str(self.number), "all")
+        return self._asked.where(str(self.number), "all")
 
     def extract(self) -> bytes:
         """A file of this solid alone."""
-        return self._file.text_of("extract", self.number)
+        return self._asked.text_of("extract", str(self.number))
 
     def compact(self) -> bytes:
         """A file of this solid alone, without unused edges and vertices in its lists."""
-        return self._file.text_of("compact", self.number)
+        return self._asked.text_of("compact", str(self.number))
+
+    def reorient(self) -> bytes:
+        """A file of this solid alone, with face flags that fit. Raises `NoFlags` if none fit."""
+        return self._asked.text_of("reorient", str(self.number))
 
     def __repr__(self) -> str:
         return f"<solid {self.number}: {self.verdict}>"
@@ -66,37 +97,45 @@ class File:
     """A file that was read: its solids in the order of the directory, and the size and SHA-256 of its bytes."""
 
     def __init__(self, content: Content, engine: Engine):
-        self._content, self._engine = content, engine
-        status, text = engine.ask("where", content)
-        if status not in (DONE, NO):
-            raise error_of(status, text)
-        self.solids: List[Solid] = [Solid(self, *found) for found in _verdicts(text)]
+        self._asked = Asked(content, engine)
+        text = self._asked.text_of("where", answered=(DONE, NO))
+        # A solid doesn't know the file, so that the bytes go with the last of both.
+        self.solids: List[Solid] = [Solid(self._asked, *found) for found in _verdicts(text)]
 
     @property
     def size(self) -> int:
-        return self._content.size
+        return self._asked.content.size
 
     @property
     def sha256(self) -> str:
-        return self._content.sha256
+        return self._asked.content.sha256
 
     @property
     def is_closed(self) -> bool:
         """Whether there is a solid, and all are closed."""
         return len(self.solids) > 0 and all(solid.verdict.is_closed for solid in self.solids)
 
-    def text_of(self, command: str, number: int) -> bytes:
-        """What a command writes of a solid if it succeeds."""
-        status, text = self._engine.ask(command, self._content, str(number))
-        if status != DONE:
-            raise error_of(status, text)
-        return text
-
     def where(self, *words: str) -> Where:
-        status, text = self._engine.ask("where", self._content, *words)
-        if status not in (DONE, NO):
-            raise error_of(status, text)
-        return Where(text.decode("utf-8", "replace"))
+        """What `igesolid where FILE` prints, with these words after it."""
+        return self._asked.where(*words)
+
+    def relayout(self) -> bytes:
+        """The file with its lines put right, as `igesolid relayout` writes it; `igesolid.relayout` takes files that can't be read."""
+        return self._asked.text_of("relayout")
+
+    def layout(self) -> str:
+        """What `relayout` would change, as `igesolid layout` prints it."""
+        return self._asked.layout()
+
+    def close(self) -> None:
+        """Gives the bytes back; what was read stays. What is asked later raises `NotRead`."""
+        self._asked.content.close()
+
+    def __enter__(self) -> "File":
+        return self
+
+    def __exit__(self, kind: Optional[Type[BaseException]], fault: Optional[BaseException], trace: Optional[TracebackType]) -> None:
+        self.close()
 
     def __repr__(self) -> str:
         return f"<file of {self.size} bytes: {self.solids}>"
@@ -114,15 +153,40 @@ def _verdicts(text: bytes) -> List[Tuple[int, Verdict]]:
 def default_engine() -> Engine:
     """The shared library, where it is beside this package, else the programs."""
     if not _default_engines:
-        try:
-            _default_engines.append(Library())
-        except NoProgram:
-            _default_engines.append(Program())
+        _default_engines.append(_found_engine())
     return _default_engines[0]
 
 
-def read(source: Union[str, bytes, bytearray, memoryview, "os.PathLike[str]"], engine: Optional[Engine] = None) -> File:
+def _found_engine() -> Engine:
+    path = library_beside()
+    if path is None:
+        return Program()
+    try:
+        return Library(path)
+    except NoProgram as fault:
+        warnings.warn(f"the library can't be loaded, so the programs are run: {fault}", RuntimeWarning, stacklevel=4)
+        return Program(why=str(fault))
+
+
+def chosen_engine(program: Optional[str]) -> Engine:
+    """For a command that asks `where`: this program igesolid-where, which an interrupt from the terminal ends too, else the default engine."""
+    return Program(where=program, is_apart=False) if program else default_engine()
+
+
+def _content_of(source: Source) -> Content:
+    return content_of_path(source) if isinstance(source, (str, os.PathLike)) else content_of_bytes(source)
+
+
+def read(source: Source, engine: Optional[Engine] = None) -> File:
     """Reads and judges a file, given by its path or as its bytes. Raises an `igesolid.Error` if there is no verdict."""
-    is_path = isinstance(source, (str, os.PathLike))
-    content = content_of_path(source) if is_path else content_of_bytes(source)  # type: ignore[arg-type]
-    return File(content, engine or default_engine())
+    return File(_content_of(source), engine or default_engine())
+
+
+def relayout(source: Source, engine: Optional[Engine] = None) -> bytes:
+    """A file with its lines put right, as `igesolid relayout` writes it. Raises `BadLayout` if it isn't certain how."""
+    return Asked(_content_of(source), engine or default_engine()).text_of("relayout")
+
+
+def layout(source: Source, engine: Optional[Engine] = None) -> str:
+    """What `relayout` would change of a file, as `igesolid layout` prints it."""
+    return Asked(_content_of(source), engine or default_engine()).layout()

@@ -1,16 +1,17 @@
 """How an answer is got from the shared library, in this process."""
 import ctypes
 import hashlib
+import os
 import pathlib
 import platform
 import subprocess
-from typing import Iterator, List, Optional
+from typing import Any, Iterator, List, Optional
 
 from .content import Content
-from .engine import TOP, Answer, Engine
+from .engine import JUDGE, PROGRAMS, REPAIR, TOP, WHERE, Answer, Engine, words_of
 from .errors import NoMemory, NoProgram
 
-NAME = "libigesolid.so.1"
+NAME = {"Darwin": "libigesolid.dylib", "Windows": "igesolid.dll"}.get(platform.system(), "libigesolid.so.1")
 MACHINES = {"x86_64": "x86_64", "aarch64": "aarch64", "arm64": "aarch64"}
 
 
@@ -21,7 +22,10 @@ class _Text(ctypes.Structure):
 
 
 _NO_BYTE = ctypes.c_char()
-_PIECE: List[type] = [ctypes.c_void_p, ctypes.c_size_t]
+# Bytes are given as they lie in memory, and not copied.
+_PIECE: List[type] = [ctypes.c_char_p, ctypes.c_size_t]
+# Of each program the function that answers for it, and how many texts it takes: the words, the file, and a certificate.
+_FUNCTIONS = {JUDGE: ("igesolid_run", 3), WHERE: ("igesolid_where", 2), REPAIR: ("igesolid_repair", 2)}
 
 
 class Library(Engine):
@@ -33,31 +37,29 @@ class Library(Engine):
             raise NoProgram(f"{NAME} isn't beside this package")
         self.path = found
         try:
-            self._library = ctypes.CDLL(found)
-            run, where, repair, free = (getattr(self._library, f"igesolid_{name}") for name in ("run", "where", "repair", "free"))
+            library = ctypes.CDLL(found)
+            self._functions = {program: _function(library, *told) for program, told in _FUNCTIONS.items()}
+            self._free = library.igesolid_free
         except (OSError, AttributeError) as fault:
             raise NoProgram(f"{found}: {fault}") from fault
-        text = ctypes.POINTER(_Text)
-        run.argtypes, where.argtypes, repair.argtypes, free.argtypes = [*_PIECE * 3, text], [*_PIECE * 2, text], [*_PIECE * 2, text], [text]
-        run.restype = where.restype = repair.restype = ctypes.c_uint32
-        free.restype = None
+        self._free.argtypes, self._free.restype = [ctypes.POINTER(_Text)], None
 
     def ask(self, command: str, content: Content, *words: str) -> Answer:
         # The word in the place of the file's name isn't read.
-        said = "\n".join(["-", *words] if command == "where" else [command, "-", *words]).encode()
+        return self.answer(PROGRAMS.get(command, JUDGE), "\n".join(words_of(command, "-", words)).encode(), content.bytes)
+
+    def answer(self, program: str, words: bytes, *files: bytes) -> Answer:
+        """What a program answers to words, with line feeds between them, and to the bytes of the files that they name."""
+        pieces = [words, *files, b"", b""][: _FUNCTIONS[program][1]]
         text = _Text(ctypes.addressof(_NO_BYTE), 0)
-        with content.address() as address:
-            given = [said, len(said), address, content.size]
-            if command == "where":
-                status = self._library.igesolid_where(*given, text)
-            else:
-                status = self._library.igesolid_run(*given, ctypes.addressof(_NO_BYTE), 0, text)
         try:
+            # An interrupt comes after the call at the earliest, and here, so the text is freed then, too.
+            status = self._functions[program](*(it for piece in pieces for it in (piece, len(piece))), text)
             return Answer(status, ctypes.string_at(text.bytes, text.length) if text.length else b"")
         except MemoryError:
             raise NoMemory("out of memory") from None
         finally:
-            self._library.igesolid_free(text)
+            self._free(text)
 
     def identity(self) -> str:
         """The checksum of the library."""
@@ -67,27 +69,33 @@ class Library(Engine):
             raise NoProgram(f"{self.path}: {fault.strerror}") from fault
 
 
+def _function(library: ctypes.CDLL, name: str, pieces: int) -> Any:
+    found = getattr(library, name)
+    found.argtypes, found.restype = [*_PIECE * pieces, ctypes.POINTER(_Text)], ctypes.c_uint32
+    return found
+
+
 def library_beside() -> Optional[str]:
     """The library in the package's own folder, as a wheel has it; in a clone that of dist/, if it is of these sources; in an installed copy
     that of its prefix."""
-    return next((str(path) for path in _places() if path.is_file()), None)
+    return next((str(path) for path in _places() if os.path.isfile(path)), None)
 
 
 def _places() -> Iterator[pathlib.Path]:
+    yield pathlib.Path(__file__).resolve().parent / NAME
     machine = MACHINES.get(platform.machine())
     if platform.system() != "Linux" or machine is None:
         return
-    yield pathlib.Path(__file__).resolve().parent / NAME
     if not (TOP / "crates").is_dir():
         yield TOP.parent / NAME
         yield TOP.parent / f"{machine}-linux-gnu" / NAME
         return
     shipped = TOP / "dist" / f"libigesolid-{machine}-linux.so"
-    if _is_of_sources(shipped):
+    if is_of_sources(shipped):
         yield shipped
 
 
-def _is_of_sources(shipped: pathlib.Path) -> bool:
+def is_of_sources(shipped: pathlib.Path) -> bool:
     """Whether the library of dist/ is of the sources there, and the one whose checksum stands beside it."""
     dist = shipped.parent
     try:

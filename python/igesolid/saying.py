@@ -1,6 +1,7 @@
 """What a command in Python prints and says, and how it ends."""
 import os
 import sys
+from typing import Union
 
 NOT_WRITTEN = 5
 
@@ -18,14 +19,23 @@ def printable(text: str) -> str:
     return "".join("?" if ord(letter) < 32 or ord(letter) == 127 else letter for letter in text)
 
 
+def is_utf8(word: str) -> bool:
+    """Whether a word that was given is UTF-8, as the programs need it."""
+    try:
+        return word.encode("utf-8") is not None
+    except UnicodeEncodeError:
+        return False
+
+
 def say(text: str) -> None:
     if sys.stderr is not None:
+        # Standard error writes a byte that isn't UTF-8 with a backslash.
         print(f"igesolid: {printable(text)}", file=sys.stderr)
 
 
-def print_all(text: str) -> None:
+def print_all(text: Union[str, bytes]) -> None:
     try:
-        sys.stdout.buffer.write(text.encode("utf-8", "surrogateescape"))
+        sys.stdout.buffer.write(text.encode("utf-8", "surrogateescape") if isinstance(text, str) else text)
         sys.stdout.buffer.flush()
     except (OSError, AttributeError):
         # What is left in the buffer can't be written when Python ends.

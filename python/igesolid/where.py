@@ -77,6 +77,7 @@ class Parts:
     shells: Optional[Paragraph] = None
     failing: List[Paragraph] = field(default_factory=list)
     hints: List[Hint] = field(default_factory=list)
+    more_hints: int = 0
     rules: List[Rule] = field(default_factory=list)
     entities: Dict[int, Paragraph] = field(default_factory=dict)
 
@@ -117,6 +118,11 @@ class Where(str):
         return self.parts.hints
 
     @property
+    def more_hints(self) -> int:
+        """How many further hints aren't written."""
+        return self.parts.more_hints
+
+    @property
     def entities(self) -> Dict[int, Paragraph]:
         return self.parts.entities
 
@@ -127,11 +133,6 @@ class Where(str):
     @property
     def is_bad_file(self) -> bool:
         return self.parts.verdict.word == "bad"
-
-    def facts_of(self, entity: int) -> List[str]:
-        """What the text says of an entity: level, colour, label, names."""
-        found = self.entities.get(entity)
-        return [fact.text for fact in found.facts] if found else []
 
 
 def paragraphs(lines: Iterable[str]) -> Iterator[Paragraph]:
@@ -168,6 +169,8 @@ def _put(parts: Parts, it: Paragraph) -> None:
         parts.shells = it
     elif it.word == "shell":
         parts.failing.append(it)
+    elif it.shape.words == UNSAID:
+        parts.more_hints = it.number("more")
     elif isinstance(it, Hint):
         parts.hints.append(it)
     elif isinstance(it, Rule):

@@ -7,9 +7,9 @@ import sys
 from typing import Any, Dict, Iterator, List, Optional
 
 from .content import content_of_file, content_of_path
-from .engine import Program
 from .errors import BadFile, Error, NoMemory, NoProgram, NotRead
-from .saying import Failed, print_all, say
+from .files import chosen_engine
+from .saying import Failed, is_utf8, print_all, say
 from .where import Line, is_item, paragraphs
 from .where_lines import FACTS, HEADS, NotUnderstood, Shape, Value, kind_of
 
@@ -105,7 +105,7 @@ def _answer(program: Optional[str], file: str, words: List[str]) -> int:
     if file == "-" and sys.stdin is None:
         raise NotRead("standard input is closed")
     content = content_of_file(sys.stdin.buffer) if file == "-" else content_of_path(file)
-    status, text = Program(where=program, is_apart=False).ask("where", content, *words)
+    status, text = chosen_engine(program).ask("where", content, *words)
     if status == USAGE:
         raise Failed(USAGE, f"the words are {FORMS}")
     if status in ANSWERED:
@@ -121,10 +121,13 @@ def main(words: List[str]) -> int:
     try:
         if given[:1] != ["--json"] or len(given) < 2:
             raise Failed(USAGE, f"FILE is missing: the words are {FORMS}")
+        if not is_utf8(given[1]):
+            # The launcher says so, too.
+            raise Failed(USAGE, "" if program else f"{given[1]}: this argument isn't UTF-8")
         return _answer(program, given[1], given[2:])
     except Failed as fault:
         # Of what can't be written the launcher says why.
-        if fault.status == USAGE:
+        if fault.status == USAGE and fault.says:
             say(fault.says)
         return fault.status
     except NoProgram as fault:

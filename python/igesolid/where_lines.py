@@ -180,7 +180,7 @@ class Shape:
     def told(self, line: str) -> Optional[Dict[str, str]]:
         """What a line of this shape says, by name; None for another line."""
         match = self.match(line)
-        return match and dict(zip(self.names, match.groups()))
+        return dict(zip(self.names, match.groups())) if match else None
 
     def line(self, told: Dict[str, str]) -> str:
         return " ".join(told[part[1:-1]] if part.startswith("<") else part for part in self.parts)

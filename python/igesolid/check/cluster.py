@@ -1,6 +1,7 @@
 """Files judged by the workers of a Dask cluster, each by a run of `igesolid check --json` there."""
 import asyncio
 import contextlib
+import importlib
 import json
 import logging
 import os
@@ -24,7 +25,7 @@ class NoCluster(Error):
 
 def _distributed() -> Any:
     try:
-        import distributed
+        distributed = importlib.import_module("distributed")
     except ImportError as fault:
         raise NoCluster(f"--dask needs the Python package distributed (Debian: python3-distributed): {fault}") from None
     # What fails is in the reports; what the library logs and warns of would come between them.

@@ -4,12 +4,13 @@ import os
 import pathlib
 import queue
 import sys
-from typing import Dict, List, Optional, Union
+from typing import TYPE_CHECKING, Dict, List, Optional, Sequence, Union
 
-from ..engine import Program, launcher
+from ..engine import Engine, Program, launcher
 from ..errors import Error, NoMemory
+from ..files import default_engine
 from ..saying import NOT_WRITTEN, Failed, print_all, say
-from .cluster import Cluster
+from .build_reports import ABOUT, BuildReports
 from .events import Event, Events, Interrupted, Progress, gather, signals_into
 from .html_report import HtmlReport, NoReport
 from .judging import Judge
@@ -18,6 +19,9 @@ from .names import Meant
 from .output import csv_of, json_of, text_of, text_of_one
 from .report import NOT_CLOSED, STANDARD_INPUT, Report
 from .table import NoTable, Table
+
+if TYPE_CHECKING:
+    from .cluster import Cluster
 
 DESCRIPTION = """Judges whether all solids of IGES files are closed. Of a folder it takes the files in it and below it
 whose names end in .igs or .iges, in any case. It prints a line for each file and a total; of a
@@ -28,7 +32,8 @@ otherwise the greatest of 3 (bad file), 4 (not read), 5 (not written), 6 (no mem
 # So many files are judged before the table is written again, so that a crash loses little.
 FILES_BETWEEN_TABLES = 1_000
 USAGE = 2
-Stage = Union[Threads, Cluster]
+Stage = Union[Threads, "Cluster"]
+Written = Union[HtmlReport, BuildReports]
 
 
 def parser() -> argparse.ArgumentParser:
@@ -40,13 +45,19 @@ def parser() -> argparse.ArgumentParser:
     form.add_argument("--csv", action="store_true", help="print comma-separated values")
     found.add_argument("--table", type=pathlib.Path, metavar="FILE", help="remember results in this table, and judge only what it doesn't have")
     found.add_argument("--html", type=pathlib.Path, metavar="FOLDER", help="write a report there: index.html, and a page of each failing solid")
+    for written, about in ABOUT.items():
+        found.add_argument(f"--{written}", type=pathlib.Path, metavar="FILE", help=about)
     found.add_argument("--certificates", action="store_true", help="write the certificate of each closed solid N of part.igs as part.igs.N.cert")
-    found.add_argument("--jobs", type=_positive, metavar="N", default=len(os.sched_getaffinity(0)), help="judge N files at once; default: one a processor")
+    found.add_argument("--jobs", type=_positive, metavar="N", default=_processors(), help="judge N files at once; default: one a processor")
     found.add_argument("--dask", metavar="SCHEDULER", help="let a Dask cluster judge the files: the scheduler's address, or its scheduler file")
     found.add_argument("--worker-program", metavar="FILE", help="with --dask: the launcher igesolid on the workers, if it is elsewhere than here")
     found.add_argument("--program", metavar="FILE", help=argparse.SUPPRESS)
     found.add_argument("--where-program", metavar="FILE", help=argparse.SUPPRESS)
     return found
+
+
+def _processors() -> int:
+    return len(os.sched_getaffinity(0)) if hasattr(os, "sched_getaffinity") else os.cpu_count() or 1
 
 
 def _positive(word: str) -> int:
@@ -68,15 +79,22 @@ def arguments(words: Optional[List[str]]) -> argparse.Namespace:
     return given
 
 
+def written_by(given: argparse.Namespace, engine: Engine) -> Dict[str, Written]:
+    """The reports that are written beside what is printed, by what they are called."""
+    paths = {form: getattr(given, form) for form in ABOUT if getattr(given, form)}
+    pages: Dict[str, Written] = {str(given.html): HtmlReport(given.html, engine)} if given.html else {}
+    return {**pages, **({", ".join(map(str, paths.values())): BuildReports(paths, engine)} if paths else {})}
+
+
 class Run:
     """One run of the command: what is meant, and what is done of it."""
 
     def __init__(self, given: argparse.Namespace):
         self.given = given
         self.table = Table(given.table) if given.table else None
-        self.engine = Program(given.program, given.where_program)
-        self.pages = HtmlReport(given.html, self.engine) if given.html else None
-        self.judge = Judge(self.engine, self.table, given.certificates, self.pages)
+        self.engine = Program(given.program, given.where_program) if given.program or given.where_program else default_engine()
+        self.written = written_by(given, self.engine)
+        self.judge = Judge(self.engine, self.table, given.certificates, self.written)
         self.meant = Meant(given.words, given.files_from)
         self.done: Dict[str, Report] = {it.file: it for it in self.meant.unread}
         self.progress = Progress(len(self.meant.files))
@@ -94,6 +112,9 @@ class Run:
         given = self.given
         if not given.dask:
             return [Threads(self.judge.report, given.jobs, self.engine.stop)]
+        # What it needs takes as long to import as all else.
+        from .cluster import Cluster
+
         command = [given.worker_program or launcher(), "check", "--json", "--jobs", "1", *(["--certificates"] if given.certificates else [])]
         return [Threads(self.judge.remembered, given.jobs, self.engine.stop), Cluster(given.dask, command, say)]
 
@@ -111,8 +132,9 @@ class Run:
 
     def _add(self, name: str, report: Report) -> None:
         self.done[name] = report
-        if self.pages and self.given.dask and not report.is_remembered:
-            self.pages.draw(report)
+        if self.given.dask and not report.is_remembered:
+            for it in self.written.values():
+                it.draw(report)
         self.progress.add(report)
         if len(self.done) % FILES_BETWEEN_TABLES == 0:
             self._save()
@@ -128,19 +150,19 @@ class Run:
             self.fault = fault
 
     def _save_index(self, is_interrupted: bool = False) -> None:
-        if self.pages:
-            self.pages.write_index(self.reports, len(self._names()) - len(self.done), is_interrupted)
+        for it in self.written.values():
+            it.write_index(self.reports, len(self._names()) - len(self.done), is_interrupted)
 
-    def run(self) -> Optional[int]:
-        """Judges all; the number of the signal that interrupted it, if one did."""
+    def run(self, noted: Sequence[int]) -> Optional[int]:
+        """Judges all; the number of the signal that interrupted it, if one did, or that was noted before."""
         events: "Events[Event]" = queue.SimpleQueue()
-        with signals_into(events):
+        with signals_into(events, noted):
             self._save()
             if self.fault:
                 # Before the work rather than after it.
                 raise NoTable(f"{self.given.table} can't be written: {self.fault.strerror}")
-            if self.pages:
-                self.pages.start()
+            for it in self.written.values():
+                it.start()
             self.progress.show()
             number = None
             try:
@@ -167,16 +189,19 @@ def status_of(reports: List[Report]) -> int:
     return max((report.status for report in reports), default=NOT_CLOSED)
 
 
-def perform(given: argparse.Namespace) -> int:
+def perform(given: argparse.Namespace, noted: Sequence[int]) -> int:
     run = Run(given)
-    signal_number = run.run()
+    signal_number = run.run(noted)
     status = status_of(run.reports)
+    if run.meant.passed:
+        say(f"passed over in folders: {len(run.meant.passed):,} that are no files, or links to folders; the first is {run.meant.passed[0]}")
     if run.fault:
         say(f"{given.table} can't be written: {run.fault.strerror}")
         status = max(status, NOT_WRITTEN)
-    if run.pages and run.pages.fault and signal_number is None:
-        say(f"{given.html}: the report isn't whole: {run.pages.fault}")
-        status = max(status, NOT_WRITTEN)
+    for name, written in run.written.items():
+        if written.fault and signal_number is None:
+            say(f"{name}: the report isn't whole: {written.fault}")
+            status = max(status, NOT_WRITTEN)
     if signal_number is not None:
         say(f"interrupted: {len(run.reports):,} of {len(run.meant.files):,} files are judged")
         status = 128 + signal_number
@@ -186,10 +211,11 @@ def perform(given: argparse.Namespace) -> int:
     return status
 
 
-def main(words: Optional[List[str]] = None) -> int:
+def main(words: Optional[List[str]] = None, noted: Sequence[int] = ()) -> int:
+    """`noted` are the numbers of signals that came before, to which more may be added meanwhile."""
     given = arguments(words)
     try:
-        return perform(given)
+        return perform(given, noted)
     except Failed as fault:
         say(fault.says)
         return fault.status

@@ -3,11 +3,12 @@ import contextlib
 import queue
 import signal
 import sys
-from typing import Iterator, NamedTuple, Optional, Union
+from typing import Iterator, NamedTuple, Optional, Sequence, Union
 
 from .report import CLOSED, Report
 
-SIGNALS = signal.SIGINT, signal.SIGTERM, signal.SIGHUP
+# Those that the system has.
+SIGNALS = [getattr(signal, name) for name in ("SIGINT", "SIGTERM", "SIGHUP") if hasattr(signal, name)]
 
 
 class Signalled(NamedTuple):
@@ -37,15 +38,19 @@ class Interrupted(Exception):
 
 
 @contextlib.contextmanager
-def signals_into(events: "Events[Event]") -> Iterator[None]:
-    """A signal becomes an event meanwhile, unless this process was started to ignore it."""
+def signals_into(events: "Events[Event]", noted: Sequence[int]) -> Iterator[None]:
+    """A signal becomes an event meanwhile, unless this process was started to ignore it; so does one that was noted before. What comes after ends
+    the process."""
     heeded = [number for number in SIGNALS if signal.getsignal(number) is not signal.SIG_IGN]
-    before = [signal.signal(number, lambda number, _: events.put(Signalled(number))) for number in heeded]
+    for number in heeded:
+        signal.signal(number, lambda number, _: events.put(Signalled(number)))
+    for number in noted:
+        events.put(Signalled(number))
     try:
         yield
     finally:
-        for number, handler in zip(heeded, before):
-            signal.signal(number, handler)
+        for number in heeded:
+            signal.signal(number, signal.SIG_DFL)
 
 
 def gather(events: "Events[Event]", count: int) -> Iterator[Done]:

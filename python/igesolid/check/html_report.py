@@ -1,25 +1,21 @@
 """The report of `--html`: an index of all files, and a page of each failing solid. All of it works from a folder, without a network."""
-import base64
-import gzip
 import hashlib
-import html
 import os
 import pathlib
 import re
-from typing import Dict, Iterable, List, NamedTuple, Optional, Set, Tuple
+from typing import Dict, List, NamedTuple, Optional, Set, Tuple
 
 from ..content import Content, content_of_path
-from ..engine import TOP, Engine
+from ..engine import Engine
 from ..errors import BadFile, Error
-from .output import printable, total_of
+from ..page import filled, packed, template
+from ..saying import printable
+from .html_index import MARK, Row, index_of
+from .output import total_of
 from .report import STANDARD_INPUT, Report
 from .writing import write_whole
 
-# The page of a solid, as the launcher's command page fills it in.
-TEMPLATE = TOP / "companion" / "page.html"
 INDEX, PAGES = "index.html", "pages"
-# What begins an index that this package wrote.
-MARK = b'<!doctype html>\n<meta name="generator" content="igesolid check">\n'
 MEANINGS = {
     "ENTRY": "a dangling pointer",
     "TYPE": "an entity of the wrong type or form",
@@ -64,11 +60,11 @@ class HtmlReport:
         """Makes the folder before the work, and what is needed of the template."""
         index = self.folder / INDEX
         try:
-            self.template = TEMPLATE.read_bytes()
+            self.template = template()
             (self.folder / PAGES).mkdir(parents=True, exist_ok=True)
             if index.exists() and not index.read_bytes().startswith(MARK):
                 raise NoReport(f"{index} isn't an index that igesolid check wrote, so it stays as it is")
-            self._write(index, index_of([], self.drawn, "Nothing is judged yet."))
+            self._write(index, index_of([], "Nothing is judged yet."))
         except OSError as fault:
             raise NoReport(f"{self.folder}: no report can be written there: {fault.strerror}") from fault
 
@@ -85,13 +81,11 @@ class HtmlReport:
     def _draw_all(self, report: Report, wanted: Dict[int, str], content: Content) -> None:
         if content.sha256 != report.sha256:
             raise Error("the file changed after it was judged")
-        with open(content.path, "rb") as file:
-            packed = gzip.compress(file.read(), 6, mtime=0)
+        file = packed(content.bytes)
         name = os.fsencode("standard input" if report.file == STANDARD_INPUT else os.path.basename(report.file))
         for number, page in wanted.items():
             text = self.engine.ask("where", content, str(number or 1), "all").text
-            words = name + b"\0" + (b"%d" % number if number else b"")
-            self._write(self.folder / PAGES / page, filled(self.template, WORDS=words, WHERE=text, FILE=packed))
+            self._write(self.folder / PAGES / page, filled(self.template, name, str(number) if number else "", text, file))
             self.drawn[report.file, number] = Drawn(page, words_in(text.decode("utf-8", "replace")))
 
     def _remove_others(self, file: str, pages: Set[str]) -> None:
@@ -105,7 +99,7 @@ class HtmlReport:
         if left:
             told += f". {left:,} files aren't judged{': the run was interrupted' if is_interrupted else ' yet'}"
         try:
-            self._write(self.folder / INDEX, index_of(reports, self.drawn, f"{told}."))
+            self._write(self.folder / INDEX, index_of([row_of(it, self.drawn) for it in reports], f"{told}."))
         except OSError as fault:
             self.fault = f"{self.folder / INDEX}: {fault.strerror}"
 
@@ -128,12 +122,6 @@ def page_name(file: str, number: int) -> str:
     """The name of a page: some letters of its file's, the solid, and what tells files of one name apart."""
     stem = re.sub(r"[^A-Za-z0-9_.]+", "_", pathlib.PurePath(file).stem)[:40]
     return f"{stem}-{number}-{key_of(file)}.html"
-
-
-def filled(template: bytes, **parts: bytes) -> bytes:
-    for word, value in parts.items():
-        template = template.replace(b"@%s@" % word.encode(), base64.b64encode(value), 1)
-    return template
 
 
 def words_in(text: str) -> str:
@@ -161,74 +149,13 @@ def reason_of(report: Report, drawn: Dict[Tuple[str, int], Drawn]) -> str:
     return f"solid {first.number}: {first.verdict}: {words}"
 
 
-def links_of(report: Report, drawn: Dict[Tuple[str, int], Drawn]) -> str:
-    found = [(number, drawn[report.file, number].page) for number in pages_of(report) if (report.file, number) in drawn]
-    return ", ".join(f'<a href="{PAGES}/{page}">{f"solid {number}" if number else "lines"}</a>' for number, page in found)
+def row_of(report: Report, drawn: Dict[Tuple[str, int], Drawn]) -> Row:
+    numbers = [number for number in pages_of(report) if (report.file, number) in drawn]
+    pages = [[f"{PAGES}/{drawn[report.file, number].page}", f"solid {number}" if number else "lines"] for number in numbers]
+    count = len(report.solids)
+    return [shown(report.file), report.word, count, count - len(report.failing), shown(reason_of(report, drawn)), pages]
 
 
-def escaped(text: str) -> str:
-    return html.escape(printable(text), quote=False)
-
-
-def row_of(report: Report, drawn: Dict[Tuple[str, int], Drawn]) -> str:
-    closed = len(report.solids) - len(report.failing)
-    kind = "closed" if report.word == "closed" else "fails"
-    cells = [
-        f"<td>{escaped(report.file)}",
-        f'<td class="{kind}">{report.word}',
-        f"<td class=count>{len(report.solids)}",
-        f"<td class=count>{closed}",
-        f"<td>{escaped(reason_of(report, drawn))}",
-        f"<td>{links_of(report, drawn)}",
-    ]
-    return f"<tr>{''.join(cells)}\n"
-
-
-STYLE = """
-:root { color-scheme: light dark; --green: #19743a; --red: #c1121f; --line: #cfd6dd; }
-@media (prefers-color-scheme: dark) { :root { --green: #5fd38d; --red: #ff6b78; --line: #37424d; } }
-body { font: 14px/1.4 system-ui, "DejaVu Sans", Arial, sans-serif; margin: 20px; }
-h1 { font-size: 20px; }
-table { border-collapse: collapse; }
-th, td { text-align: left; vertical-align: top; padding: 4px 10px; border-bottom: 1px solid var(--line); }
-th { white-space: nowrap; }
-td:nth-child(1), td:nth-child(5) { overflow-wrap: anywhere; min-width: 12em; }
-th button { font: inherit; font-weight: 600; border: 0; padding: 0; background: none; color: inherit; cursor: pointer; }
-th[aria-sort=ascending] button::after { content: " \\25b2"; }
-th[aria-sort=descending] button::after { content: " \\25bc"; }
-.count { text-align: right; }
-.closed { color: var(--green); }
-.fails { color: var(--red); font-weight: 600; }
-"""
-# Rows by the column whose heading is pressed; pressed again, the other way round.
-SCRIPT = """
-"use strict";
-const body = document.querySelector("tbody"), heads = [...document.querySelectorAll("th")];
-const order = new Intl.Collator(undefined, { numeric: true });
-heads.forEach((head, column) => {
-  head.firstChild.onclick = () => {
-    const way = head.getAttribute("aria-sort") === "ascending" ? -1 : 1;
-    heads.forEach(it => it.removeAttribute("aria-sort"));
-    head.setAttribute("aria-sort", way > 0 ? "ascending" : "descending");
-    const rows = [...body.rows].map(row => [row.cells[column].textContent, row]);
-    rows.sort((one, other) => way * order.compare(one[0], other[0]));
-    body.append(...rows.map(it => it[1]));
-  };
-});
-"""
-COLUMNS = "File", "Verdict", "Solids", "Closed", "First reason", "Where"
-HEAD = """<html lang="en">
-<meta charset="utf-8">
-<meta name="viewport" content="width=device-width, initial-scale=1">
-<meta http-equiv="Content-Security-Policy" content="default-src 'none'; style-src 'unsafe-inline'; script-src 'unsafe-inline'; img-src data:">
-<link rel="icon" href="data:,">
-<title>igesolid check</title>
-"""
-
-
-def index_of(reports: Iterable[Report], drawn: Dict[Tuple[str, int], Drawn], told: str) -> bytes:
-    heads = "".join(f"<th scope=col><button>{it}</button>" for it in COLUMNS)
-    rows = "".join(row_of(it, drawn) for it in reports)
-    table = f"<table>\n<thead><tr>{heads}\n<tbody>\n{rows}</table>\n"
-    text = f"{HEAD}<style>{STYLE}</style>\n<h1>igesolid check</h1>\n<p>{escaped(told)}</p>\n{table}<script>{SCRIPT}</script>\n"
-    return MARK + text.encode("utf-8", "replace")
+def shown(text: str) -> str:
+    """What a browser shows of a name: a byte that isn't UTF-8 as a question mark."""
+    return printable(text).encode("utf-8", "replace").decode()

@@ -3,25 +3,24 @@ import hashlib
 import os
 import pathlib
 import sys
-from typing import Dict, List, Optional, Tuple
+from typing import Any, Dict, List, Mapping, Optional, Tuple
 
 from ..content import Content, content_of_file, content_of_path
 from ..engine import Engine
 from ..errors import Error, NotRead, TooLarge
 from ..files import File, Solid
 from ..saying import NOT_WRITTEN
-from .html_report import HtmlReport
 from .report import STANDARD_INPUT, Fault, Report, SolidReport, fault_of
 from .table import Key, Table
 from .writing import write_whole
 
 
 class Judge:
-    """Reports on files. With certificates, that of each closed solid N of part.igs is written beside it, as part.igs.N.cert; with
-    pages, that of each failing solid."""
+    """Reports on files. With certificates, that of each closed solid N of part.igs is written beside it, as part.igs.N.cert; and
+    what is written of files is told of each."""
 
-    def __init__(self, engine: Engine, table: Optional[Table], has_certificates: bool, pages: Optional[HtmlReport] = None):
-        self.engine, self.table, self.has_certificates, self.pages = engine, table, has_certificates, pages
+    def __init__(self, engine: Engine, table: Optional[Table], has_certificates: bool, written: Mapping[str, Any]):
+        self.engine, self.table, self.has_certificates, self.written = engine, table, has_certificates, written
         self.program = engine.identity()
 
     def report(self, name: str) -> Report:
@@ -49,8 +48,8 @@ class Judge:
         return found._replace(file=name, is_remembered=True)
 
     def _drawn(self, report: Report, content: Content) -> Report:
-        if self.pages:
-            self.pages.draw(report, content)
+        for it in self.written.values():
+            it.draw(report, content)
         return report
 
     def _judged(self, name: str, content: Content) -> Report:

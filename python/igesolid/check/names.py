@@ -11,10 +11,12 @@ ENDINGS = ".igs", ".iges"
 
 
 class Meant:
-    """The files, in order and each once; and reports of the folders and lists that can't be read."""
+    """The files, in order and each once; reports of the folders that can't be read; and what is passed over in folders: names of no file, and
+    links to other folders."""
 
     def __init__(self, words: List[str], lists: Optional[str]):
         self.unread: List[Report] = []
+        self.passed: List[str] = []
         self.files: List[str] = []
         seen: Dict[str, None] = {}
         for word in [*words, *(self._listed(lists) if lists else [])]:
@@ -22,8 +24,12 @@ class Meant:
         self.files = list(seen)
 
     def _below(self, folder: str) -> List[str]:
-        paths = (os.path.join(at, name) for at, _, names in os.walk(folder, onerror=self._note) for name in names)
-        return sorted(path for path in paths if path.lower().endswith(ENDINGS) and os.path.isfile(path))
+        found: List[str] = []
+        for at, folders, names in os.walk(folder, onerror=self._note):
+            self.passed += [path for path in (os.path.join(at, name) for name in folders) if os.path.islink(path)]
+            for path in (os.path.join(at, name) for name in names if name.lower().endswith(ENDINGS)):
+                (found if os.path.isfile(path) else self.passed).append(path)
+        return sorted(found)
 
     def _note(self, fault: OSError) -> None:
         self.unread.append(Report(str(fault.filename), fault=Fault(NotRead.status, f"can't be opened: {fault.strerror}")))

@@ -2,7 +2,9 @@
 import collections
 import io
 import json
+import os
 import shlex
+import subprocess
 from typing import List
 
 from ..errors import BadFile
@@ -40,9 +42,14 @@ def line_of(report: Report) -> str:
     return f"{name}: not closed, {_solid(failing[0])}{others}"
 
 
+def _quoted(name: str) -> str:
+    """A name as a shell of this system reads it."""
+    return subprocess.list2cmdline([name]) if os.name == "nt" else shlex.quote(name)
+
+
 def lines_of_solids(report: Report) -> List[str]:
     """A line a solid, with the command that shows more."""
-    more = f"; igesolid where {shlex.quote(printable(report.file))}" if report.file != STANDARD_INPUT else ""
+    more = f"; igesolid where {_quoted(printable(report.file))}" if report.file != STANDARD_INPUT else ""
     lines = [_solid(it) if it.verdict.is_closed or not more else f"{_solid(it)}{more} {it.number}" for it in report.solids]
     if report.fault or not report.solids:
         lines.append(f"{printable(report.file)}: {_answer(report)}{more if report.status in (NOT_CLOSED, BadFile.status) else ''}")

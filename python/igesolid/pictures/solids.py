@@ -1,9 +1,12 @@
 """The faces, loops, edges and vertices of a solid, as its records tell them (IGES 5.3, sections 4.144 to 4.148: types 186, 514, 510, 508, 504 and 502).
 
 The proved program has found the records whole before this reads them."""
-from typing import NamedTuple, Optional
+from typing import Dict, List, NamedTuple, Optional, Sequence, Tuple
 
-from .iges import Unreadable, integer
+from .iges import File, Unreadable, integer
+
+# An edge or a vertex: the number of its list, and its index there.
+Key = Tuple[int, int]
 
 
 class Use(NamedTuple):
@@ -17,22 +20,22 @@ class Use(NamedTuple):
 
 class Loop(NamedTuple):
     entity: int
-    uses: list
+    uses: List[Use]
 
 
 class Face(NamedTuple):
     entity: int
     surface: int
     flag: int
-    loops: list
+    loops: List[Loop]
 
 
 class Shell(NamedTuple):
     entity: int
     flag: int
-    faces: list
+    faces: List[Face]
 
-    def counts(self):
+    def counts(self) -> Tuple[int, int, int]:
         """How many faces, edges and vertices the shell has."""
         uses = [use for face in self.faces for loop in face.loops for use in loop.uses]
         edges = {use.edge for use in uses if use.edge is not None}
@@ -42,7 +45,7 @@ class Shell(NamedTuple):
 class Edge(NamedTuple):
     """An edge's list and index in it, the entity of its curve, and its two vertices."""
 
-    key: tuple
+    key: Key
     curve: int
     start: int
     end: int
@@ -51,26 +54,30 @@ class Edge(NamedTuple):
 class Solid:
     """A solid's shells, the outer one first; its edges and its vertices (list and index), numbered from 0 in the order they are met."""
 
-    def __init__(self, file, number):
-        self.file, self.entity, self.edges, self.vertices = file, number, [], []
-        self.edge_numbers, self.vertex_numbers = {}, {}
+    def __init__(self, file: File, number: int):
+        self.file, self.entity = file, number
+        self.edges: List[Edge] = []
+        self.vertices: List[Key] = []
+        self.edge_numbers: Dict[Key, int] = {}
+        self.vertex_numbers: Dict[Key, int] = {}
         values = self.values(number)
         more = integer(values[2]) if len(values) > 2 else 0
         self.shells = [self.shell(*pair) for pair in pairs(values[:2] + values[3 : 3 + 2 * more])]
 
-    def values(self, number):
+    def values(self, number: int) -> List[bytes]:
         return self.file.values(number)
 
-    def shell(self, number, flag):
+    def shell(self, number: int, flag: int) -> Shell:
         values = self.values(number)
         return Shell(number, flag, [self.face(*pair) for pair in pairs(values[1 : 1 + 2 * integer(values[0])])])
 
-    def face(self, number, flag):
+    def face(self, number: int, flag: int) -> Face:
         values = self.values(number)
         return Face(number, integer(values[0]), flag, [self.loop(integer(it)) for it in values[3 : 3 + integer(values[1])]])
 
-    def loop(self, number):
-        values, uses, at = self.values(number), [], 1
+    def loop(self, number: int) -> Loop:
+        values, at = self.values(number), 1
+        uses: List[Use] = []
         for _ in range(integer(values[0])):
             kind, entity, index, flag = (integer(it) for it in values[at : at + 4])
             uses.append(self.use(kind, (entity, index), flag == 1))
@@ -78,7 +85,7 @@ class Solid:
             at += 5 + 2 * curves
         return Loop(number, uses)
 
-    def use(self, kind, key, along):
+    def use(self, kind: int, key: Key, along: bool) -> Use:
         if kind == 1:
             vertex = self.vertex(key)
             return Use(None, along, vertex, vertex)
@@ -86,7 +93,7 @@ class Solid:
         edge = self.edges[number]
         return Use(number, along, edge.start, edge.end) if along else Use(number, along, edge.end, edge.start)
 
-    def edge(self, key):
+    def edge(self, key: Key) -> int:
         """The number of an edge, which is met here for the first time or again."""
         if key not in self.edge_numbers:
             entity, index = key
@@ -96,25 +103,25 @@ class Solid:
             self.edges.append(edge)
         return self.edge_numbers[key]
 
-    def vertex(self, key):
+    def vertex(self, key: Key) -> int:
         found = self.vertex_numbers.setdefault(key, len(self.vertices))
         if found == len(self.vertices):
             self.vertices.append(key)
         return found
 
-    def coordinates(self, vertex):
+    def coordinates(self, vertex: int) -> List[bytes]:
         """The three coordinates of a vertex as they are spelled."""
         entity, index = self.vertices[vertex]
         return self.values(entity)[3 * index - 2 : 3 * index + 1]
 
 
-def pairs(values):
+def pairs(values: Sequence[bytes]) -> List[Tuple[int, int]]:
     """Pairs of a pointer and a flag."""
     numbers = [integer(it) for it in values]
     return list(zip(numbers[::2], numbers[1::2]))
 
 
-def solid_of(file, number):
+def solid_of(file: File, number: int) -> Solid:
     """The solid of this directory number; Unreadable where its records aren't understood."""
     try:
         return Solid(file, number)

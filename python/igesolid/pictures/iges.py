@@ -3,7 +3,7 @@
 The file is one that the proved program has read, so little is checked here. Sources: IGES 5.3, sections 2.2.2 (free format),
 2.2.4.3 (global section), 2.2.4.4 (directory entry) and 2.2.4.5 (parameter data)."""
 import re
-from typing import NamedTuple
+from typing import Dict, List, NamedTuple, Tuple
 
 RECORD_COLUMNS = 64
 TEXT_BEGINS = re.compile(rb" *([0-9]+)H").match
@@ -15,8 +15,9 @@ class Unreadable(Exception):
 
 
 class Entry(NamedTuple):
-    """A directory entry: the type, the first line of its record in section P (from 1), the number of lines, the matrix, the form."""
+    """A directory entry: its number, the type, the first line of its record in section P (from 1), the number of lines, the matrix, the form."""
 
+    number: int
     kind: int
     first: int
     lines: int
@@ -24,7 +25,7 @@ class Entry(NamedTuple):
     form: int
 
 
-def lines_of(text):
+def lines_of(text: bytes) -> List[bytes]:
     """The lines of a file, without their ends."""
     lines = text.split(b"\n")
     if not lines[-1]:
@@ -32,7 +33,7 @@ def lines_of(text):
     return [line[:-1] if line.endswith(b"\r") else line for line in lines]
 
 
-def integer(spelled):
+def integer(spelled: bytes) -> int:
     """The integer that is spelled so, 0 if it is left out; Unreadable of any other value."""
     try:
         return int(spelled or b"0")
@@ -43,7 +44,7 @@ def integer(spelled):
 class File:
     """The entries of a file by their directory numbers, and their values."""
 
-    def __init__(self, lines):
+    def __init__(self, lines: List[bytes]):
         letters = bytes(line[72] if len(line) > 72 else 0 for line in lines)
         self.lines = lines
         starts, globals_ = letters.count(b"S"), letters.count(b"G")
@@ -52,9 +53,10 @@ class File:
         self.globals = lines[starts : self.directory_at]
         self.parting, self.ending = delimiters_of(b"".join(line[:72] for line in self.globals))
         self.delimiter = re.compile(b"[" + re.escape(self.parting + self.ending) + b"]")
-        self.entries, self.spelled = {}, {}
+        self.entries: Dict[int, Entry] = {}
+        self.spelled: Dict[int, List[bytes]] = {}
 
-    def entry(self, number):
+    def entry(self, number: int) -> Entry:
         """The entry of this number; Unreadable if there is none."""
         found = self.entries.get(number)
         if found is None:
@@ -63,18 +65,19 @@ class File:
                 raise Unreadable(f"entity {number}, which isn't in the directory")
             one, two = self.lines[at], self.lines[at + 1]
             fields = one[0:8], one[8:16], two[24:32], one[48:56], two[32:40]
-            found = self.entries[number] = Entry(*(integer(field.strip()) for field in fields))
+            found = self.entries[number] = Entry(number, *(integer(field.strip()) for field in fields))
         return found
 
-    def record(self, number):
+    def record(self, number: int) -> bytes:
         """The text of an entry's record."""
         entry = self.entry(number)
         at = self.records_at + entry.first - 1
         return b"".join(line[:RECORD_COLUMNS] for line in self.lines[at : at + entry.lines])
 
-    def pieces(self, number):
+    def pieces(self, number: int) -> List[bytes]:
         """The type number and the values of a record, each with the spaces around it; a delimiter follows each."""
-        text, pieces, at = self.record(number), [], 0
+        text, at = self.record(number), 0
+        pieces: List[bytes] = []
         if b"H" not in text:
             return text.split(self.ending, 1)[0].split(self.parting)
         while True:
@@ -86,7 +89,7 @@ class File:
                 return pieces
             at = end + 1
 
-    def values(self, number):
+    def values(self, number: int) -> List[bytes]:
         """The values of an entry's record as they are spelled, without the type number; empty where one is left out."""
         found = self.spelled.get(number)
         if found is None:
@@ -94,7 +97,7 @@ class File:
         return found
 
 
-def delimiters_of(text):
+def delimiters_of(text: bytes) -> Tuple[bytes, bytes]:
     """The delimiters of values and of records that the global section sets: its parameters 1 and 2."""
     told = DELIMITERS_TOLD(text)
     parting = told[1] or b"," if told else b","
