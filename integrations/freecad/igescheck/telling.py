@@ -1,0 +1,209 @@
+"""What is told of a file, as a tree: solids with their hints and the rules that fail, and below these what each line of `where` names."""
+from typing import Dict, List, NamedTuple, Optional, Tuple
+
+from igesolid.check.html_report import MEANINGS
+from igesolid.check.reasons import reason_of_file
+from igesolid.content import Content, content_of_path
+from igesolid.engine import Engine
+from igesolid.errors import BadFile
+from igesolid.files import File as Judged
+from igesolid.files import Solid, default_engine
+from igesolid.pictures.iges import File, lines_of
+from igesolid.where import Holder, Line, Paragraph, Where
+from igesolid.where_lines import RECORD_RULES
+
+from .topology import Edge, Face, Topology, Vertex, millimetres
+
+CLOSED, FAILS, PLAIN = "closed", "fails", "plain"
+# The lines of `where` in words, by the words of their shapes; any other line stands as it is.
+WORDS = {
+    "edge along against": "edge {index} of list {list}; uses along it: {along}, against it: {against}",
+    "curve": "its curve is entity {curve} ({curve_type})",
+    "start": "from vertex {index} of list {list} at {x}, {y}, {z}",
+    "end": "to vertex {index} of list {list} at {x}, {y}, {z}",
+    "along face loop tuple flags": "face {face} ({surface_type}) uses it along",
+    "against face loop tuple flags": "face {face} ({surface_type}) uses it against",
+    "vertex fans points": "vertex {index} of list {list} at {x}, {y}, {z}, where faces meet in {fans} fans",
+    "vertex": "vertex {index} of list {list} at {x}, {y}, {z}",
+    "fan face loop tuple edge to": "fan {fan}: face {face} ({surface_type}), along edge {index} of list {list}",
+    "point face loop": "face {face} ({surface_type}) has a loop of this vertex alone",
+    "in shell face": "face {face} ({surface_type}) of shell {shell}",
+    "part faces edges vertices unpaired touching": "part {part} of {faces} faces",
+    "at": "vertex {index} of list {list} at {x}, {y}, {z}",
+    "touches": "touches another part at vertex {index} of list {list} at {x}, {y}, {z}",
+    "face": "face {face} ({surface_type})",
+    "gap": "gap in loop {loop} behind tuple {tuple}",
+    "this tuple edge flag curve": "this tuple uses edge {index} of list {list}",
+    "next tuple edge flag curve": "the next one uses edge {index} of list {list}",
+    "this tuple vertex": "this tuple is vertex {index} of list {list}",
+    "next tuple vertex": "the next one is vertex {index} of list {list}",
+    "ends": "it ends at vertex {index} of list {list} at {x}, {y}, {z}",
+    "starts": "that starts at vertex {index} of list {list} at {x}, {y}, {z}",
+    "remove": "remove face {face} ({surface_type})",
+    "same edges face": "face {face} ({surface_type}) has the same edges",
+    "rim edges": "rim {rim} of {edges} edges",
+    "edge face": "edge {index} of list {list}, of face {face} ({surface_type})",
+    "body faces first": "body {body} of {faces} faces, the first of them face {face} ({surface_type})",
+    "turn": "turn face {face} ({surface_type})",
+    "item": "item {place} of entity {entity}",
+    "value found": "its value {value} is {found}",
+    "line column": "line {line} of the file, column {column}",
+    "due": "due there: {due}",
+    "why": "what it names is {why}",
+    "entry form": "it names entity {entry} ({type}), of form {form}",
+    "values": "the record has {values} values",
+    "first item": "first named by item {item} of entity {entity}",
+    "list items": "list {list} has {items} items",
+    "in solid": "in solid {entity}",
+    "in shell item": "in shell {entity}",
+    "in face item": "in face {entity}",
+    "in loop item": "in loop {entity}",
+    "more": "{more} more",
+}  # fmt: skip
+
+
+# First words of lines whose faces, and those of their facts, use the edge that is named.
+USING = "edge", "fan"
+# Lines that name edges and vertices which don't fail themselves.
+NEAR_BY = "fan face loop tuple edge to", "at"
+
+
+class Node(NamedTuple):
+    """A row of the tree: its words, a sentence on it, how it is shown, and the edges, vertices and faces that it names."""
+
+    words: str
+    sentence: str = ""
+    kind: str = PLAIN
+    edges: Tuple[Edge, ...] = ()
+    vertices: Tuple[Vertex, ...] = ()
+    faces: Tuple[Face, ...] = ()
+    # Faces, edges and vertices that are named, but have no coordinates.
+    lost: Tuple[str, ...] = ()
+    is_near_by: bool = False
+    nodes: Tuple["Node", ...] = ()
+
+
+class ToldSolid(NamedTuple):
+    number: int
+    topology: Optional[Topology]
+    node: Node
+
+    @property
+    def is_closed(self) -> bool:
+        return self.node.kind == CLOSED
+
+
+class Told(NamedTuple):
+    """A file: the bytes that were judged, what is said of all, its solids, and whether the records of all solids are right."""
+
+    content: Content
+    words: str
+    sentence: str
+    solids: Tuple[ToldSolid, ...]
+    has_right_records: bool
+
+
+def told_of(path: str, engine: Optional[Engine] = None) -> Told:
+    """What is told of a file; an igesolid.Error if it can't be judged."""
+    engine = engine or default_engine()
+    content = content_of_path(path)
+    try:
+        solids = Judged(content, engine).solids
+    except BadFile as fault:
+        return Told(content, str(fault), _reason(engine, content, True), (), False)
+    if not solids:
+        return Told(content, "no solid", _reason(engine, content, False), (), True)
+    file = File(lines_of(content.bytes))
+    told = tuple(_of_solid(it, file) for it in solids)
+    failing = sum(not it.is_closed for it in told)
+    counted = _count(len(told), "solid")
+    words = f"{counted}, {failing:,} not closed" if failing else f"{counted}, closed"
+    return Told(content, words, "", told, all(it.verdict.rule not in RECORD_RULES for it in solids))
+
+
+def _reason(engine: Engine, content: Content, is_bad: bool) -> str:
+    reason = reason_of_file(engine, content, is_bad)
+    return "\n".join([reason.words, *map(str, reason.lines)])
+
+
+def _count(number: int, noun: str) -> str:
+    return f"{number:,} {noun}{'' if number == 1 else 's'}"
+
+
+def _of_solid(solid: Solid, file: File) -> ToldSolid:
+    if solid.verdict.is_closed:
+        return ToldSolid(solid.number, None, Node(f"solid {solid.number}: closed", kind=CLOSED))
+    where = solid.where
+    units = where.parts.units
+    topology = Topology(file, millimetres(units.told["unit_flag"], units.told["unit"]) if units else 1.0)
+    meaning = MEANINGS.get(solid.verdict.rule or "", "")
+    words = f"solid {solid.number} isn't closed: {meaning}"
+    rows = [Node(f"verdict: {solid.verdict}"), *(_row(it, topology) for it in where.hints)]
+    rows += [Node(f"{_count(where.more_hints, 'further hint')}, which the report shows")] if where.more_hints else []
+    rows += [_row(it, topology) for it in where.rules]
+    rows += _unwritten(where)
+    return ToldSolid(solid.number, topology, Node(words, _moved(where, solid.number), FAILS, nodes=tuple(rows)))
+
+
+def _unwritten(where: Where) -> List[Node]:
+    """A word on failing shells that `where` only counts."""
+    left = where.shells.number("failing") - len(where.failing) if where.shells else 0
+    return [Node(f"{_count(left, 'further failing shell')}, which the report shows")] if left else []
+
+
+def _moved(where: Where, number: int) -> str:
+    """A word on a matrix, which isn't applied to coordinates."""
+    facts = where.entities[number].facts if number in where.entities else []
+    matrix = next((it.told["matrix"] for it in facts if "matrix" in it.told), None)
+    return f"The solid is moved by a matrix, entity {matrix}: the coordinates are those before it." if matrix else ""
+
+
+def _row(holder: Holder, topology: Topology) -> Node:
+    """A hint or a rule, with its items."""
+    shell = f" in shell {holder.shell}" if holder.shell is not None else ""
+    if holder.word == "hint":
+        words = f"hint: {holder.text.split(' ')[1]}{shell}"
+    else:
+        words = f"{holder.told['rule']}{shell}, {_count(holder.number('faults'), 'fault')}: {MEANINGS[holder.told['rule']]}"
+    items = [_node(it, topology) for it in holder.items]
+    more = [Node(f"{holder.more:,} more, which the report shows")] if holder.more else []
+    return Node(words, holder.sentence, nodes=(*items, *more))
+
+
+def _node(line: Line, topology: Topology) -> Node:
+    """A line of `where` with the lines below it."""
+    edges, vertices, faces, lost = named_by(line, topology)
+    facts = line.facts if isinstance(line, Paragraph) else ()
+    below = tuple(_node(it, topology) for it in facts if it.word != "mark")
+    if line.word in USING:
+        users = faces + tuple(face for it in below for face in it.faces)
+        edges = tuple(it._replace(faces=users) for it in edges)
+    return Node(_words(line), "", PLAIN, edges, vertices, faces, lost, line.shape.words in NEAR_BY, below)
+
+
+def _words(line: Line) -> str:
+    try:
+        return WORDS[line.shape.words].format(**line.told)
+    except KeyError:
+        return line.text
+
+
+def named_by(line: Line, topology: Topology):
+    """The edges, vertices and faces that a line names, and in words those of which nothing is known but their number."""
+    told: Dict[str, str] = line.told
+    edges: List[Edge] = []
+    vertices: List[Vertex] = []
+    lost: List[str] = []
+    for names in ("list", "index"), ("to_list", "to_index"):
+        if not all(it in told for it in names):
+            continue
+        key = int(told[names[0]]), int(told[names[1]])
+        edge, vertex = topology.edge_of(key), topology.vertex_of(key)
+        edges += [edge] if edge else []
+        vertices += [vertex] if vertex else []
+        lost += [] if edge or vertex else [f"item {key[1]} of list {key[0]}"]
+    number = told["face"] if "face" in told else told["entity"] if line.shape.words.startswith("in face") else None
+    face = topology.face_of(int(number)) if number else None
+    is_known = face is not None and (face.edges or face.vertices)
+    lost += [f"face {number}"] if number and not is_known else []
+    return tuple(edges), tuple(vertices), (face,) if face and is_known else (), tuple(lost)
