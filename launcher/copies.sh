@@ -37,7 +37,10 @@ is_read_once() {
 
 # Makes the folder of copies, where there is none yet.
 make_copies() {
-    [ -n "${copies-}" ] || copies=$(mktemp -d) || fail "$1 can't be copied"
+    [ -z "${copies-}" ] || return 0
+    copies=$(LC_ALL=C mktemp -d 2>&1) && return
+    say "$1: it can't be copied to ${TMPDIR:-/tmp}: ${copies##*: }"
+    exit 5
 }
 
 # One byte more than the limit is enough for the program's answer.

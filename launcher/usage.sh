@@ -8,9 +8,7 @@ say_wrong_words() {
             return
         fi
     done
-    if [ $# -eq 0 ]; then
-        say 'a command is missing; igesolid --help lists the commands'
-    elif ! is_command "$1"; then
+    if ! is_command "$1"; then
         say_unknown "$1"
     elif [ "$(count_of_inputs "$@")" -gt 1 ]; then
         say 'standard input (-) can be given once only'

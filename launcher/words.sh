@@ -1,9 +1,10 @@
 # shellcheck shell=sh disable=SC2154
 # The launcher's own words, for the launcher igesolid: help, versions, and the paths of programs.
 
-# Ends with the answer to a word of the launcher.
+# Ends with the answer to a word of the launcher, or to none.
 answer_word() {
-    case $1 in
+    case ${1-} in
+    '') answer "$(tell_usage)" 2 ;;
     --version)
         mean igesolid
         choose
@@ -30,6 +31,20 @@ tell_version() {
         echo "sources $sources"
         echo "not built yet: $why"
     fi
+}
+
+# The commands to begin with: is it closed, where does it fail, what mends it.
+tell_usage() {
+    echo 'usage: igesolid COMMAND .., as in'
+    echo
+    awk -F'\t' -v forms='check FILE|FOLDER..,where FILE,where FILE N,page FILE N,relayout FILE,reorient FILE N' '
+        { text[$3] = $4 }
+        END {
+            n = split(forms, form, ",")
+            for (i = 1; i <= n; i++) printf "  igesolid %-19s  %s\n", form[i], text[form[i]]
+        }' "$table"
+    echo
+    echo 'igesolid --help lists all commands.'
 }
 
 # The commands and the launcher's words, each with its text behind the longest; a program's commands stand together. Then the statuses.

@@ -14,9 +14,11 @@ import time
 
 import clone
 import command_table
+import libraries
 from sample_file import sample_text
 
 BIG_FILE, BIG_CERTIFICATE = 164_000_001, 536_870_913
+C = "-std=c99 -O1 -Wall -Wextra -pedantic -Werror".split()
 IS_BIG_FILE = "the file has more than 164,000,000 bytes"
 IS_BIG_CERTIFICATE = "the certificate has more than 536,870,912 bytes"
 
@@ -32,7 +34,9 @@ def first_runs(copy, skipped):
         ["./igesolid", "solids", "/dev/stdin"], cwd=copy.top, input=(copy.top / "examples" / "cube.igs").read_bytes(), stdout=subprocess.PIPE, env=copy.environment()
     )
     yield "launcher: a file on standard input", (piped.returncode, piped.stdout) == (0, b"1\n")
-    yield "launcher: no words", copy.run("./igesolid")[::2] == (2, "igesolid: a command is missing; igesolid --help lists the commands\n")
+    status, text, error = copy.run("./igesolid")
+    first = re.findall(r"(?m)^  igesolid (.*?)  +(.*)$", text.decode())
+    yield "launcher: no words", (status, error) == (2, "") and len(first) == 6 and set(first) < {(row.words, row.text) for row in command_table.ROWS}
     sources = copy.run("dist/sources")[1].decode()
     shipped = copy.top / "dist" / "igesolid-x86_64-linux"
     status, text, error = copy.run("./igesolid", "--version")
@@ -90,6 +94,8 @@ def pictures(copy):
     page = text
     status, text, error = copy.run(copy.top / "igesolid", "marks", "fail_pair.igs", "1", cwd=copy.top / "examples" / "no")
     yield "launcher: marks", (status, error) == (1, "") and text.startswith(b"Faults of solid 1 of fail_pair.igs ")
+    told = copy.run("./igesolid", "page", *words, TMPDIR="/none")
+    yield "launcher: page without a folder for copies", told == (5, b"", f"igesolid: {words[0]}: it can't be copied to /none: No such file or directory\n")
     yield "launcher: page without a number", copy.run("./igesolid", "page", words[0])[:2] == (2, b"")
     for command in ("where", "page", "marks"):
         told = copy.run("./igesolid", command, "none.igs", "1")
@@ -302,12 +308,12 @@ def comparisons(copy, skipped):
     yield "dist/check: another source", copy.run("dist/check", kit=True)[0] == 1
     listed.write_text(text)
     yield "dist/check: the sources again", copy.run("dist/check", kit=True)[0] == 0
-    named = copy.top / "dist" / "BUILT"
+    named = copy.folder / "kit" / "rt"
     text = named.read_text()
-    named.write_text(text.replace("kit a kit for tests", "kit another"))
+    copy.write(named, text.replace("a kit for tests", "another kit"))
     status, told, _ = copy.run("dist/check", kit=True)
-    yield "dist/check: another kit that builds the same bytes", status == 0 and b"BUILT names the kit another; a kit for tests built the same bytes" in told
-    named.write_text(text)
+    yield "dist/check: another kit that builds the same bytes", status == 0 and b"BUILT names the kit a kit for tests; another kit built the same bytes" in told
+    copy.write(named, text)
     if shutil.which("git", path=clone.PLAIN_PATH) is None:
         skipped("dist/make beside git, which isn't installed")
     else:
@@ -394,7 +400,7 @@ def inputs(copy):
 
 def outputs(copy):
     """Words of the launcher's own, and pages, with a standard output that fails."""
-    for words in ("--help", "-h", "help", "--version", "--program", "sample 3", "solids examples/cube.igs", "page examples/no/fail_pair.igs 1"):
+    for words in ("", "--help", "-h", "help", "--version", "--program", "sample 3", "solids examples/cube.igs", "page examples/no/fail_pair.igs 1"):
         for output in (">/dev/full", ">&-"):
             status, text, error = run_in(copy, f"./igesolid {words} {output}")
             yield f"{words} {output}", (status, text) == (5, "") and error.endswith("standard output failed, so the answer is cut short or missing\n") and error.count("\n") == 1
@@ -594,8 +600,75 @@ def further_program(copy):
     (copy.top / "companion" / "report").unlink()
 
 
+# What the launcher and the program in C are asked, as words of the shell: the program stands for what is run.
+ASKED = (
+    "certfy a.igs 1", "extrct a.igs", "wehre a.igs", "CERTIFY a.igs 1", "sol", "--hepl", "-", "something", "a", "examples/cube.igs", "''", "certify",
+    "certify a.igs", "certify a.igs first", "certify a.igs 0", "certify a.igs 12345678", "certify a.igs 1 2", "certify a.igs ''", "verify a.igs", "verify",
+    "open a.igs", "open a.igs 0", "sample 2", "sample 201", "sample x", "sample", "sample 3", "show a.igs", "where", "where a.igs x", "where a.igs 1 al",
+    "where a.igs 1 all more", "layout", "relayout a.igs 1", "reorient a.igs", "page", "page a.igs", "page a.igs x", "page a.igs 1 2", "page none.igs 1",
+    "page docs 1", "page - 1 <&-", "page examples/cube.igs 0", "orient-verify a.igs", "solids none.igs", "solids ''", "solids docs", "solids 'two\nlines'",
+    "solids $'a\\x1b[31mb'", "solids $'a\\xc2\\x85b'", "solids $'caf\\xe9.igs'", "solids $'a\\x9bb\\xe9'", "$'caf\\xc3\\xa9'", "solids /proc/self/mem", "solids big.igs",
+    "where big.igs", "relayout big.igs", "verify big.igs big.cert", "verify examples/cube.igs big.cert", "upgrade examples/cube.igs docs",
+    "verify examples/cube.igs none.cert", "verify examples/no/bad_length.igs none.cert", "verify examples/cylinder.igs examples/cube.cert2",
+    "verify examples/cylinder.igs examples/two_solids.cert3", "verify examples/two_solids.igs examples/cube.cert2", "upgrade examples/cylinder.igs examples/cube.cert2",
+    "open-verify examples/cube.igs examples/sheet.open1", "orient-verify examples/cylinder.igs examples/turned.orient", "verify examples/cube.igs examples/cube.cert2",
+    "verify examples/two_tetrahedra.igs examples/two_solids.cert3", "solids crates.txt", "where crates.txt", "where crates.txt 1", "layout crates.txt",
+    "solids examples/no/bad_field.igs", "solids examples/no/bad_after.igs", "page crates.txt x", "extract examples/cube.igs 3", "certify examples/two_tetrahedra.igs all",
+    "solids - <examples/cube.igs", "cat examples/cube.igs | PROGRAM where -", "verify - examples/cube.cert2 <examples/cube.igs", "verify examples/cube.igs - <examples/cube.cert2",
+    "verify - -", "where - -", "page - -", "solids - <&-", "solids - <docs", "solids - <big.igs", "solids - <crates.txt", "certify examples/cube.igs 1 >/dev/full",
+    "certify examples/cube.igs 1 >&-", "where examples/cube.igs >/dev/full", "page examples/no/fail_pair.igs 1 >/dev/full", "page examples/no/fail_pair.igs 1 >&-",
+    ">/dev/full", "--help >/dev/full", "-h >&-", "--version >/dev/full", "sample 3 >/dev/full", "solids nowhere/a/b.igs", "solids examples/cube.igs/a",
+)  # fmt: skip
+
+
+def program_in_c(copy, skipped):
+    """The program of all commands in C (packaging/c/main.c) answers what the launcher answers, on standard error too."""
+    library = libraries.shipped("libigesolid-x86_64-linux.a")
+    if library is None or shutil.which("gcc") is None:
+        skipped("the launcher beside the program in C: gcc isn't installed, or dist/ holds no library of these sources")
+        return
+    made = copy.folder / "igesolid"
+    done = subprocess.run(["gcc", *C, libraries.HEADER / "main.c", library, "-o", made], capture_output=True, text=True)
+    yield f"program in C: no warning{done.stderr}", (done.returncode, done.stderr) == (0, "")
+    for name, size in (("big.igs", BIG_FILE), ("big.cert", BIG_CERTIFICATE)):
+        (copy.top / name).touch()
+        os.truncate(copy.top / name, size)
+    for words in ASKED:
+        script = words if "PROGRAM" in words else f"PROGRAM {words}"
+        wanted, got = (run_in(copy, script.replace("PROGRAM", program)) for program in ("./igesolid", str(made)))
+        told = "" if got == wanted else f"\n  wanted {tuple(map(str, wanted))}\n  got    {tuple(map(str, got))}"[:1500]
+        yield f"program in C: {words}{told}", got == wanted
+    for name in "big.igs", "big.cert":
+        (copy.top / name).unlink()
+    yield from own_words_in_c(copy, made)
+    made.unlink()
+
+
+def own_words_in_c(copy, made):
+    """Its help is the launcher's but for what it doesn't have, and its pages have the same in them."""
+    others = {f"  igesolid {row.words} " for row in command_table.of_kind("python")} | {"  igesolid --built ", "  igesolid --program "}
+    told = copy.run("./igesolid", "--help")[1].decode().split("\nWith ")[0].splitlines()
+    wanted = [re.sub(" {2,}", "  ", line) for line in told if line and not line.startswith(tuple(others))]
+    for word in "--help", "-h", "help":
+        status, text, error = copy.run(made, word)
+        got = [re.sub(" {2,}", "  ", line) for line in text.decode().splitlines() if line]
+        yield f"program in C: {word}", (status, got, error) == (0, wanted, "")
+    told = copy.run("./igesolid")[1].splitlines()
+    status, text, error = copy.run(made)
+    yield "program in C: no words", (status, text.splitlines(), error) == (2, [line for line in told if not line.startswith(b"  igesolid check ")], "")
+    yield "program in C: --version", copy.run(made, "--version")[1].startswith(copy.run("./igesolid", "--version")[1].split(b"\n")[0])
+    for words in ("examples/no/fail_pair.igs", "1"), ("examples/no/bad_length.igs", "1"), ("examples/cube.igs", "3"):
+        (status, page, error), wanted = copy.run(made, "page", *words), copy.run("./igesolid", "page", *words)
+        whole = lambda text: re.sub(rb'(?s)id="file">.*?</script>', b"", text)
+        yield f"program in C: page {words}", (status, parts_of(page), whole(page), error) == (wanted[0], parts_of(wanted[1]), whole(wanted[1]), wanted[2])
+    for words in ("check", "examples"), ("marks", "a.igs", "1"), ("where", "--json", "a.igs"):
+        status, text, error = copy.run(made, *words)
+        yield f"program in C: {words}", (status, text) == (125, b"") and error.endswith("is a command in Python, which this program doesn't run\n")
+
+
 def checks(copy, forms, skipped):
     yield from further_program(copy)
+    yield from program_in_c(copy, skipped)
     yield from machines(copy)
     yield from surprises(copy)
     yield from pictures(copy)

@@ -6,7 +6,8 @@ says it must not know. crates.txt lists each crate below what it depends on, and
 crates is longer than `CHAIN` crates, and no crate has more than `LINES` lines or `FUNCTIONS` functions, contracts included; tests,
 and the programs, which are `main` alone, aren't counted. None of the crates `CHECKS`, which say yes to certificates and to
 orientations, depends on one of `MAKES`, which make them. A library for C stands on crates as a program does. In each way of
-docs/ARCHITECTURE.md through the crates, each stands on one before it, and on none after it.
+docs/ARCHITECTURE.md through the crates, each stands on one before it, and on none after it. Each module of the Python package has
+its place there, behind those that it imports.
 """
 import functools
 import pathlib
@@ -28,6 +29,8 @@ CHAIN, LINES, FUNCTIONS = 8, 1500, 100
 # The longer chains: where's text goes through record_paths and where_records, which say in which face a record fails; the laws of
 # reoriented files stand on those of extracted ones, and nothing on them. See docs/DECISIONS.md.
 LONGER = {"where_solids": 9, "where_command": 10, "where_laws": 11, "reorient_laws": 9}
+# A folder of the Python package, with the table of its modules.
+MODULES = re.compile(r"(?s)`(python/\w+(?:/\w+)?)`,.*?\n\|---\|---\|\n((?:\|.*?\n)+)")
 # What says yes to certificates and orientations, and what makes them or parts of them.
 CHECKS = "cert_state", "topo_certificate", "cert_accept", "open_certificate", "orient_certificate"
 MAKES = {"vertex_link", "shell_flood", "shell_reach", "cert_maker", "open_shells", "face_orient"}
@@ -119,6 +122,17 @@ def way_checks(crates, page):
             yield f"docs/ARCHITECTURE.md: {head}: {name} stands on none after it, and comes once", not (below(crates, name) | {name}) & set(after)
 
 
+def module_checks(top, page):
+    """Each module of the Python package has its place, behind those of its folder that it imports."""
+    for folder, table in MODULES.findall(page.split("## The Python package")[1]):
+        named = re.findall(r"`(\w+)`", " ".join(row.split(" | ")[0] for row in table.splitlines()))
+        present = {path.stem: path.read_text() for path in (top / folder).glob("*.py") if path.stem != "__init__"}
+        yield f"docs/ARCHITECTURE.md: the modules of {folder}", sorted(named) == sorted(present)
+        for at, name in enumerate(named):
+            for other in re.findall(r"(?m)^from \.(\w+) import", present.get(name, "")):
+                yield f"docs/ARCHITECTURE.md: {folder}: {other} comes before {name}", other in named[:at]
+
+
 def checks(top):
     text = (top / "crates.txt").read_text()
     crates = {name: needs.split() for name, needs in CRATE.findall(text)}
@@ -129,6 +143,7 @@ def checks(top):
     yield from needs_checks(top, crates)
     yield from checker_checks(crates)
     yield from way_checks(crates, page)
+    yield from module_checks(top, page)
     yield from limits_checks(top, crates, tests)
 
 

@@ -1,5 +1,5 @@
-"""README and the pages: the forms, the rules, each command that stands there with what it prints, the script, and the links;
-docs/INDEX.md; and the changed certificates of the pages of CHANGED with their answers.
+"""README and the pages: their sizes, the forms, the rules, each command that stands there with what it prints, the script, and the
+links; docs/INDEX.md; and the changed certificates of the pages of CHANGED with their answers.
 """
 import hashlib
 import os
@@ -29,6 +29,8 @@ SECTION = re.compile(r"\]\((\w+\.md)\), sections? (\d+(?: and \d+)?)")
 # An edition of where's text, with the checksum of the recorded texts.
 EDITION = re.compile(r"(?m)^\| (\d+) \| .* \| `([0-9a-f]{16})` \|$")
 MOST_EDITS = 120
+# The most bytes of README, and of it with all pages of docs but the lists.
+README_LIMIT, PAGES_LIMIT, LISTS = 11_500, 215_000, {"TRUSTED.md", "INDEX.md"}
 # A sentence of `where` in a definition, alone or after the line of its hint.
 SAID = re.compile(r'codes "(?:hint [^"\\]*\\n)?((?:  [^" \\][^"\\]*\\n)+)"')
 # A type and its word in a definition.
@@ -49,6 +51,14 @@ exec '{program}' "$@"
 
 def run(words, folder, **more):
     return subprocess.run(words, cwd=folder, capture_output=True, timeout=SECONDS, **more)
+
+
+def sizes(top):
+    """README and the pages are short enough to be read."""
+    readme = (top / "README.md").stat().st_size
+    pages = readme + sum(path.stat().st_size for path in (top / "docs").glob("*.md") if path.name not in LISTS)
+    yield f"README.md: {readme} bytes, at most {README_LIMIT}", readme <= README_LIMIT
+    yield f"README.md and docs: {pages} bytes, at most {PAGES_LIMIT}", pages <= PAGES_LIMIT
 
 
 def tables(top, forms):
@@ -209,6 +219,7 @@ def checks(folder, top, program, where, repair, forms):
     (folder / "examples").symlink_to(top / "examples")
     (folder / "igesolid").write_text(LAUNCHED.format(top=top, program=program, where=where, repair=repair))
     (folder / "igesolid").chmod(0o755)
+    yield from sizes(top)
     yield from tables(top, forms)
     yield from examples(folder, top)
     yield from script_by_status(folder, top)

@@ -23,10 +23,12 @@ class Part(NamedTuple):
 
 
 class Context:
-    """What a part gets: a folder of its own, the programs, and `skipped`, which is called with what is left out and why."""
+    """What a part gets: a folder of its own, the programs, and `skipped`, which is called with what is left out and why. Of thousands of
+    like answers a part asks each `share`-th, and where that isn't the first it saves the time of compilers too.
+    """
 
-    def __init__(self, folder, programs, skipped):
-        self.folder, self.programs, self.skipped, self.numbers = folder, programs, skipped, itertools.count(1)
+    def __init__(self, folder, programs, skipped, share=1):
+        self.folder, self.programs, self.skipped, self.share, self.numbers = folder, programs, skipped, share, itertools.count(1)
 
     def new_folder(self):
         """An empty folder, which other users may enter."""

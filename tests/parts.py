@@ -5,6 +5,7 @@ import argument_tests
 import arm_tests
 import arrival_tests
 import browser_tests
+import c_file_tests
 import certificate_tests
 import check_tests
 import compact_tests
@@ -12,11 +13,14 @@ import costs
 import examples
 import extract_tests
 import faults
+import freecad_tests
 import fresh
 import fuzz
 import gallery
+import hook_tests
 import hostile
 import largest_tests
+import junit_tests
 import launcher
 import layers
 import library_tests
@@ -36,11 +40,14 @@ import repair
 import rows
 import running_tests
 import sample_tests
+import sarif_tests
 import theorem
 import trusted
 import web_tests
+import wheel_tests
 import where
 import where_json_tests
+import windows_tests
 from part import BY_NAME, LARGE, Part
 from programs import FORMS, REPAIR_FORMS, TOP
 
@@ -87,7 +94,7 @@ def of_repair(checks):
 
 def of_pages(context):
     yield from pages.checks(context.new_folder(), TOP, *context.programs[:3], FORMS)
-    yield from no_examples.checks(TOP, context.programs.igesolid)
+    yield from no_examples.checks(TOP, context.programs)
     yield from gallery.checks(context.new_folder(), context.programs.where)
     for module in (quoted, theorem, trusted, layers):
         yield from module.checks(TOP)
@@ -118,8 +125,15 @@ PARTS = (
     Part("packages", "the installer and the Debian package, likewise", lambda context: packages.checks(context.clone(), context.skipped), LARGE),
     Part("completion", "completion in bash, zsh and fish, likewise", lambda context: packages.completions(context.clone(), context.skipped)),
     Part("check", "igesolid check, the Python package and the recipes of docs/MANY.md, likewise", lambda context: check_tests.checks(context.clone(), context.skipped)),
+    Part("junit", "igesolid check --junit, read back by junitparser", lambda context: junit_tests.checks(context.clone(), context.skipped), LARGE),
+    Part("sarif", "igesolid check --sarif, by a schema under jsonschema", lambda context: sarif_tests.checks(context.clone(), context.skipped), LARGE),
+    Part("pre-commit", "the hook for pre-commit, in a repository of parts", lambda context: hook_tests.checks(context.clone(), context.skipped), LARGE),
+    Part("wheels", "wheels and the source distribution of the Python package, each in a venv; types", wheel_tests.checks, LARGE),
+    Part("freecad", "the add-on for FreeCAD, at each failing example, and in a window that nobody sees", freecad_tests.checks, LARGE),
     Part("library", "the library for C: programs that use it, threads, a heap with a cap, and each example", library_tests.checks),
     Part("arm", "the programs and the library for aarch64 under qemu-user, and a processor below the kit's baseline", arm_tests.checks, LARGE),
+    Part("c-file", "the library as one C file, by each compiler and for other machines: 2,700 answers; and packaging/c/translate beside node", c_file_tests.checks, LARGE),
+    Part("windows", "the program and the library for Windows under wine: 2,700 answers, names and failures", windows_tests.checks, LARGE),
     Part("web", "the page for browsers in headless Chromium", web_tests.checks, LARGE),
     Part("clusters", "the recipe for Slurm and check --dask, on clusters of this machine", lambda context: check_tests.clusters(context.clone(), context.skipped), LARGE),
     Part("testing", "tests/run itself, its choice of the programs, and that .ci/run has every part", lambda context: running_tests.checks(context, PARTS)),

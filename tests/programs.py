@@ -55,8 +55,19 @@ def shipped():
     return found if all(f"{hashlib.sha256(path.read_bytes()).hexdigest()}  {path.name}\n" in sums for path in found[:3]) else None
 
 
-def chosen():
+def in_folder(folder):
+    """The programs in a folder, by their names or those of their crates."""
+    names = ("igesolid", "igesolid-where", "igesolid-repair")
+    paths = [next((path for path in (folder / name, folder / name.replace("-", "_")) if os.access(path, os.X_OK)), None) for name in names]
+    if None in paths:
+        sys.exit(f"{sys.argv[0]}: {folder} has no {names[paths.index(None)]}")
+    return Programs(*paths, f"in {folder}")
+
+
+def chosen(folder=None):
     """The programs to run. Where there are none, the command ends and says why."""
+    if folder is not None:
+        return in_folder(pathlib.Path(folder).resolve())
     found = built_here() or shipped()
     if found is None:
         sys.exit(f"{sys.argv[0]}: {NONE_FITS}")

@@ -86,7 +86,7 @@ class Reporter:
         self.connection.send((ENDED, sum(it.ru_utime + it.ru_stime for it in used)))
 
 
-def run_part(part, programs, folder, connection):
+def run_part(part, programs, folder, share, connection):
     """Runs a part in this process, which was started for it and ends with it, or by the signal that ends the whole run."""
     for number in (signal.SIGINT, signal.SIGTERM):
         signal.signal(number, signal.SIG_DFL)
@@ -94,7 +94,7 @@ def run_part(part, programs, folder, connection):
     os.chdir(folder)
     reporter = Reporter(connection)
     try:
-        for name, held in part.checks(Context(folder, programs, reporter.skipped)):
+        for name, held in part.checks(Context(folder, programs, reporter.skipped, share)):
             reporter.check(name, held)
     except Exception:
         reporter.check(f"{part.name}: {traceback.format_exc()}", False)
@@ -106,8 +106,8 @@ def run_part(part, programs, folder, connection):
 class Run:
     """A run of parts, whose results come in the order in which they were started."""
 
-    def __init__(self, parts, programs, folder):
-        self.waiting, self.programs, self.folder, self.screen = list(parts), programs, folder, Screen()
+    def __init__(self, parts, programs, folder, share):
+        self.waiting, self.programs, self.folder, self.share, self.screen = list(parts), programs, folder, share, Screen()
         self.results, self.running = [], {}
 
     def start(self):
@@ -116,7 +116,7 @@ class Run:
         folder.mkdir()
         folder.chmod(0o755)
         receiver, sender = START.Pipe(duplex=False)
-        process = START.Process(target=run_part, args=(part, self.programs, folder, sender))
+        process = START.Process(target=run_part, args=(part, self.programs, folder, self.share, sender))
         process.start()
         sender.close()
         self.results.append(Result(part.name))
@@ -159,12 +159,12 @@ class Run:
         return self.results
 
 
-def run(parts, programs):
+def run(parts, programs, share=1):
     """The results of parts."""
     folder = pathlib.Path(tempfile.mkdtemp(prefix="igesolid-tests-"))
     folder.chmod(0o755)
     try:
-        return Run(parts, programs, folder).all()
+        return Run(parts, programs, folder, share).all()
     finally:
         for process in multiprocessing.active_children():
             process.terminate()

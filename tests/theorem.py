@@ -1,7 +1,7 @@
 #!/usr/bin/env python3
-"""docs/THEOREM.md against the sources: each quote stands in the file that its first line names, the definition of a closed solid is
-quoted, and each word of the table is defined in the file that its row names; and the names of the sources that it and the pages of NAMING tell are there. Run alone with --mend,
-it names the file of a quote or a word anew where it was moved.
+"""docs/THEOREM.md against the sources: each quote stands in the file that its first line names, and the definition of a closed solid
+is quoted; and the names of the sources that it and the pages of NAMING tell are there. Run alone with --mend, it names the file of a
+quote anew where it was moved.
 """
 import pathlib
 import re
@@ -13,7 +13,6 @@ NAMING = "README.md", *(f"docs/{name}.md" for name in ("THEOREM", "TRUSTED", "PR
 NAME = re.compile(r"`([a-z]\w*_\w+|[A-Z]\w*[a-z]\w*)(?:::(\w+))?`")
 # The definition of a closed solid, which the page quotes whole.
 CLOSED = "IsClosed", "IsClosedSolid", "IsClosedShell", "IsJoined", "IsPaired", "IsReached", "IsLinked", "IsApart"
-ROW = re.compile(r"(?m)^\| `(\w+)` \| \[(\S+)\]\(\.\./(crates/\S+)\) \|")
 
 
 def lines_of(text):
@@ -30,19 +29,6 @@ def defines(source, word):
     return re.search(rf"(?m)^(?:(?:abbrev|unfoldable) )?pub (?:record |data )?{word}\b", source) is not None
 
 
-def short(path):
-    """The name of a file of definitions in the table."""
-    return path.split("/")[-1].removesuffix(".antt")
-
-
-def claims(page):
-    """A name, the path, and the test that the file of this path must pass, for each quote and each row."""
-    for path, quote in QUOTE.findall(page):
-        yield quote.splitlines()[0].strip(), path, lambda source, quote=quote: has_quote(source, quote)
-    for word, name, path in ROW.findall(page):
-        yield word, path, lambda source, word=word, is_named=name == short(path): is_named and defines(source, word)
-
-
 def sources_of(top):
     """Each file of definitions and of code, by its path."""
     return {str(path.relative_to(top)): path.read_text() for suffix in ("specs/*.antt", "src/*.rt") for path in sorted(top.glob(f"crates/*/{suffix}"))}
@@ -52,7 +38,9 @@ def names(top):
     """Each name that a page tells is one of a crate or of a folder of tests, or occurs in the sources or lemmas of a crate or of the Python package."""
     known = {path.name for folder in ("crates", "tests") for path in top.glob(f"{folder}/*")} | {"itoa", "indexmap"}
     lemmas = (path.read_text() for path in sorted(top.glob("crates/*/proofs/*.antt")))
-    package = (path.read_text() for path in sorted(top.glob("python/**/*.py")))
+    modules = sorted(top.glob("python/**/*.py"))
+    known.update(path.stem for path in modules)
+    package = (path.read_text() for path in modules)
     known.update(word for source in (*sources_of(top).values(), *lemmas, *package) for word in re.findall(r"\w+", source))
     for page in NAMING:
         text = re.sub(r"(?s)```.*?```", "", (top / page).read_text())
@@ -62,27 +50,21 @@ def names(top):
 
 def checks(top):
     yield from names(top)
-    found = 0
-    for name, path, holds in claims((top / "docs" / "THEOREM.md").read_text()):
-        found += 1
-        yield f"docs/THEOREM.md: {name}", (top / path).exists() and holds((top / path).read_text())
-    yield "docs/THEOREM.md: quotes and rows", found > 0
-    quotes = "\n".join(quote for _, quote in QUOTE.findall((top / "docs" / "THEOREM.md").read_text()))
+    quoted = QUOTE.findall((top / "docs" / "THEOREM.md").read_text())
+    for path, quote in quoted:
+        yield f"docs/THEOREM.md: {quote.splitlines()[0].strip()}", (top / path).exists() and has_quote((top / path).read_text(), quote)
+    quotes = "\n".join(quote for _, quote in quoted)
     for word in CLOSED:
         yield f"docs/THEOREM.md: a quote of {word}", defines(quotes, word)
 
 
 def mended(top, page):
-    """The page with the files named where quotes and definitions stand now."""
+    """The page with the files named where quotes stand now."""
     sources = sources_of(top)
     for path, quote in QUOTE.findall(page):
         places = [other for other, source in sources.items() if has_quote(source, quote)]
         if path not in places and places:
             page = page.replace(f" {path}\n{quote}", f" {places[0]}\n{quote}")
-    for word, name, path in ROW.findall(page):
-        places = [other for other, source in sources.items() if defines(source, word)]
-        if path not in places and len(places) == 1:
-            page = page.replace(f"| `{word}` | [{name}](../{path}) |", f"| `{word}` | [{short(places[0])}](../{places[0]}) |")
     return page
 
 

@@ -1,7 +1,7 @@
 #!/usr/bin/env python3
-"""docs/TRUSTED.md against the sources: its tables have exactly the files of definitions on which the contracts of the calls of
-CALLS and the laws rest, by their `use` lines. Each law is named in docs/PROOFS.md. Of the files that no public contract rests on,
-either each says in its first line that it is private, but for those of SHARED, or none does.
+"""docs/TRUSTED.md against the sources: its tables are those of trusted_page.py, and have exactly the files of definitions on which
+the contracts of the calls of CALLS and the laws rest, by their `use` lines. Each law is named in docs/PROOFS.md. Of the files that
+no public contract rests on, either each says in its first line that it is private, but for those of SHARED, or none does.
 
 Run alone with --mend, it writes the tables anew: a file that is new there has its first line as what it says. With --private, it
 prints the files that no public contract rests on.
@@ -10,29 +10,20 @@ import pathlib
 import re
 import sys
 
+from definitions import USE, contract, imports
+from programs import FORMS
 from theorem import sources_of
+from trusted_page import OWED, Page
 
 CALLS = {"run": "crates/iges_solid_cmd/src/command.rt", "run_where": "crates/where_command/src/command.rt", "run_repair": "crates/repair_commands/src/command.rt"}
 # The traits of the sources and sinks of the calls: their clauses say what is left to read and what was written.
 TRAITS, STREAMS = ("Source", "Sink"), "crates/iges_io/src/io.rt"
-USE = re.compile(r"(?m)^ *(?:ghost )?use Rattle\.(\w+)\.specs\.(\w+)(?:\.\{([^}]*)\}| as (\w+))?;?$")
-ROW = re.compile(r"(?m)^\| \[\w+\]\(\.\./(\S+)\) \| (.*) \| (.*) \|$")
-TABLE = "| File | What it says | For |\n|---|---|---|\n"
+ROW = re.compile(r"(?m)^\| \[[\w/]+\]\(\.\./(\S+)\) \| (.*?) \| (.*) \|$")
 PRIVATE = "-- Private: "
 # Files that no public contract rests on yet, but that are written for crates above.
 SHARED = {"crates/shell_components/specs/Trees.antt", "crates/solid_faults/specs/PartPairs.antt"}
 HOLDER = re.compile(r"(?:impl|(?:pub )?(?:trait|struct|enum))\b")
 FUNCTION = re.compile(r"( *)(pub |pub\(crate\) )?(?:const |extern \"C\" )?fn (\w+)")
-
-
-def imports(sources, source):
-    """Each name that a source imports from a file of definitions, and the path of this file."""
-    found = {}
-    for crate, module, names, alias in USE.findall(source):
-        path = f"crates/{crate}/specs/{module}.antt"
-        if path in sources:
-            found |= {name.split()[-1]: path for name in (alias or names or module).split(",") if name.strip()}
-    return found
 
 
 def reached(sources, paths):
@@ -52,18 +43,17 @@ def cited(sources, path, text):
     return {file for name, file in imports(sources, sources[path]).items() if name in words}
 
 
-def contract(source, head):
-    """An item of a source from its head on, without a body."""
-    return re.split(r"(?m)^\{\}?$|^\}$", source[source.index(head) :])[0]
-
-
 def laws(sources):
     return [(path, name) for path, source in sources.items() if path.endswith("/src/law.rt") for name in re.findall(r"(?m)^pub fn (\w+)\(", source)]
 
 
+def traits(sources):
+    return "\n".join(contract(sources[STREAMS], f"pub trait {name}") for name in TRAITS)
+
+
 def rests(sources):
     """The files of definitions on which each call rests, and the laws."""
-    streams = set().union(*(cited(sources, STREAMS, contract(sources[STREAMS], f"pub trait {name}")) for name in TRAITS))
+    streams = cited(sources, STREAMS, traits(sources))
     roots = {f"`{name}`": streams | cited(sources, path, contract(sources[path], f"pub fn {name}<")) for name, path in CALLS.items()}
     roots["laws"] = set().union(*(cited(sources, path, contract(sources[path], f"pub fn {name}(")) for path, name in laws(sources)))
     return {root: reached(sources, paths) for root, paths in roots.items()}
@@ -74,9 +64,14 @@ def definitions(sources):
 
 
 def wanted(sources):
-    """Each file that the page must have, with what rests on it."""
-    found = rests(sources)
-    return {path: ", ".join(root for root, paths in found.items() if path in paths) for path in set().union(*found.values())}
+    """Each file that the page must have."""
+    return set().union(*rests(sources).values())
+
+
+def tables(sources, page):
+    """The tables that the page must have, by their headings."""
+    contracts = {CALLS["run"]: contract(sources[CALLS["run"]], "pub fn run<"), STREAMS: traits(sources)}
+    return Page(sources, rests(sources), contracts).tables({path: text for path, text, _ in ROW.findall(page)})
 
 
 def summary(sources):
@@ -85,14 +80,14 @@ def summary(sources):
 
 
 def differing(sources, page):
-    """The files that the page lacks, has too many, or has for another call."""
-    has, needs = {path: root for path, _, root in ROW.findall(page)}, wanted(sources)
+    """The files that the page lacks, has too many, or has for other calls or commands."""
+    has, needs = ({path: (text, root) for path, text, root in ROW.findall(it)} for it in (page, "".join(tables(sources, page).values())))
     return sorted(path for path in has.keys() | needs.keys() if has.get(path) != needs.get(path))
 
 
 def made_up(sources):
     """The sources with one more `use` in a definition, and with one more clause of a call; each is to be noticed."""
-    other = min(definitions(sources) - wanted(sources).keys())
+    other = min(definitions(sources) - wanted(sources))
     use = "use Rattle.{0}.specs.{1}.{{MadeUp}}".format(*re.findall(r"crates/(\w+)/specs/(\w+)", other)[0])
     definition, call = "crates/command_replies/specs/Ending.antt", CALLS["run"]
     yield "use", sources | {definition: f"{use}\n{sources[definition]}"}
@@ -141,9 +136,10 @@ def private(sources):
 def checks(top):
     sources, page = sources_of(top), (top / "docs" / "TRUSTED.md").read_text()
     others = differing(sources, page)
-    for path in sorted(wanted(sources).keys() | set(others)):
+    for path in sorted(wanted(sources) | set(others)):
         yield f"docs/TRUSTED.md: {path}", path not in others
-    yield "docs/TRUSTED.md: the numbers of files", summary(sources) in page
+    yield "docs/TRUSTED.md: the numbers, the other tables and their order", mended(sources, page) == page
+    yield "docs/TRUSTED.md: the commands", sorted(OWED) == sorted(FORMS)
     for name, changed in made_up(sources):
         yield f"docs/TRUSTED.md: one more {name} is noticed", differing(changed, page) != []
     proofs = (top / "docs" / "PROOFS.md").read_text()
@@ -153,20 +149,13 @@ def checks(top):
     yield "files of definitions that say that they are private", marked in (set(), private(sources) - SHARED)
 
 
-def mended(sources, page, crates):
-    """The page with its sentence of numbers and its tables as the sources have them. Rows that it has keep their order."""
-    says, needs = {path: text for path, text, _ in ROW.findall(page)}, wanted(sources)
-    order = {path: number for number, path in enumerate(says)}
-    tables = []
-    for crate in crates:
-        rows = ""
-        for path in sorted((path for path in needs if path.split("/")[1] == crate), key=lambda path: (order.get(path, len(order)), path)):
-            text = says.get(path, sources[path].splitlines()[0].removeprefix("-- ").rstrip("."))
-            rows += f"| [{pathlib.Path(path).stem}](../{path}) | {text} | {needs[path]} |\n"
-        if rows:
-            tables.append(f"### {crate}\n\n{TABLE}{rows}")
+def mended(sources, page):
+    """The page with its sentence of numbers and its tables as the sources have them, each below its heading."""
     page = re.sub(r"(?m)^`run` rests on .*$", lambda _: summary(sources), page)
-    return page[: page.index("\n### ") + 1] + "\n".join(tables)
+    for heading, table in tables(sources, page).items():
+        place = re.compile(rf"(?m)^(### {re.escape(heading)}\n(?:(?!#|\|).*\n)*)(?:\|.*\n)*")
+        page = place.sub(lambda match, table=table: match[1] + table, page)
+    return page
 
 
 def main():
@@ -176,8 +165,7 @@ def main():
         return 0
     if sys.argv[1:] == ["--mend"]:
         page = top / "docs" / "TRUSTED.md"
-        crates = re.findall(r"(?m)^(\w+):", (top / "crates.txt").read_text())
-        page.write_text(mended(sources_of(top), page.read_text(), crates))
+        page.write_text(mended(sources_of(top), page.read_text()))
     failed = [name for name, held in checks(top) if not held]
     for name in failed:
         print(name)
