@@ -37,7 +37,8 @@ const jobs = [], givens = new Map(), held = new Set();
 /** Starts a worker, and gives it the module. */
 function employ() {
   worker = new Worker(URL.createObjectURL(new Blob([element("work").textContent], { type: "text/javascript" })));
-  worker.onmessage = ({ data }) => { if (data.job === running?.message.job) end(data); };
+  // What brings the module, or forgets a file, is no job.
+  worker.onmessage = ({ data }) => { if (running && data.job === running.message.job) end(data); };
   worker.onerror = fault => { if (running) end({ fault: fault.message }); };
   held.clear();
   worker.postMessage({ module });
