@@ -147,7 +147,7 @@ def commands():
     cube, pair, two = "examples/cube.igs", "examples/no/fail_pair.igs", "examples/two_solids.igs"
     yield from (("check", "examples/no"), ("check", cube, "--jobs", "2"), ("marks", pair, "1"), ("where", "--json", pair, "1"), ("where", pair, "1", "all"))
     yield from (("verify", two, "examples/two_solids.cert3"), ("verify", two, "none"), ("verify", "examples/no/bad_length.igs", "none"))
-    yield from (("certify", two, "all"), ("solids", "none.igs"), ("solids", "-"), ("sample", "3"), ("layout", cube), ("extract", cube), (), ("solid", cube))
+    yield from (("certify", two, "all"), ("solids", "none.igs"), ("solids", "-"), ("sample", "3"), ("layout", cube), ("extract", cube), ("solid", cube))
 
 
 def foreign(machine, wheel, folder, native, skipped):
