@@ -3,9 +3,9 @@ static const u8 nothing = 0;
 
 static u64 address(B b, const void *p) { return (u64)((B)p - b); }
 
-static void tried(B b, u64 answer, const void *p) {
+static void tried(B b, u64 answer, void *p) {
     put64(b, answer, p != NULL);
-    put64(b, answer + 8, address(b, p ? p : &nothing));
+    put64(b, answer + 8, p ? address(b, p) : address(b, &nothing));
 }
 
 /* malloc has no block of a size that fits no pointer's difference. */
