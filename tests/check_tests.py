@@ -407,8 +407,9 @@ def noted_signals(parts):
         if told["interrupted"]:
             held = process.returncode == 128 + number == told["status"] and said.startswith(b"igesolid: interrupted: ")
         else:
-            held = (process.returncode, said) == (3, b"")
-        yield f"check: a signal {n * 0.02:.2f} s after the first line", held and len(told["files"]) <= len(FILES)
+            # It came when all was done: too late, or only for the end.
+            held = process.returncode in (3, -number, 128 + number) and len(told["files"]) == len(FILES)
+        yield f"check: a signal {n * 0.02:.2f} s after the first line: {process.returncode} {said}", held and len(told["files"]) <= len(FILES)
 
 
 def direct(parts, *words):
