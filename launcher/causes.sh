@@ -16,6 +16,7 @@ fits() {
         FILE) file=$1 ;;
         CERT) certificate=$1 ;;
         N) is_number "$1" || return 1 ;;
+        R) is_remedy "$1" || return 1 ;;
         *) [ "$part" = "$1" ] || return 1 ;;
         esac
     done
@@ -25,6 +26,14 @@ fits() {
 is_number() {
     case $1 in
     '' | *[!0-9]*) return 1 ;;
+    esac
+}
+
+# Whether a word is the number of a remedy.
+is_remedy() {
+    case $1 in
+    [1-6]) ;;
+    *) return 1 ;;
     esac
 }
 
@@ -120,6 +129,9 @@ say_too_large() {
     'extract FILE N') is_text="the extracted text would have more than 164,000,000 bytes" ;;
     'compact FILE N') is_text="the compact text would have more than 164,000,000 bytes" ;;
     'reorient FILE N') is_text="the reoriented text would have more than 164,000,000 bytes" ;;
+    'mend FILE N' | 'mend FILE N R' | 'mended FILE N' | 'mended FILE N R')
+        is_text="the mended text would have more than 164,000,000 bytes"
+        ;;
     'relayout FILE' | 'layout FILE') is_text="the file in the layout of the fixed form would have more than 164,000,000 bytes" ;;
     'upgrade FILE CERT') is_text="the upgraded text would have more than 536,870,912 bytes" ;;
     'certify FILE all') is_text="its solids together have more than 6,000,000 loop uses" ;;
@@ -154,8 +166,20 @@ name_layout() {
     esac
 }
 
+# Says why nothing is mended, where the answer tells so: as a rule standard output is the file that is wanted.
+say_unmended() {
+    [ -f "$file" ] || return 0
+    answer=$("$program" "$@" 2>/dev/null </dev/null)
+    why="$(name_of "$file"): nothing is mended:"
+    case ${answer##*"$newline"} in
+    stuck) say "$why no remedy is known that closes the solid" ;;
+    'needs faces '*) say "$why faces must be made anew; igesolid where names the edges of their rims" ;;
+    'unsure '*) say "$why the records don't tell which remedy is meant; igesolid mended FILE N ${answer##* } tells one, and igesolid mend FILE N ${answer##* } writes it" ;;
+    esac
+}
+
 # Prints the cause of a status with which the program writes nothing or only a part, what is wrong with the words of a run, a
-# question about a certificate that isn't accepted, and the command for a file whose lines are wrong.
+# question about a certificate that isn't accepted, why nothing is mended, and the command for a file whose lines are wrong.
 explain() {
     code=$1
     shift
@@ -163,7 +187,12 @@ explain() {
     # Python explains what it does with files that the launcher doesn't know.
     [ "$kind" != python ] || [ -n "$file" ] || return 0
     case $code in
-    1) [ -z "$certificate" ] || ask_about_certificate "$@" ;;
+    1)
+        [ -z "$certificate" ] || ask_about_certificate "$@"
+        case $form in
+        'mend '*) say_unmended "$@" ;;
+        esac
+        ;;
     2)
         more usage
         say_wrong_words "$@"

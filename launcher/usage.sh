@@ -109,6 +109,7 @@ say_wrong_arguments() {
         case $part in
         FILE* | CERT) ;;
         N) [ -n "$wrong" ] || is_number_of "$of" "$1" || wrong="${1:-an empty word} isn't a number N" ;;
+        R) [ -n "$wrong" ] || is_remedy "$1" || wrong="${1:-an empty word} isn't a number R" ;;
         *) [ -n "$wrong" ] || [ "$part" = "$1" ] || wrong="${1:-an empty word} isn't $part" ;;
         esac
         shift
@@ -118,6 +119,7 @@ say_wrong_arguments() {
     say "${wrong:-these words match no form}: the words are $forms"
     case $wrong in
     *"N $verb missing" | *"number N") say "N is $(meaning_of_number "$of")" ;;
+    *'number R') say 'R is the number of a remedy, from 1 to 6: igesolid where FILE N all tells them' ;;
     esac
 }
 

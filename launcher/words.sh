@@ -37,7 +37,7 @@ tell_version() {
 tell_usage() {
     echo 'usage: igesolid COMMAND .., as in'
     echo
-    awk -F'\t' -v forms='check FILE|FOLDER..,where FILE,where FILE N,page FILE N,relayout FILE,reorient FILE N' '
+    awk -F'\t' -v forms='check FILE|FOLDER..,where FILE,where FILE N,page FILE N,relayout FILE,mend FILE N' '
         { text[$3] = $4 }
         END {
             n = split(forms, form, ",")

@@ -10,14 +10,14 @@ import rows
 from libraries import EXAMPLES, TOP
 from spawned import SECONDS
 
-REPAIR = "layout", "relayout", "reorient"
+REPAIR = "layout", "relayout", "reorient", "mend", "mended"
 OF_FILES = ("solids", "FILE"), ("certify", "FILE", "all"), ("where", "FILE"), ("layout", "FILE"), ("relayout", "FILE")
-OF_SOLIDS = "show", "certify", "extract", "compact", "open", "orient", "where", "reorient"
+OF_SOLIDS = "show", "certify", "extract", "compact", "open", "orient", "where", "reorient", "mend", "mended"
 WRONG = (
     ["solid", "FILE"], ["solids"], ["solids\n-"], ["solids", "none.igs"], ["solid", "none.igs"], ["certify", "FILE", "x"], ["certify", "FILE", "1\n"],
     ["sample", "x"], ["sample", "40"], ["verify", "FILE", "none"], ["verify", "FILE"], ["solids", "/"], ["where"], ["where", "FILE", "x"],
     ["where", "none.igs"], ["where", "FILE", "1", "every"], ["where", "FILE", "1\xe9"], ["layout"], ["certify", "FILE", ""], ["certify", "FILE", "1", ""],
-    ["\U0001f600", "FILE"],
+    ["\U0001f600", "FILE"], ["mend", "FILE"], ["mend", "FILE", "1", "0"], ["mend", "FILE", "1", "7"], ["mended", "FILE", "1", "01"], ["mended", "FILE", "1", "2", "3"],
 )  # fmt: skip
 # Words that the proved programs refuse, and a program of all commands answers.
 OWN = [], ["help"], ["--help"]

@@ -8,6 +8,7 @@ import sys
 
 import chromium
 import gallery
+import remedies
 from page_file import page_of
 from picture_tests import RECORDED, example, recorded
 from programs import TOP
@@ -150,15 +151,30 @@ def of_pinched_edge(browser, folder):
     yield "browser: a link to a fault", browser.run("view.chosen === view.faults[0]") and is_quiet(browser)
 
 
-def of_hint(browser, folder):
-    """The button of a hint shows the faces that it names, and hides them again."""
-    text = re.sub(r"(?m)^body \d faces 4 first", "remove", (RECORDED / "two_tetrahedra.1.txt").read_text())
-    open_page(browser, written(folder, "two_tetrahedra", 1, text, example("two_tetrahedra").read_bytes()))
-    browser.run("document.querySelector('.hint button').click()")
-    yield "browser: the faces of a hint", browser.run("view.chosen.faces.map(([face]) => face.entity).join()") == "13,29"
-    yield "browser: a hint is told", browser.run("document.getElementById('spoken').textContent") == "bodies shell 1 pieces 2"
-    browser.run("document.querySelector('.hint button').click()")
-    yield "browser: the faces of a hint are hidden again", browser.run("view.chosen === null") and is_quiet(browser)
+def of_remedies(browser, folder):
+    """The buttons of the remedies: each shows its steps and the command that mends, and marks what it changes."""
+    text = dict((name, text) for name, _, text in remedies.texts())["unsewn_box"]
+    open_page(browser, written(folder, "unsewn_box", 1, text, remedies.data_of("unsewn_box")))
+    hints = "document.getElementById('hints').innerText"
+    press = "document.querySelectorAll('.choices button')[%d].click()"
+    told = browser.run(hints)
+    yield "browser: the first remedy is told", "sew 12 pairs of edges" in told and "igesolid mend unsewn_box.igs 1 1 > mended.igs" in told and "and 2 more" in told
+    browser.run(press % 1)
+    yield "browser: another remedy", "igesolid mend unsewn_box.igs 1 2 > mended.igs" in browser.run(hints) and browser.run("view.chosen.spokes.length") == 4
+    browser.run(press % 2)
+    yield "browser: the faces of a remedy", browser.run("view.chosen.faces.map(([face]) => face.entity).join()") == "69,81,93,105,117"
+    yield "browser: the rim of a remedy", browser.run("view.chosen.spokes.map(([it]) => view.picture.solid.edges[it].index).join()") == "1,2,4,3"
+    yield "browser: what is said at a face", browser.run("view.labels.some(it => it.text === 'face 69 removed')")
+    yield "browser: no command where a face must be made", "igesolid mend" not in browser.run(hints)
+    yield "browser: the pressed button", browser.run("[...document.querySelectorAll('.choices button')].map(it => it.ariaPressed).join()") == "false,false,true"
+    yield "browser: a remedy is told", browser.run("document.getElementById('spoken').textContent") == "remedy 3: remove 5 faces, make a face on 1 rim"
+    browser.run(press % 2)
+    yield "browser: a remedy is hidden again", browser.run("view.chosen === null") and is_quiet(browser)
+    for name, number, text in remedies.texts():
+        open_page(browser, written(folder, name, number, text, remedies.data_of(name)))
+        count = browser.run("document.querySelectorAll('.choices button').length")
+        held = all(browser.run(f"{press % place}, view.chosen !== null") for place in range(count))
+        yield f"browser: the {count} remedies of {name}", held and is_quiet(browser)
 
 
 def of_fingers(browser, folder):
@@ -524,7 +540,7 @@ def checks(folder, programs, skipped):
         return
     browser = chromium.Browser()
     try:
-        for run in (of_recorded, of_pinched_edge, of_hint, of_fingers, of_media, of_outlines, of_zoom, of_markup):
+        for run in (of_recorded, of_pinched_edge, of_remedies, of_fingers, of_media, of_outlines, of_zoom, of_markup):
             yield from run(browser, folder)
         yield from of_surfaces(browser, folder, programs.where)
         yield from of_index(browser, folder, programs)

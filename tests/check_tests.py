@@ -35,7 +35,9 @@ FILES = {
 }
 # Not taken of a folder.
 OTHERS = {"cube.cert": "cube.cert2", "cube.igs.txt": "cube.igs"}
-COLUMNS = "file", "bytes", "sha256", "program", "solid", "verdict", "rule", "entity", "place", "certificate", "line", "reason"
+COLUMNS = "file", "bytes", "sha256", "program", "solid", "verdict", "rule", "entity", "place", "certificate", "line", "reason", "remedy"
+# In words, of two_tetrahedra.igs.
+REMEDY = "part it into 2 bodies"
 # A program that ends with a status, or by a signal, or doesn't end.
 ENDING = "#!/bin/sh\n[ ${STATUS:-0} -lt 128 ] || kill -$((STATUS - 128)) $$\nexit ${STATUS:-0}\n"
 SLOW = "#!/bin/sh\necho $$ >>'{pids}'\nexec sleep 1000\n"
@@ -101,7 +103,7 @@ class Parts:
                 solid = {"solid": number, "verdict": "closed", **({"certificate": sum_of(text)} if has_certificates else {})}
             else:
                 _, rule, entity, place = text.decode().split()
-                solid = {"solid": number, "verdict": "fail", "rule": rule, "entity": int(entity), "place": int(place)}
+                solid = {"solid": number, "verdict": "fail", "rule": rule, "entity": int(entity), "place": int(place), "remedy": REMEDY}
             told["solids"].append(solid)
         if not told["solids"]:
             return {**told, "status": 1, "verdict": "no solid"}
@@ -126,13 +128,13 @@ def texts(parts):
         "parts/it's $HOME.Iges: closed, 1 solid",
         "parts/no/bad.igs: bad file line 2 length",
         "parts/no/none.igs: no solid",
-        "parts/no/tetrahedra.iges: not closed, solid 1: fail REACH 29 0",
+        f"parts/no/tetrahedra.iges: not closed, solid 1: fail REACH 29 0 ({REMEDY})",
         "parts/no/three.igs: closed, 3 solids",
         "7 files: 1 bad file, 4 closed, 1 no solid, 1 not closed; 8 solids, 7 closed",
     ]
     for name, status, text in (
         ("below/TWO SOLIDS.IGS", 0, "solid 1: closed\nsolid 11: closed\n2 solids, 2 closed\n"),
-        ("no/tetrahedra.iges", 1, "solid 1: fail REACH 29 0; igesolid where parts/no/tetrahedra.iges 1\n1 solid, 0 closed\n"),
+        ("no/tetrahedra.iges", 1, f"solid 1: fail REACH 29 0 ({REMEDY}); igesolid where parts/no/tetrahedra.iges 1\n1 solid, 0 closed\n"),
         ("no/none.igs", 1, "parts/no/none.igs: no solid; igesolid where parts/no/none.igs\n"),
         ("no/bad.igs", 3, "parts/no/bad.igs: bad file line 2 length; igesolid where parts/no/bad.igs\n"),
         ("none.igs", 4, "parts/none.igs: not read: can't be opened: No such file or directory\n"),
@@ -249,6 +251,9 @@ def tables(parts):
     other.write_bytes(pathlib.Path(parts.copy.where).read_bytes() + b"\0")
     other.chmod(0o755)
     yield "check: --table, another program", again("--where-program", other) == [] and again("--where-program", other) == names
+    older = "\n".join(line.rsplit(",", 1)[0] for line in table.read_text().splitlines()) + "\n"
+    table.write_text(older)
+    yield "check: --table of an edition without remedies", sorted(again("--where-program", other)) == names
     for name, text in (("a file of parts", data), ("other columns", b"file,solid\n"), ("another row", table.read_bytes() + b"x,y\n"), ("bytes", b"\0\1\2")):
         table.write_bytes(text)
         status, said, error = parts.check("parts", "--table", table)
@@ -493,7 +498,7 @@ def blocks(parts):
     return lambda word: next(it for it in found if word in it)
 
 
-def recipes(parts, skipped):
+def recipes(parts):
     block = blocks(parts)
     path = f"{parts.launcher.parent}:{clone.PLAIN_PATH}"
     run = lambda recipe, **more: parts.copy.run("sh", "-c", recipe, cwd=parts.folder, PATH=path, HOME=parts.folder, **more)
@@ -503,14 +508,6 @@ def recipes(parts, skipped):
     status, text, error = run(block("xargs"))
     is_hint = all("igesolid layout says" in it for it in error.splitlines())
     yield "recipe: xargs", (status, text) == (0, b"") and is_hint and written() == wanted
-    if shutil.which("parallel", path=clone.PLAIN_PATH) is None:
-        skipped("the recipe of GNU parallel, which isn't installed")
-    else:
-        parts.fill()
-        yield "recipe: parallel", run(block("parallel"))[0] == 0 and written() == wanted
-        log = (parts.folder / "log.txt").read_text()
-        yield "recipe: parallel, the log", log.count("\n") == len(FILES) + 1
-        yield "recipe: parallel, nothing again", run(block("parallel"))[0] == 0 and (parts.folder / "log.txt").read_text() == log
 
 
 def slurm(parts, skipped):
@@ -789,7 +786,7 @@ def checks(copy, skipped):
         yield from part(parts)
     yield from html_tests.checks(parts)
     parts.fill()
-    yield from recipes(parts, skipped)
+    yield from recipes(parts)
     parts.fill()
     yield from installed_package(parts, prefix)
     yield from image(parts, skipped)

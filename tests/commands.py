@@ -36,6 +36,10 @@ COMMANDS = (
     Command("relayout FILE"),
     Command("layout FILE"),
     Command("reorient FILE N"),
+    Command("mend FILE N"),
+    Command("mend FILE N R"),
+    Command("mended FILE N"),
+    Command("mended FILE N R"),
 )
 # The commands that take the lines of a file as they are, and have words of their own for what is wrong there.
 OF_LINES = "relayout", "layout"
@@ -81,7 +85,7 @@ class Runs:
 
     def words(self, form, small, numbered, file, certificate=None):
         number = str(getattr(small, numbered))
-        paths = {"FILE": str(file), "N": number, "CERT": str(certificate)}
+        paths = {"FILE": str(file), "N": number, "R": "1", "CERT": str(certificate)}
         return [paths.get(word, word) for word in form.split()]
 
     def file(self, small):

@@ -1,12 +1,16 @@
-"""bench/hostile --check on files whose records many solids share, on files of odd lines, and on those of which `where` could say too much. Needs
-valgrind."""
+"""bench/hostile --check on files whose records many solids share, on files of odd lines, on those of which `where` could say too much, and on those
+that are mended. Needs valgrind."""
 import shutil
 import subprocess
 import sys
 
 from programs import TOP
 
-SHAPES, FEWEST = ("solids on", "lines", "copies of", "faults on", "hints on"), 61
+SHAPES = (
+    "solids o", "lines", "copies of", "faults on", "hints on", "far vertices", "gaps at", "failing", "dense", "open", "large faces", "rings", "poles with",
+    "a face turned",
+)  # fmt: skip
+FEWEST = 106
 
 
 def checks(context):

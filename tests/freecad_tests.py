@@ -24,6 +24,8 @@ SHOWN = {
         "edge": "occt/77_pinched_edge.igs", "marks": "turned.igs", "closed": "occt/16_three_solids.igs", "record": "no/fail_index.igs", "bad": "no/bad_length.igs",
     }.items()
 }  # fmt: skip
+# What is mended there, and what isn't.
+MENDED = {"mend": "turned.igs", "stuck": "no/one_sided.igs"}
 WINDOW = "xvfb-run", "-a", "-s", "-screen 0 1400x860x24", "freecad"
 NEAR = 1e-6
 # So many seconds a run of FreeCAD may take.
@@ -31,8 +33,8 @@ LONGEST = 240
 COMMANDS = "freecadcmd", "freecad", "xvfb-run"
 # A place as a line of `where` ends with it.
 AT_END = re.compile(r"(?m)^.*?(\d+) (\d+) (-?[0-9.][^ ]*) (-?[0-9.][^ ]*) (-?[0-9.][^ ]*)$")
-EDGES = re.compile(r"(?m)^(?:|  .*?)edge (\d+) (\d+)(?: |$)")
-FACES = re.compile(r"(?m)^(?:turn|remove|body .* first|  .*?face) (\d+) [a-z]")
+EDGES = re.compile(r"(?m)(?:^|^  .*?|^seam .*?|^rim .*?|^renew )edge (\d+) (\d+)(?: |$)")
+FACES = re.compile(r"(?m)^(?:turn|remove|body .* first|reverse loop \d+ face|  .*?face) (\d+) [a-z]")
 RECORD_FACES = re.compile(r"(?m)^  in face (\d+)")
 FAILS = re.compile(r"(?m)^solid (\d+) fail ([A-Z]+)")
 RECORD_RULES = "ENTRY", "TYPE", "RECORD", "ONCE", "INDEX", "GEOMETRY"
@@ -170,8 +172,8 @@ def of_solid(about, wanted, found):
 
 
 def sentences_in(text):
-    """The sentences of hints and rules."""
-    return [" ".join(it.split()) for it in re.findall(r"(?m)^(?:hint(?! more)|rule) .*\n((?:  .*\n)+)", text)]
+    """The sentences of hints, steps and rules."""
+    return [" ".join(it.split()) for it in re.findall(r"(?m)^(?:hint(?! more)|step|rule) .*\n((?:  .*\n)+)", text)]
 
 
 def at_examples(context, home):
@@ -209,6 +211,9 @@ def in_window(context, home):
     folder = context.new_folder()
     shutil.copy(EDGE, folder)
     more = {"none": str(folder / "none.igs"), "same_name": str(folder / EDGE.name)}
+    for name, example in MENDED.items():
+        (folder / name).mkdir()
+        more[name] = shutil.copy(EXAMPLES / example, folder / name)
     told, printed = home.run("in_window.py", {**SHOWN, **more}, *WINDOW)
     yield f"freecad: in a window\n{printed[-2000:] if told is None else told.get('fault', '')}", told is not None and "fault" not in told and "Traceback" not in printed
     if told is None or "fault" in told:
@@ -216,6 +221,7 @@ def in_window(context, home):
     yield "freecad: the commands", told["commands"] == ["IgesCheck_Document", "IgesCheck_File"]
     yield from of_a_fault(told)
     yield from of_others(told)
+    yield from of_mending(context, told, folder)
     yield "freecad: the file of a document", (told["file"], told["by_command"]) == (str(EDGE), [str(EDGE), True])
     yield "freecad: two files of one name", told["two_files"] is None
     yield "freecad: what nobody expected", told["unexpected"] == "77_pinched_edge.igs: nobody expected this"
@@ -237,6 +243,17 @@ def of_a_fault(told):
     yield "freecad: removed by another panel", told["other_panel"] == [["Compound", False, 0]]
     page = subprocess.run([TOP / "igesolid", "page", EDGE, "3"], stdout=subprocess.PIPE).stdout
     yield "freecad: the report", parts_of(pathlib.Path(told["page"]).read_bytes()) == parts_of(page)
+
+
+def of_mending(context, told, folder):
+    """The mended copies, each of the next free name; the file itself stays; where there is none the panel says why."""
+    mended = subprocess.run([context.programs.repair, "mend", EXAMPLES / "turned.igs", "1"], stdout=subprocess.PIPE).stdout
+    files = {it.name: it.read_bytes() for it in (folder / "mend").iterdir()}
+    yield "freecad: mended copies", files == {"turned.igs": (EXAMPLES / "turned.igs").read_bytes(), "turned-mended-1.igs": mended, "turned-mended-2.igs": mended}
+    yield "freecad: a mended copy is opened", told["mend"] == [["turned-mended-1.igs", True, "turned-mended-1.igs is written beside turned.igs."], ["turned-mended-2.igs", True, "turned-mended-2.igs is written beside turned.igs."]]
+    yield "freecad: not mended", told["stuck"] == "No remedy is known that closes solid 1." and [it.name for it in (folder / "stuck").iterdir()] == ["one_sided.igs"]
+    yield "freecad: a remedy that is chosen", told["remedy"] == [1, 2]
+    yield "freecad: nothing to mend", told["nothing"] == "There is nothing to mend in this file: it is closed, or a record is wrong."
 
 
 def of_others(told):

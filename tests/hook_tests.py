@@ -61,10 +61,10 @@ def commits(parts, examples):
     first = parts.revision()
     shutil.copy(examples / "two_tetrahedra.igs", parts.folder / "tetrahedra.iges")
     status, said = parts.commit()
-    yield f"pre-commit: one that isn't closed\n{said}", status == 1 and "solid 1: fail REACH 29 0; igesolid where tetrahedra.iges 1" in said and "exit code: 1" in said
+    yield f"pre-commit: one that isn't closed\n{said}", status == 1 and "solid 1: fail REACH 29 0 (part it into 2 bodies); igesolid where tetrahedra.iges 1" in said and "exit code: 1" in said
     shutil.copy(examples / "no" / "bad_length.igs", parts.folder / "bad.igs")
     status, said = parts.commit()
-    wanted = "bad.igs: bad file line 2 length\n", "tetrahedra.iges: not closed, solid 1: fail REACH 29 0\n", "exit code: 3"
+    wanted = "bad.igs: bad file line 2 length\n", "tetrahedra.iges: not closed, solid 1: fail REACH 29 0 (part it into 2 bodies)\n", "exit code: 3"
     yield f"pre-commit: several\n{said}", status == 1 and all(it in said for it in wanted) and "a cube" not in said
     yield "pre-commit: nothing was committed", parts.revision() == first
     status, text, _ = parts.run("pre-commit", "run", "--all-files")

@@ -102,7 +102,7 @@ def failing(command, run, of_solid, of_shell, refused):
     """The status and text that a command owes for a changed cube; the text is None where it is no short one."""
     rule = of_shell if command.numbered == "shell" else of_solid
     word = run.words[0]
-    if word in ("extract", "compact") and refused:
+    if word in ("extract", "compact", "mend", "mended") and refused:
         return 7, b"no extract %s\n" % refused.encode()
     if word in ("solids", "extract", "sample", *OF_LINES) or rule is None:
         return (NO, b"line 2 unfit\n") if run.certificate else (0, None)

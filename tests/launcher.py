@@ -126,6 +126,13 @@ def layouts(copy):
     (copy.top / "harmed.igs").unlink()
     told = copy.run("./igesolid", "reorient", "examples/turned.igs", "1")
     yield "launcher: reorient", (told[0], told[2]) == (0, "") and b"514,6,9,1,15,1,21,1,27,1," in told[1]
+    status, text, error = copy.run("./igesolid", "mend", "examples/turned.igs", "1")
+    (copy.top / "mended.igs").write_bytes(text)
+    yield "launcher: mend", (status, error) == (0, "") and copy.run("./igesolid", "check", "mended.igs") == (0, b"solid 1: closed\n1 solid, 1 closed\n", "")
+    (copy.top / "mended.igs").unlink()
+    said = "igesolid: examples/no/one_sided.igs: nothing is mended: no remedy is known that closes the solid\n"
+    yield "launcher: mend what is stuck", copy.run("./igesolid", "mend", "examples/no/one_sided.igs", "1") == (1, b"fail PAIR 7 1\nstuck\n", said)
+    yield "launcher: mended what is stuck", copy.run("./igesolid", "mended", "examples/no/one_sided.igs", "1") == (1, b"fail PAIR 7 1\nstuck\n", "")
     yield "launcher: reorient without flags", copy.run("./igesolid", "reorient", "examples/no/one_sided.igs", "1") == (1, b"ORIENT 1\nO 1 1\nEND\n", "")
 
 
@@ -605,7 +612,11 @@ ASKED = (
     "certfy a.igs 1", "extrct a.igs", "wehre a.igs", "CERTIFY a.igs 1", "sol", "--hepl", "-", "something", "a", "examples/cube.igs", "''", "certify",
     "certify a.igs", "certify a.igs first", "certify a.igs 0", "certify a.igs 12345678", "certify a.igs 1 2", "certify a.igs ''", "verify a.igs", "verify",
     "open a.igs", "open a.igs 0", "sample 2", "sample 201", "sample x", "sample", "sample 3", "show a.igs", "where", "where a.igs x", "where a.igs 1 al",
-    "where a.igs 1 all more", "layout", "relayout a.igs 1", "reorient a.igs", "page", "page a.igs", "page a.igs x", "page a.igs 1 2", "page none.igs 1",
+    "where a.igs 1 all more", "layout", "relayout a.igs 1", "reorient a.igs", "mend", "mend a.igs", "mend a.igs x", "mend a.igs 1 0", "mend a.igs 1 7",
+    "mend a.igs 1 first", "mend a.igs x first", "mend a.igs 1 2 3", "mended a.igs", "mended a.igs 1 12", "mende a.igs 1", "mnd a.igs", "mend none.igs 1",
+    "mended none.igs 1 2", "mend big.igs 1", "mended big.igs 1 2", "mend examples/no/one_sided.igs 1", "mend examples/no/fail_pair.igs 1",
+    "mended examples/no/one_sided.igs 1", "mend examples/turned.igs 1", "mend examples/no/fail_pair_unsewn.igs 1", "mend examples/no/fail_type.igs 1",
+    "mend - 1 <examples/no/one_sided.igs", "page", "page a.igs", "page a.igs x", "page a.igs 1 2", "page none.igs 1",
     "page docs 1", "page - 1 <&-", "page examples/cube.igs 0", "orient-verify a.igs", "solids none.igs", "solids ''", "solids docs", "solids 'two\nlines'",
     "solids $'a\\x1b[31mb'", "solids $'a\\xc2\\x85b'", "solids $'caf\\xe9.igs'", "solids $'a\\x9bb\\xe9'", "$'caf\\xc3\\xa9'", "solids /proc/self/mem", "solids big.igs",
     "where big.igs", "relayout big.igs", "verify big.igs big.cert", "verify examples/cube.igs big.cert", "upgrade examples/cube.igs docs",

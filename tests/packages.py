@@ -196,6 +196,8 @@ COMPLETED = (
     (("verify", "examples/two_solids.i"), {"examples/two_solids.igs"}),
     (("certify", "examples/two_solids.igs", ""), {"1", "11", "all"}),
     (("where", "examples/two_solids.igs", "1", ""), {"all"}),
+    (("mend", "examples/two_solids.igs", ""), {"1", "11"}),
+    (("mend", "examples/two_solids.igs", "1", ""), {"1", "2", "3", "4", "5", "6"}),
     (("where", "--"), {"--json"}),
     (("where", "--json", "examples/two_solids.i"), {"examples/two_solids.igs"}),
     (("where", "--json", "examples/two_solids.igs", ""), {"1", "11"}),

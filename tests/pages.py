@@ -23,7 +23,7 @@ CERTIFICATE = re.compile(r"(?s)```\n((?:IGESCERT|IGESOPEN|ORIENT) [^`]*)```\n(?:
 CHANGE = re.compile(r"`([^`]+)` as line (\d+)|no line (\d+)|no `END`")
 VERIFIERS = {"IGESCERT": "verify", "IGESOPEN": "open-verify", "ORIENT": "orient-verify"}
 # The pages with such tables, and how many changes of each are spelled out at least.
-CHANGED = {"docs/CERTIFICATE.md": 14, "docs/OPEN.md": 7, "docs/ORIENT.md": 7}
+CHANGED = {"docs/CERTIFICATE.md": 8, "docs/OPEN.md": 7, "docs/ORIENT.md": 7}
 # A numbered section of another page.
 SECTION = re.compile(r"\]\((\w+\.md)\), sections? (\d+(?: and \d+)?)")
 # An edition of where's text, with the checksum of the recorded texts.
@@ -39,7 +39,7 @@ TYPE = re.compile(r'\(pos (\d+), codes "([a-z-]+)"\)')
 LAUNCHED = """#!/bin/sh
 [ "$1" != check ] || {{ shift; exec python3 -B '{top}/companion/check' --program '{program}' --where-program '{where}' "$@"; }}
 [ "$1" != where ] || {{ shift; exec '{where}' "$@"; }}
-case $1 in relayout | layout | reorient) exec '{repair}' "$@" ;; esac
+case $1 in relayout | layout | reorient | mend | mended) exec '{repair}' "$@" ;; esac
 for word; do
     shift
     [ "$word" != - ] || word=/dev/stdin
@@ -148,7 +148,7 @@ def editions(top):
 def sentences(top):
     """The sentences and the words for types in the tables beside docs/WHERE.md are those in the definitions of `where`."""
     table, types = ([tuple(line.split("\t")) for line in (top / "docs" / f"where_{name}.tsv").read_text().splitlines()] for name in ("sentences", "types"))
-    texts = [path.read_text() for name in ("where_*", "solid_hints") for path in top.glob(f"crates/{name}/specs/*.antt")]
+    texts = [path.read_text() for name in ("where_*", "solid_hints", "remedy_text") for path in top.glob(f"crates/{name}/specs/*.antt")]
     said = {" ".join(it.replace("\\n", " ").split()) for text in texts for it in SAID.findall(text)}
     for name, sentence in table:
         yield f"docs/where_sentences.tsv: {name}", sentence in said

@@ -48,6 +48,7 @@ import wheel_tests
 import where
 import where_json_tests
 import windows_tests
+import wrong_changes
 from part import BY_NAME, LARGE, Part
 from programs import FORMS, REPAIR_FORMS, TOP
 
@@ -100,6 +101,13 @@ def of_pages(context):
         yield from module.checks(TOP)
 
 
+def remedies(context):
+    """Its modules stand on bench/, which a copy of the repository may lack."""
+    import remedy_tests
+
+    return remedy_tests.checks(context.programs)
+
+
 PARTS = (
     Part("rows", "worked rows (tests/rows), the certificates of the examples, and lines of a million numbers", of_program(rows.checks)),
     Part("rows-judged", "the worked rows by the second checker", lambda context: rows.by_the_second_checker()),
@@ -130,6 +138,8 @@ PARTS = (
     Part("pre-commit", "the hook for pre-commit, in a repository of parts", lambda context: hook_tests.checks(context.clone(), context.skipped), LARGE),
     Part("wheels", "wheels and the source distribution of the Python package, each in a venv; types", wheel_tests.checks, LARGE),
     Part("freecad", "the add-on for FreeCAD, at each failing example, and in a window that nobody sees", freecad_tests.checks, LARGE),
+    Part("remedies", "200 files of solids broken in known ways: where, mend and mended, beside the second checker, and by the judges of bench/remedies", remedies),
+    Part("wrong-changes", "changes of a shell that break a clause of Fits, by the second checker; and that the program wrong_changes reads the same", wrong_changes.checks),
     Part("library", "the library for C: programs that use it, threads, a heap with a cap, and each example", library_tests.checks),
     Part("arm", "the programs and the library for aarch64 under qemu-user, and a processor below the kit's baseline", arm_tests.checks, LARGE),
     Part("c-file", "the library as one C file, by each compiler and for other machines: 2,700 answers; and packaging/c/translate beside node", c_file_tests.checks, LARGE),

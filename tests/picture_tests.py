@@ -5,6 +5,7 @@ import random
 import subprocess
 import sys
 
+import remedies
 from sample_file import text_of
 from spawned import SECONDS
 from surfaces import surface_text
@@ -85,7 +86,7 @@ def is_sentence(lines, place):
         return False
     while lines[place].startswith("  "):
         place -= 1
-    return lines[place].startswith(("rule ", "hint ", "bad "))
+    return lines[place].startswith(("rule ", "hint ", "step ", "bad "))
 
 
 def values():
@@ -165,8 +166,8 @@ def marks(program):
             own, source = iges.File(iges.lines_of(told)), iges.File(lines)
             yield f"marks of {name}: the same global section", [line[:72] for line in own.globals] == [line[:72] for line in source.globals]
     for name, number, wanted in (
-        ("77_pinched_edge", 3, {(110, 901, 2): 1, (110, 902, 4): 12}),
-        ("76_pinched_vertex", 3, {(116, 901, 2): 1, (110, 902, 4): 22}),
+        ("77_pinched_edge", 3, {(110, 901, 2): 1, (110, 902, 4): 12, (110, 903, 3): 1}),
+        ("76_pinched_vertex", 3, {(116, 901, 2): 1, (110, 902, 4): 22, (110, 903, 3): 3, (116, 903, 3): 1}),
         ("fail_join", 1, {(100, 901, 2): 2, (116, 901, 2): 2}),
         ("cube", 1, {}),
     ):
@@ -194,6 +195,21 @@ def overlays(program):
     own = iges.File(iges.lines_of(text))
     kinds = [own.entry(number).kind for number in range(1, 15, 2)]
     yield "marks: pointers lead to the copies", own.values(5) == [b"2", b"1", b"3"] and kinds == [110, 110, 102, 110, 110, 130, 110]
+
+
+# How many entries a remedy has in the marks.
+REMEDIES = {"76_pinched_vertex": 4, "one_sided": 0, "stray_face": 4, "turned": 4, "two_lumps": 8, "unsewn_box": 8}
+
+
+def of_remedies():
+    """What the first remedy of a shell changes has a level and a label of its own."""
+    for name, number, text in remedies.texts():
+        data, said = overlay.marks_of(name, number, parts_of(text), iges.lines_of(remedies.data_of(name)))
+        file = iges.File(iges.lines_of(data))
+        numbers = range(1, file.records_at - file.directory_at, 2)
+        levels = [int(file.lines[file.directory_at + number - 1][32:40]) for number in numbers]
+        yield f"pictures: {name}: the marks of its remedy", (levels.count(903), said) == (REMEDIES[name], "")
+        yield f"pictures: {name}: a word on its remedy", (b"Level 903" in data) == (REMEDIES[name] > 0)
 
 
 def near():
@@ -251,7 +267,7 @@ def of_program(folder, program, where):
 
 def checks(folder, program, where):
     load()
-    for run in (grammar, values, random_geometry, near):
+    for run in (grammar, values, random_geometry, near, of_remedies):
         yield from run()
     yield from commands(folder, where)
     yield from marks(program)

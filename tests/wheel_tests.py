@@ -12,6 +12,7 @@ import sys
 import zipfile
 import zlib
 
+import answers
 from libraries import EXAMPLES, HEADER, TOP, answer, examples, requests, shipped
 from spawned import SECONDS, Runner
 
@@ -45,6 +46,10 @@ def python_with(*modules):
     return None
 
 
+# The commands of igesolid-repair on a solid, with what stands behind its number.
+OF_REPAIR = ("reorient",), ("mend",), ("mended",), ("mend", "2"), ("mended", "2")
+
+
 class Native:
     """What is asked, as words with the path of a file second, and what the programs answer."""
 
@@ -55,7 +60,7 @@ class Native:
             asked = list(requests(where, example))
             for words in asked:
                 self.told[(words[0], str(example), *words[2:])] = answer(program, where, example, words)
-            of_repair = [("layout",), ("relayout",), *(("reorient", words[2]) for words in asked if words[0] == "extract")]
+            of_repair = [("layout",), ("relayout",), *((command, words[2], *more) for words in asked if words[0] == "extract" for command, *more in OF_REPAIR)]
             for command, *words in of_repair:
                 self.told[(command, str(example), *words)] = repair.run([command, str(example), *words])[:2]
         for runner in (program, where, repair):
@@ -184,7 +189,7 @@ def foreign(machine, wheel, folder, native, skipped):
 def line_of(words):
     """A request as tests/library/loaded.c reads it."""
     command, path, *more = words
-    call = "where" if command == "where" else "repair" if command in ("layout", "relayout", "reorient") else "run"
+    call = "where" if command == "where" else "repair" if command in answers.REPAIR else "run"
     return f"{call}\t{' '.join((['-'] if command == 'where' else [command, '-']) + more)}\t{path}\n"
 
 
@@ -198,11 +203,11 @@ def poor(folder, copy, library):
         yield f"without memfd_create: igesolid {' '.join(words)}{done.stderr}", (done.returncode, done.stdout.encode()) == copy.run("./igesolid", *words)[:2]
     words = f"""import igesolid, pathlib
 one, other = (igesolid.read({str(EXAMPLES / 'turned.igs')!r}, engine) for engine in (igesolid.Library({str(library)!r}), igesolid.Program()))
-print(one.solids[0].where_all == other.solids[0].where_all, one.solids[0].reorient() == other.solids[0].reorient(), *pathlib.Path.cwd().iterdir())"""
+print(one.solids[0].where_all == other.solids[0].where_all, one.solids[0].reorient() == other.solids[0].reorient(), one.solids[0].mend() == other.solids[0].mend(), *pathlib.Path.cwd().iterdir())"""
     (folder / "empty").mkdir()
     environment = {**os.environ, "PYTHONPATH": path, "TMPDIR": str(folder / "empty")}
     done = run("python3", "-B", "-c", words, cwd=folder / "empty", env=environment)
-    yield f"without memfd_create: by the programs{done.stderr}", (done.returncode, done.stdout) == (0, "True True\n")
+    yield f"without memfd_create: by the programs{done.stderr}", (done.returncode, done.stdout) == (0, "True True True\n")
 
 
 def types(skipped):

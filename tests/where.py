@@ -33,16 +33,16 @@ LARGEST, RANDOM_CASES, MORE_CASES, SOLIDS, MORE_SOLIDS = 60_000, 200, 200, 100, 
 USAGE = b"usage: igesolid-where FILE [N [all]]\n"
 
 FIRST_WORDS = "closed", "fail", "bad", "solids"
-HINT = re.compile(rb"(?m)^hint ([a-z-]+)")
-# The hints on shells of the page.
-SHELL_HINT = re.compile(r"(?m)^\| \d \| `hint ([a-z-]+)")
+HINT = re.compile(rb"(?m)^(hint [a-z-]+|step [a-z]+)")
+# What a text has of shells that fail.
+ON_SHELLS = b"hint face-flags", b"hint remedy", *(b"step " + name for name in b"remove turn reverse flags sew copy renew part fill".split())
 
 
 def has_shape(text, sentences):
     """Whether each line of a text has one of the shapes of the package's table, in its place; the package is imported in this part's process alone."""
     sys.path.insert(0, str(TOP / "python"))
     from igesolid.where import paragraphs
-    from igesolid.where_lines import SENTENCES, UNSAID, NotUnderstood
+    from igesolid.where_lines import AT_TIMES, SENTENCES, UNSAID, NotUnderstood
 
     try:
         found = list(paragraphs(text.decode("latin-1").split("\n")))
@@ -50,7 +50,7 @@ def has_shape(text, sentences):
         return False
     finally:
         del sys.path[0]
-    said = [it.sentence for it in found if it.word in SENTENCES and it.shape.words != UNSAID]
+    said = [it.sentence for it in found if it.word in SENTENCES and it.shape.words != UNSAID and (it.sentence or it.shape.words != AT_TIMES)]
     is_whole = text.endswith(b"\n") and found[0].word in FIRST_WORDS and not any(it.word in FIRST_WORDS for it in found[1:])
     return is_whole and sentences.issuperset(said)
 
@@ -161,12 +161,12 @@ def checks(folder, certifier, program):
 
 
 def more_checks(folder, certifier, program):
-    """Further cases; each hint on shells is due in some of the solids."""
+    """Further cases; each step of remedies is due in some of the solids."""
     wheres = Wheres(folder, program, certifier)
     yield from random_checks(wheres, range(RANDOM_CASES, RANDOM_CASES + MORE_CASES))
     yield from solids_checks(wheres, range(SOLIDS, SOLIDS + MORE_SOLIDS))
-    for hint in SHELL_HINT.findall((DOCS / "WHERE.md").read_text()):
-        yield f"solids of which hint {hint} is due", wheres.hints[hint.encode()] > 0
+    for words in ON_SHELLS:
+        yield f"solids of which {words.decode()} is due", wheres.hints[words] > 0
 
 
 def run_cases(run, cases, seed):

@@ -10,6 +10,7 @@ import re
 import sys
 
 import clone
+import remedies
 import where
 from no_examples import printed_words
 from spawned import Runner
@@ -50,7 +51,7 @@ def of_shape(lines, shape, more, required=()):
 def of_head(lines, shape, more):
     if not has_sentence(lines, shape.words):
         return of_shape(lines, shape, {name: it for name, it in more.items() if name != "items" or shape.words != lines.UNSAID})
-    return of_shape(lines, shape, {**more, "sentence": {"type": "string"}}, ["sentence"])
+    return of_shape(lines, shape, {**more, "sentence": {"type": "string"}}, [] if shape.words == lines.AT_TIMES else ["sentence"])
 
 
 def has_sentence(lines, words):
@@ -69,12 +70,13 @@ def schema(where_json, lines):
         definitions[f"fact of {word}"] = {"anyOf": [of_shape(lines, shape, {}) for shape in shapes]}
     for word, shapes in lines.HEADS.items():
         more = {"facts": list_of(f"fact of {word}")} if word in lines.FACTS else {}
-        if word in lines.HOLDERS:
-            more["items"] = list_of("item of a rule or a hint")
+        if word in lines.ITEMS:
+            more["items"] = list_of(f"item of {word}")
         definitions[word] = {"anyOf": [of_head(lines, shape, more) for shape in shapes]}
     named = lambda words: {"anyOf": [{"$ref": f"#/$defs/{word}"} for word in words]}
-    definitions["item of a rule or a hint"] = named((*lines.ITEMS, "more"))
-    definitions["head line"] = named(word for word in lines.HEADS if word not in lines.ITEMS)
+    definitions.update((f"item of {word}", named(its)) for word, its in lines.ITEMS.items())
+    items = {it for its in lines.ITEMS.values() for it in its} - {"more"}
+    definitions["head line"] = named(word for word in lines.HEADS if word not in items)
     whole = {"schema": {"const": where_json.SCHEMA}, "lines": list_of("head line")}
     about = {"$schema": "https://json-schema.org/draft/2020-12/schema", "title": "What igesolid where --json prints"}
     return {**about, "type": "object", "properties": whole, "required": ["schema", "lines"], "additionalProperties": False, "$defs": definitions}
@@ -100,12 +102,9 @@ def on_page():
     page, heads, facts = (TOP / "docs" / "WHERE.md").read_text(), {}, {}
     for first, *_ in rows(page, "Hint"):
         heads.update((hint, True) for hint in quoted(first))
-    for _, told, *_ in rows(page, "Row"):
-        hint, *items = told.split("; ")
-        heads.update((it, True) for it in quoted(hint))
-        for head, *own in map(quoted, items):
-            heads[head] = False
-            facts.setdefault(head.split()[0], []).extend(own)
+    for step, items, *_ in rows(page, "Step"):
+        heads.update((it, True) for it in quoted(step))
+        heads.update((it, False) for it in quoted(items) if it.split()[0] not in ("sure", "places", "curve"))
     for first, own, *_ in (*rows(page, "Item"), *rows(page, "Head line")):
         for head in quoted(first):
             heads[head] = own == "a sentence"
@@ -131,7 +130,8 @@ def odd_names(lines):
     """The rules, hints and kinds of docs/WHERE.md without a sentence in the table beside it, and names there that are neither these nor reasons."""
     page, heads = (TOP / "docs" / "WHERE.md").read_text(), on_page()[0]
     named = {*lines.RECORD_RULES, *lines.SHELL_RULES, *(quoted(first)[0] for first, *_ in rows(page, "Kind"))}
-    named |= {head.split()[1] for head, is_said in heads.items() if is_said and head.startswith("hint ")} - {"looks-like"}
+    said = [head.split() for head, is_said in heads.items() if is_said]
+    named |= {words[1] for words in said if words[0] == "hint"} - {"looks-like"} | {"-".join(words[:2]) for words in said if words[0] == "step"}
     names = {line.split("\t")[0] for line in (TOP / "docs" / "where_sentences.tsv").read_text().splitlines()}
     return sorted(named - names | names - named - printed_words(TOP))
 
@@ -171,10 +171,24 @@ def texts(folder, program):
 
 def round_trips(folder, program, where_json, is_valid):
     for place, (name, text) in enumerate(texts(folder, program)):
-        told = json.loads(where_json.json_of(text))
+        whole = where_json.json_of(text)
+        told = json.loads(whole)
         yield f"{name}: JSON turned back is the text", where_json.text_of(told) == text
+        yield f"{name}: JSON in pieces", "".join(where_json.pieces_of(text)) == whole
         if is_valid and place % STEP == 0:
             yield f"{name}: JSON is of the schema", is_valid(told)
+
+
+def hand_made(where_json, is_valid):
+    """Texts with each line of remedies, and their JSON."""
+    for name, _, text in remedies.texts():
+        whole = where_json.json_of(text)
+        told = json.loads(whole)
+        yield f"{name} with remedies: JSON turned back is the text", where_json.text_of(told) == text
+        yield f"{name} with remedies: JSON in pieces", "".join(where_json.pieces_of(text)) == whole
+        yield f"{name} with remedies: JSON is of the schema", not is_valid or is_valid(told)
+    told = json.loads(where_json.json_of(remedies.UNJUDGED))
+    yield "a solid that isn't judged: JSON", where_json.text_of(told) == remedies.UNJUDGED and (not is_valid or is_valid(told))
 
 
 def refused(where_json, lines):
@@ -218,7 +232,9 @@ def checks(context):
     where_json, lines = package()
     yield from tables(where_json, lines)
     yield from refused(where_json, lines)
-    yield from round_trips(context.new_folder(), context.programs.where, where_json, validator(context.skipped))
+    is_valid = validator(context.skipped)
+    yield from round_trips(context.new_folder(), context.programs.where, where_json, is_valid)
+    yield from hand_made(where_json, is_valid)
     yield from launched(context.clone())
 
 

@@ -19,33 +19,33 @@ const edgeOf = (solid, line) => solid.edgeNumbers.get(keyOf(line));
 const MARKS = {
   JOIN(marked, { told }, fact, solid) {
     if ("face" in told) marked.faces.push([Number(told.face), 0]);
-    else if ("vertex" in told) marked.vertices.push(vertexOf(solid, fact));
+    else if ("x" in told) marked.vertices.push(vertexOf(solid, fact));
     else if ("curve" in told) {
-      const edge = edgeOf(solid, fact), group = Number(told.which === "next");
+      const edge = edgeOf(solid, fact), group = Number(fact.words.startsWith("next"));
       marked.edges.push(edge);
       marked.arrows.push([edge, Number(told.flag), group]);
       return group;
     }
     return -1;
   },
-  PAIR(marked, { told }) {
+  PAIR(marked, { told }, fact) {
     if (!("face" in told)) return -1;
     const face = Number(told.face), known = marked.groupOfFace;
     if (!known.has(face)) known.set(face, known.size);
     marked.faces.push([face, known.get(face)]);
-    marked.arrows.push([marked.edges[0], Number(told.way === "along"), known.get(face)]);
+    marked.arrows.push([marked.edges[0], Number(fact.words.startsWith("along")), known.get(face)]);
     return known.get(face);
   },
   REACH(marked, { told }, fact, solid, item) {
     const group = Number(item.told.part) - 1;
-    if ("touches" in told) marked.vertices.push(vertexOf(solid, fact));
+    if (fact.words === "touches") marked.vertices.push(vertexOf(solid, fact));
     if (!("face" in told)) return -1;
     marked.faces.push([Number(told.face), group]);
     return group;
   },
   LINK(marked, { told }, fact, solid, item) {
-    const group = "fan" in told ? Number(told.fan) - 1 : "point" in told ? Number(item.told.fans)
-      : -1;
+    const isPoint = fact.words.startsWith("point");
+    const group = "fan" in told ? Number(told.fan) - 1 : isPoint ? Number(item.told.fans) : -1;
     if ("fan" in told) marked.spokes.push([edgeOf(solid, fact), group]);
     if ("face" in told) marked.faces.push([Number(told.face), group]);
     return group;

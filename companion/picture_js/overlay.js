@@ -161,6 +161,7 @@ export class Overlay {
     chosen.spokes.forEach(([edge, group]) => this.stroke([edge], colourOf(group), 3.5));
     this.stroke(chosen.edges, colours().red, 4.5);
     chosen.vertices.forEach(it => this.dot(it, 6, colours().red));
+    for (const [vertex, group] of chosen.dots || []) this.dot(vertex, 7, colourOf(group));
     for (const [edge, isAlong, group] of chosen.arrows) {
       if (!ranks.has(edge)) ranks.set(edge, { "1": 0, "-1": 0 });
       const face = chosen.faces.find(it => it[1] === group) || chosen.faces[0];

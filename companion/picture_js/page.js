@@ -93,12 +93,12 @@ async function start() {
   const text = decoder.decode(await bytesIn("where", false));
   const [name, number] = decoder.decode(await bytesIn("words", false)).split("\0");
   const title = number ? `${name}, solid ${Number(number)}` : name;
-  const scene = sceneOf(title, Number(number), text, bytes);
+  const scene = sceneOf(title, Number(number), text, bytes, name);
   const faults = scene.rules.flatMap(it => it.faults);
   let view = null;
   const choose = fault => {
     if (view) view.choose(fault === view.chosen ? null : fault, true);
-    else showChosen(faults, fault.box.classList.contains("chosen") ? null : fault);
+    else showChosen(faults, fault.box && fault.box.classList.contains("chosen") ? null : fault);
   };
   fillSide(scene, choose);
   Object.assign(shown, { scene, faults });

@@ -5,12 +5,13 @@ import { markedOf } from "./marked.js";
 import { Picture } from "./picture.js";
 import { IgesFile, Unreadable } from "./records.js";
 import { Solid } from "./solid.js";
-import { answerOf, factsOf, ruleName } from "./where_text.js";
+import { isOfRemedies, remediesOf } from "./remedies.js";
+import { answerOf, factsOf } from "./where_text.js";
 
-/** At most so many faults of a rule are listed, facts of a fault, lines of the text. */
-const MOST_LISTED = 300, MOST_FACTS = 100, MOST_LINES = 3000, MOST_FACES = 20;
-/** The items of hints that name the faces to look at. */
-const OF_FACES = ["remove", "turn"];
+/** At most so many faults of a rule are listed, and of all; facts of a fault, lines of the text. */
+const MOST_LISTED = 300, MOST_OF_ALL = 3000, MOST_FACTS = 100, MOST_LINES = 3000;
+/** At most so many rules are listed, and so many shells with their remedies. */
+const MOST_RULES = 500, MOST_SHELLS = 50;
 const AROUND = 6, LONGEST = 200;
 const COUNTED = {
   JOIN: ["gap in a loop", "gaps in loops"],
@@ -48,7 +49,7 @@ function summaryOf(answer) {
   }
   const totals = new Map();
   for (const it of answer.rules) {
-    totals.set(ruleName(it), (totals.get(ruleName(it)) || 0) + Number(it.told.faults));
+    totals.set(it.told.rule, (totals.get(it.told.rule) || 0) + Number(it.told.faults));
   }
   const told = [...totals].map(([name, count]) => counted(count, ...COUNTED[name]));
   return `The solid isn't closed: ${told.join(", ")}.`;
@@ -57,11 +58,13 @@ function summaryOf(answer) {
 /** A line for each shell: its counts, and how many faults it has. */
 function shellsOf(answer, solid) {
   if (!solid) return [];
-  const words = [["face", "faces"], ["edge", "edges"], ["vertex", "vertices"]];
-  return solid.shells.map((shell, k) => {
+  const words = [["face", "faces"], ["edge", "edges"], ["vertex", "vertices"]], all = new Map();
+  for (const { told } of answer.rules) {
+    all.set(told.shell, (all.get(told.shell) || 0) + Number(told.faults));
+  }
+  return solid.shells.slice(0, MOST_SHELLS).map((shell, k) => {
     const counts = shell.counts().map((count, place) => counted(count, ...words[place])).join(", ");
-    const own = answer.rules.filter(rule => Number(rule.told.shell) === k + 1);
-    const faults = own.reduce((sum, rule) => sum + Number(rule.told.faults), 0);
+    const faults = all.get(String(k + 1)) || 0;
     const role = k ? "void" : "outer shell";
     return { text: `shell ${k + 1} (${role}, entity ${shell.entity}): ${counts}`, faults };
   });
@@ -134,29 +137,24 @@ function faultOf(number, item, marked, rule, picture, answer) {
 }
 
 /** A rule with the faults that are listed; all its failing edges and vertices are red. */
-function ruleOf(rule, first, picture, answer) {
-  const name = ruleName(rule), faults = [];
+function ruleOf(rule, first, most, picture, answer) {
+  const name = rule.told.rule, faults = [];
   rule.items.forEach((item, k) => {
     const marked = picture ? markedOf(item, name, picture.solid) : null;
     if (marked) {
       marked.edges.forEach(it => picture.redEdges.add(it));
       marked.vertices.forEach(it => picture.redVertices.add(it));
     }
-    if (k < MOST_LISTED) faults.push(faultOf(first + k, item, marked, name, picture, answer));
+    if (k < most) faults.push(faultOf(first + k, item, marked, name, picture, answer));
   });
-  const more = rule.more + Math.max(0, rule.items.length - MOST_LISTED);
+  const more = rule.more + Math.max(0, rule.items.length - most);
   return { name, head: rule.text, sentence: rule.sentence, faults, more };
 }
 
-/** The hints of the text, with the faces that they name, if these aren't too many to be shown. */
-function hintsOf(answer, picture) {
-  return answer.hints.map(it => {
-    const named = it.items.filter(item => OF_FACES.includes(item.word));
-    const shown = picture && named.length <= MOST_FACES ? named : [];
-    const faces = shown.map((item, k) => [picture.faces.get(Number(item.told.face)), k]);
-    for (const [face] of faces) face.facts = factsOf(answer, face.entity);
-    return { head: it.text.slice(it.text.indexOf(" ") + 1), sentence: it.sentence, faces };
-  });
+/** The hints of the text but the remedies. */
+function hintsOf(answer) {
+  const others = answer.hints.filter(it => !isOfRemedies(it));
+  return others.map(({ text, sentence }) => ({ head: text.slice(text.indexOf(" ") + 1), sentence }));
 }
 
 function fewLines(text) {
@@ -171,11 +169,12 @@ function rulesOf(answer, picture) {
   if (answer.verdict.word === "bad") {
     return [{ name: "", head: "", sentence: answer.verdict.sentence, faults: [], more: 0 }];
   }
-  let number = 1;
+  let number = 1, left = MOST_OF_ALL;
   return answer.rules.map(rule => {
-    const first = number;
+    const first = number, most = Math.min(MOST_LISTED, left);
     number += rule.items.length + rule.more;
-    return ruleOf(rule, first, picture, answer);
+    left -= Math.min(most, rule.items.length);
+    return ruleOf(rule, first, most, picture, answer);
   });
 }
 
@@ -196,15 +195,19 @@ function readFile(bytes, number, answer, notes) {
 /**
  * All that the page of a solid shows. @param {string} title @param {number} number of the solid
  * @param {string} text of `igesolid-where` @param {Uint8Array} bytes of the file
+ * @param {string} file the name of the file, for the command that mends it
  */
-export function sceneOf(title, number, text, bytes) {
+export function sceneOf(title, number, text, bytes, file = "FILE") {
   const answer = answerOf(text), notes = [];
   const { solid = null, excerpt } = readFile(bytes, number, answer, notes);
   const picture = solid ? new Picture(solid) : null;
   const { flag, unit } = answer.units ? answer.units.told : { flag: "-", unit: "-" };
   return {
     title, verdict: answer.verdict.text, kind: answer.verdict.word, says: summaryOf(answer), notes,
-    rules: rulesOf(answer, picture), hints: hintsOf(answer, picture), excerpt, picture,
-    shells: shellsOf(answer, solid), text: fewLines(text), unit: UNITS[flag] || (unit === "-" ? "" : unit),
+    rules: rulesOf(answer, picture).slice(0, MOST_RULES), hints: hintsOf(answer), excerpt, picture,
+    remedies: remediesOf(answer, picture, { file, solid: number }, it => factsOf(answer, it))
+      .slice(0, MOST_SHELLS),
+    shells: shellsOf(answer, solid), shellCount: solid ? solid.shells.length : 0,
+    text: fewLines(text), unit: UNITS[flag] || (unit === "-" ? "" : unit),
   };
 }

@@ -46,16 +46,47 @@ function faultBox(fault, choose) {
   return box;
 }
 
-function hintBox(hint, choose) {
+function hintBox(hint) {
   const box = make("div", "hint");
   box.append(make("code", "", hint.head), hint.sentence);
-  if (hint.faces.length) {
-    const shown =
-      { ...hint, facts: [], edges: [], vertices: [], arrows: [], spokes: [], rule: "", number: 0 };
-    const button = make("button", "", "Show these faces");
-    button.onclick = () => choose(shown);
-    box.append(make("br"), button);
+  return box;
+}
+
+/** The steps of a remedy with their items, and the command that mends with it. */
+function fillRemedy(place, remedy) {
+  place.replaceChildren(...(remedy.steps.length > 1 ? [make("code", "", remedy.words)] : []));
+  for (const { words, sentence, told } of remedy.steps) {
+    const items = make("details"), list = make("pre");
+    for (const [text, group] of told) {
+      if (group >= 0) list.append(swatch(group));
+      list.append(`${text}\n`);
+    }
+    items.append(make("summary", "", words), list);
+    place.append(items, sentence);
   }
+  const says = "No file is written by this remedy, since a face must be made anew: make it in the "
+    + "CAD system.";
+  place.append(remedy.command ? make("code", "command", remedy.command) : make("p", "", says));
+}
+
+/** The remedies of a shell: a button for each, which shows its steps and marks them. */
+function remediesBox({ shell, sentence, remedies, left }, isOne, choose) {
+  const box = make("div", "hint remedies"), place = make("div"), buttons = make("div", "choices");
+  const title = remedies.length ? "What makes it closed" : "No remedy is known";
+  const head = isOne ? title : `${title}: shell ${shell}`;
+  box.append(make("code", "", head), sentence, buttons, place);
+  const show = remedy => {
+    fillRemedy(place, remedy);
+    for (const it of remedies) it.button.setAttribute("aria-pressed", String(it === remedy));
+  };
+  for (const remedy of remedies) {
+    remedy.button = make("button", "", `Remedy ${remedy.remedy}`);
+    remedy.button.title = remedy.words;
+    remedy.button.onclick = () => { show(remedy); choose(remedy); };
+    buttons.append(remedy.button);
+  }
+  if (left) buttons.append(make("span", "more", `and ${left} more`));
+  if (remedies.length) show(remedies[0]);
   return box;
 }
 
@@ -82,10 +113,12 @@ export function fillSide(scene, choose) {
   for (const { text, faults } of scene.shells.slice(0, 20)) {
     find("shells").append(make("li", "", text + (faults ? `; faults: ${faults}` : "")));
   }
-  if (scene.shells.length > 20)
-    find("shells").append(make("li", "", `and ${scene.shells.length - 20} shells more`));
+  if (scene.shellCount > 20)
+    find("shells").append(make("li", "", `and ${scene.shellCount - 20} shells more`));
   scene.notes.forEach(addNote);
-  for (const hint of scene.hints) find("hints").append(hintBox(hint, choose));
+  for (const hint of scene.hints) find("hints").append(hintBox(hint));
+  const isOne = scene.remedies.length === 1;
+  for (const it of scene.remedies) find("hints").append(remediesBox(it, isOne, choose));
   for (const rule of scene.rules) addRule(rule, choose);
 }
 

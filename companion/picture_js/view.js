@@ -240,7 +240,8 @@ export class View {
   coreOf(fault) {
     if (fault.rule === "REACH") return [];
     const edges = fault.edges.length ? fault.edges : fault.spokes.map(it => it[0]);
-    const points = fault.vertices.map(it => this.picture.points[it]).filter(Boolean);
+    const vertices = [...fault.vertices, ...(fault.dots || []).map(it => it[0])];
+    const points = vertices.map(it => this.picture.points[it]).filter(Boolean);
     return [...edges.flatMap(it => this.pointsOf(it)), ...points];
   }
 
@@ -339,11 +340,12 @@ export class View {
         this.awayFrom(at, chosen), chosen);
     }
     const shown = chosen.faces.slice(0, chosen.rule === "REACH" ? 3 : 12);
-    for (const [face, group] of shown) {
-      const inside = this.picture.insideOf(face), more = word ? ` ${word} ${group + 1}` : "";
+    shown.forEach(([face, group], k) => {
+      const said = chosen.said ? ` ${chosen.said[k]}` : "";
+      const inside = this.picture.insideOf(face), more = word ? ` ${word} ${group + 1}` : said;
       if (inside) labels.add(camera.project(inside), `face ${face.entity}${more}`, colourOf(group),
         null, null);
-    }
+    });
   }
 
   spotOf(fault) {

@@ -90,11 +90,17 @@ static int said_unread(const Run *run, int place, const Bytes *its) {
     return 1;
 }
 
+#define MENDED_TOO_LARGE "the mended text would have more than 164,000,000 bytes"
+
 static const char *text_too_large(const char *form) {
     static const char *const texts[][2] = {
         {"extract FILE N", "the extracted text would have more than 164,000,000 bytes"},
         {"compact FILE N", "the compact text would have more than 164,000,000 bytes"},
         {"reorient FILE N", "the reoriented text would have more than 164,000,000 bytes"},
+        {"mend FILE N", MENDED_TOO_LARGE},
+        {"mend FILE N R", MENDED_TOO_LARGE},
+        {"mended FILE N", MENDED_TOO_LARGE},
+        {"mended FILE N R", MENDED_TOO_LARGE},
         {"relayout FILE", "the file in the layout of the fixed form would have more than 164,000,000 bytes"},
         {"layout FILE", "the file in the layout of the fixed form would have more than 164,000,000 bytes"},
         {"upgrade FILE CERT", "the upgraded text would have more than 536,870,912 bytes"},
@@ -144,6 +150,22 @@ static void name_layout(const Run *run) {
     for (const char *const *reason = reasons; *reason; reason++)
         if (ends(text, first_line(run), *reason))
             SAY(file_name(run), ": its lines aren't those of the fixed form; igesolid layout says whether igesolid relayout can put them right");
+}
+
+/* Says why nothing is mended, where the answer tells so: as a rule standard output is the file that is wanted. */
+static void say_unmended(const Run *run) {
+    const char *text = (const char *)run->text.bytes;
+    size_t length = run->text.length - (run->text.length > 0), first = first_line(run);
+    if (first >= length || !is_file(run->names[run->at.file])) return;
+    const char *why = text + first + 1;
+    size_t size = length - first - 1;
+    if (size == 5 && begins(why, size, "stuck")) SAY(file_name(run), ": nothing is mended: no remedy is known that closes the solid");
+    if (begins(why, size, "needs faces ")) SAY(file_name(run), ": nothing is mended: faces must be made anew; igesolid where names the edges of their rims");
+    if (size == 8 && begins(why, size, "unsure ")) {
+        const char number[] = {why[7], 0};
+        SAY(file_name(run), ": nothing is mended: the records don't tell which remedy is meant; igesolid mended FILE N ", number,
+            " tells one, and igesolid mend FILE N ", number, " writes it");
+    }
 }
 
 static void say_output_failed(const char *name) {

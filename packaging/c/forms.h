@@ -45,6 +45,11 @@ static int takes_rest(const char *program) {
     return 0;
 }
 
+/* Whether a word is the number of a remedy. */
+static int is_remedy(const char *word) {
+    return strlen(word) == 1 && *word >= '1' && *word <= '6';
+}
+
 /* The places of a file and of a certificate among words; -1 where none is. */
 typedef struct {
     int file, certificate;
@@ -62,7 +67,7 @@ static int fits(const char *form, int count, char **words, Inputs *inputs) {
         if (memchr(part, '.', length) && begins(part + length - 2, 2, "..")) return 1;
         if (is_part(part, length, "FILE")) inputs->file = k;
         else if (is_part(part, length, "CERT")) inputs->certificate = k;
-        else if (is_part(part, length, "N") ? !is_of_digits(words[k]) : !is_part(part, length, words[k])) return 0;
+        else if (is_part(part, length, "N") ? !is_of_digits(words[k]) : is_part(part, length, "R") ? !is_remedy(words[k]) : !is_part(part, length, words[k])) return 0;
     }
     return k == count;
 }

@@ -23,6 +23,7 @@ WORKED = "+ - * /s /u %s %u & | ^ << >>s >>u rotl rotr".split()
 EXTENDED = {0xAC: (U64, "(u64)(s64)(s32)"), 0xAD: (U64, "(u64)"), 0xC0: (U32, "(u32)(s32)(s8)"), 0xC1: (U32, "(u32)(s32)(s16)")}
 EXTENDED.update({0xC2: (U64, "(u64)(s64)(s8)"), 0xC3: (U64, "(u64)(s64)(s16)"), 0xC4: (U64, "(u64)(s64)(s32)")})
 BLOCK, LOOP, IF, ELSE, END, FUNCTION = 0x02, 0x03, 0x04, 0x05, 0x0B, -1
+BELOW = re.compile(r"(l\d+) = SP;")
 TAKEN = re.compile(r"(l\d+) = SP - (\d+)ull;")
 
 
@@ -113,10 +114,14 @@ class Function:
         return text + "".join(f"(void){it};\n" for it in (*unused, *(f"l{k}" for k in range(first) if f"l{k}" not in occurring)))
 
     def taken(self):
-        """How many bytes of the stack the function takes for itself. It does so in one way only, which is demanded."""
+        """How many bytes of the stack the function takes for itself. It does so in two ways only, which is demanded: what calls nothing may
+        use what lies below the stack's end without moving it."""
         lines = [line for line in self.lines if re.search(r"\bSP\b", line)]
         if not lines:
             return 0
+        below = BELOW.fullmatch(lines[0])
+        if below and len(lines) == 1 and not self.calls:
+            return max((int(size) for line in self.lines for size in re.findall(rf"\b{below[1]} - (\d+)ull", line)), default=0)
         found = TAKEN.fullmatch(lines[0])
         demand(found is not None, f"{self.name}: the stack in another way: {lines[0]}")
         own, size = found.groups()

@@ -100,8 +100,9 @@ static const char *meaning_of_number(const char *command) {
     return "the directory number of a solid, of 1 to 7 digits: igesolid solids FILE lists them";
 }
 
-/* What is wrong with the words of a command: the first word that doesn't fit, the parts that are missing, or a word too many. */
-static void find_wrong(const Run *run, Line *wrong, int *is_number) {
+/* What is wrong with the words of a command: the first word that doesn't fit, the parts that are missing, or a word too many; and which number
+ * is to be explained then, N or R, if one is. */
+static void find_wrong(const Run *run, Line *wrong, char *number) {
     const char *rest = closest_form(run), *part;
     size_t length, missing = 0;
     int k = 0;
@@ -109,22 +110,24 @@ static void find_wrong(const Run *run, Line *wrong, int *is_number) {
     while (next_part(&rest, &part, &length) && !ends(part, length, "..")) {
         if (k >= run->count) {
             add(&named, missing++ ? " and " : ""), add_bytes(&named, part, length);
-            *is_number = is_part(part, length, "N");
+            *number = is_part(part, length, "N") ? 'N' : 0;
             continue;
         }
         const char *word = run->words[k++];
-        int is_free = begins(part, length, "FILE") || is_part(part, length, "CERT"), is_count = is_part(part, length, "N");
-        if (is_free || wrong->length > 0 || (is_count ? is_number_of(run->words[0], word) : is_part(part, length, word))) continue;
-        add(wrong, *word ? word : "an empty word"), add(wrong, " isn't ");
-        if (is_count) add(wrong, "a number N"), *is_number = 1;
-        else add_bytes(wrong, part, length);
+        char its = is_part(part, length, "N") ? 'N' : is_part(part, length, "R") ? 'R' : 0;
+        int is_free = begins(part, length, "FILE") || is_part(part, length, "CERT");
+        int is_right = its == 'N' ? is_number_of(run->words[0], word) : its ? is_remedy(word) : is_part(part, length, word);
+        if (is_free || wrong->length > 0 || is_right) continue;
+        add(wrong, *word ? word : "an empty word"), add(wrong, its ? " isn't a number " : " isn't ");
+        add_bytes(wrong, part, length);
+        *number = its;
     }
     if (missing > 0) {
         wrong->length = 0;
         add_bytes(wrong, named.bytes, named.length), add(wrong, missing > 1 ? " are missing" : " is missing");
     }
     if (k < run->count && !ends(part, length, "..")) {
-        wrong->length = 0, *is_number = 0;
+        wrong->length = 0, *number = 0;
         add(wrong, run->words[k]), add(wrong, " is a word too many");
     }
     free(named.bytes);
@@ -132,13 +135,14 @@ static void find_wrong(const Run *run, Line *wrong, int *is_number) {
 
 static void say_wrong_arguments(const Run *run) {
     Line wrong = {NULL, 0, 0};
-    int is_number = 0;
-    find_wrong(run, &wrong, &is_number);
+    char number = 0;
+    find_wrong(run, &wrong, &number);
     if (wrong.length == 0) add(&wrong, "these words match no form");
     add(&wrong, ": the words are ");
     add_forms(&wrong, run->words[0]);
     say(&wrong);
-    if (is_number) SAY("N is ", meaning_of_number(run->words[0]));
+    if (number == 'N') SAY("N is ", meaning_of_number(run->words[0]));
+    if (number == 'R') SAY("R is the number of a remedy, from 1 to 6: igesolid where FILE N all tells them");
 }
 
 static void say_wrong_words(const Run *run) {
@@ -153,10 +157,11 @@ static void say_wrong_words(const Run *run) {
 }
 
 /* The cause of a status with which nothing is written or only a part, what is wrong with the words of a run, a question about a certificate
- * that isn't accepted, and the command for a file whose lines are wrong. */
+ * that isn't accepted, why nothing is mended, and the command for a file whose lines are wrong. */
 static void explain(const Run *run) {
     const char *name = run->at.file >= 0 ? file_name(run) : "";
     if (run->status == IGESOLID_NO && run->at.certificate >= 0) ask_about_certificate(run);
+    else if (run->status == IGESOLID_NO && run->form && opens_with(run->form, "mend")) say_unmended(run);
     else if (run->status == IGESOLID_USAGE) say_wrong_words(run);
     else if (run->status == IGESOLID_BAD_FILE) name_layout(run);
     else if (run->status == READ_FAILED) (void)(said_unread(run, run->at.file, &run->file) || said_unread(run, run->at.certificate, &run->certificate));
@@ -195,7 +200,7 @@ static void tell_help(Line *text) {
 
 /* The commands to begin with: where does it fail, what mends it. */
 static void tell_usage(Line *text) {
-    static const char *const forms[] = {"where FILE", "where FILE N", "page FILE N", "relayout FILE", "reorient FILE N", NULL};
+    static const char *const forms[] = {"where FILE", "where FILE N", "page FILE N", "relayout FILE", "mend FILE N", NULL};
     enum { WIDTH = 19 };
     add(text, "usage: igesolid COMMAND .., as in\n\n");
     for (const char *const *form = forms; *form; form++)

@@ -13,6 +13,7 @@ const MEANING = {
   PAIR: "a free or non-manifold edge, or faces of opposite orientation", REACH: "several lumps in one shell", LINK: "a non-manifold vertex",
   APART: "shells touch at a vertex",
 };
+const OF_SHELLS = ["JOIN", "PAIR", "REACH", "LINK", "APART"];
 const element = id => document.getElementById(id);
 const shown = bytes => new TextDecoder().decode(bytes);
 
@@ -131,6 +132,15 @@ function button(label, box, what, run) {
   return it;
 }
 
+/** Why a solid isn't mended, where that is the answer. */
+function unmended(text) {
+  const [, cause, count] = text.match(/^(stuck|needs faces (\d+))$/m) || [];
+  if (!cause) return null;
+  const faces = count === "1" ? "a face" : `${count} faces`;
+  const said = count ? `No file is written, since ${faces} must be made anew. Where tells the edges of each.` : "No remedy is known that closes this solid.";
+  return `${said}\n${text}`;
+}
+
 function reason(got) {
   const said = got.fault ?? REFUSED[got.status] ?? `The checker answered with status ${got.status}.`;
   return got.text && got.text.length ? `${said}\n${shown(got.text)}` : said;
@@ -151,9 +161,11 @@ function showPicture(parts) {
 class Row {
   constructor(file, box, words, facts) {
     const [, number, verdict, rule, entity, place] = words;
-    Object.assign(this, { file, box, number, isClosed: verdict === "closed", isUnpaired: rule === "PAIR" });
+    const isJudged = verdict !== "unjudged", mayMend = OF_SHELLS.includes(rule) || !isJudged;
+    Object.assign(this, { file, box, number, isClosed: verdict === "closed", isUnpaired: rule === "PAIR", mayMend });
     this.out = made("pre", { hidden: true });
-    const said = this.isClosed ? made("td", { className: "good", textContent: "closed" })
+    const plain = (className, textContent) => made("td", { className, textContent });
+    const said = this.isClosed ? plain("good", "closed") : !isJudged ? plain("bad", "not judged with the others: press Where")
       : made("td", { className: "bad" }, made("span", { textContent: `fails ${rule}` }),
         made("small", { textContent: `${MEANING[rule] ?? ""}: entity ${entity}, place ${place}` }));
     const about = made("td", {}, ...facts.map(it => made("small", { textContent: it })));
@@ -168,6 +180,7 @@ class Row {
     add("Picture", () => this.draw());
     if (this.isClosed) add("Certificate", () => this.download("certify", "cert"));
     add("Extract", () => this.download("extract", "igs"));
+    if (this.mayMend) add("Mend", () => this.mend());
     if (this.isUnpaired) add("Reorient", () => this.download("reorient", "reoriented.igs"));
     return cell;
   }
@@ -186,6 +199,23 @@ class Row {
     const got = await asked({ file: this.file.key, picture: { name: this.file.name, number: this.number } });
     if (got.parts) showPicture(got.parts);
     else this.tell(reason(got), true);
+  }
+
+  /** Saves the mended solid, and tells what was changed; where the records don't tell which remedy is meant, one is offered first. */
+  async mend(remedy) {
+    const words = remedy ? [this.number, remedy] : [this.number];
+    const got = await asked({ file: this.file.key, words: ["mend", "-", ...words] }), text = got.text ? shown(got.text) : "";
+    const [, other] = got.status === 1 && text.match(/^unsure (\d)$/m) || [];
+    if (got.status !== 0 && !other) return this.tell(unmended(text) ?? reason(got), true);
+    const changes = await asked({ file: this.file.key, words: ["mended", "-", ...(other ? [this.number, other] : words)] });
+    const told = changes.status === 0 ? shown(changes.text) : "";
+    if (!other) {
+      save(`${this.file.stem}.${this.number}.mended.igs`, got.text);
+      return this.tell(`The mended file is saved. What changed in it, by the numbers of this file:\n\n${told}`);
+    }
+    this.tell(`The records don't tell which remedy is meant. This one closes the solid:\n\n${told}`);
+    this.out.append(button(`Save with remedy ${other}`, this.box, `mend of solid ${this.number}`, () => this.mend(other)));
+    return null;
   }
 
   async download(command, ending) {

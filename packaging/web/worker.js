@@ -51,7 +51,7 @@ function ask(call, words, slices) {
   }
 }
 
-const OF_REPAIR = ["relayout", "layout", "reorient"];
+const OF_REPAIR = ["relayout", "layout", "reorient", "mend", "mended"];
 
 /** What a command answers: its words are the program's, with - in the place of the file's name. */
 function answer(words, file, certificate) {

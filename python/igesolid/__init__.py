@@ -9,13 +9,14 @@
 docs/LIBRARY.md of the repository describes the classes and the errors. Needs Python 3.8.
 """
 from .engine import Answer, Engine, Program
-from .errors import BadFile, BadLayout, Error, NoExtract, NoFlags, NoMemory, NoProgram, NotRead, TooLarge, WrongRecord
+from .errors import BadFile, BadLayout, Error, NeedsFaces, NoExtract, NoFlags, NoMemory, NoProgram, NotMended, NotRead, Stuck, TooLarge, Unsure, WrongRecord
 from .files import File, Solid, Verdict, default_engine, layout, read, relayout
 from .library import Library
-from .where import Where
+from .where import Mended, Where
 from .where_lines import NotUnderstood
 
 __all__ = [
-    "Answer", "BadFile", "BadLayout", "Engine", "Error", "File", "Library", "NoExtract", "NoFlags", "NoMemory", "NoProgram", "NotRead",
-    "NotUnderstood", "Program", "Solid", "TooLarge", "Verdict", "Where", "WrongRecord", "default_engine", "layout", "read", "relayout",
+    "Answer", "BadFile", "BadLayout", "Engine", "Error", "File", "Library", "Mended", "NeedsFaces", "NoExtract", "NoFlags", "NoMemory", "NoProgram",
+    "NotMended", "NotRead", "NotUnderstood", "Program", "Solid", "Stuck", "TooLarge", "Unsure", "Verdict", "Where", "WrongRecord", "default_engine",
+    "layout", "read", "relayout",
 ]  # fmt: skip

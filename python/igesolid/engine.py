@@ -19,7 +19,7 @@ ENVIRONMENT = {"GLIBC_TUNABLES": "glibc.malloc.hugetlb=1", **os.environ}
 JUDGE, WHERE, REPAIR = "igesolid", "igesolid-where", "igesolid-repair"
 WORDS = {JUDGE: ["--program"], WHERE: ["--program", "where"], REPAIR: ["--program", "layout"]}
 # The commands of other programs than the first. That of `where` isn't given the command's word.
-PROGRAMS = {"where": WHERE, "relayout": REPAIR, "layout": REPAIR, "reorient": REPAIR}
+PROGRAMS = {"where": WHERE, **dict.fromkeys(("relayout", "layout", "reorient", "mend", "mended"), REPAIR)}
 # The bytes of a file come to a program through a pipe, under this name.
 STANDARD_INPUT = "-" if os.name == "nt" else "/dev/stdin"
 # The system has no more descriptors, so that a file can't be read.

@@ -61,9 +61,42 @@ class TooLarge(Error):
 
 
 class WrongRecord(Error):
-    """A solid can't be compacted or reoriented, since a record of it is wrong: the program's answer, `fail RULE ENTITY PLACE`."""
+    """A solid can't be compacted, reoriented or mended, since a record of it is wrong: the program's answer, `fail RULE ENTITY PLACE`."""
 
     status = 1
+
+
+class NotMended(Error):
+    """`mend` writes no file of a solid, for one of the causes below: the first rule that fails, and the entity and the place where it does."""
+
+    status = 1
+
+    def __init__(self, rule: str, entity: int, place: int, cause: str):
+        super().__init__(rule, entity, place, cause)
+        self.rule, self.entity, self.place, self.cause = rule, entity, place, cause
+
+    def __str__(self) -> str:
+        return f"fail {self.rule} {self.entity} {self.place}, {self.cause}"
+
+
+class Stuck(NotMended):
+    """No remedy that was tried makes the solid closed."""
+
+
+class NeedsFaces(NotMended):
+    """So many `faces` must be made anew."""
+
+    @property
+    def faces(self) -> int:
+        return int(self.cause.split(" ")[-1])
+
+
+class Unsure(NotMended):
+    """The records don't tell which remedy is meant: `remedy` is the least number by which `mend` writes a file."""
+
+    @property
+    def remedy(self) -> int:
+        return int(self.cause.split(" ")[-1])
 
 
 class NoFlags(Error):
@@ -82,6 +115,8 @@ _TEXTS: Dict[Type[Error], str] = {NotRead: "a read failed", NoMemory: "out of me
 _SAID = re.compile(r"(bad file line|bad layout line|no extract) (\d+) ([a-z0-9-]+)")
 _KINDS: Dict[str, Type[Union[BadFile, NoExtract]]] = {"bad file line": BadFile, "bad layout line": BadLayout, "no extract": NoExtract}
 _NO_FLAGS = re.compile(r"ORIENT |fail (?:COUNT|REACH) ")
+_NOT_MENDED = re.compile(r"fail ([A-Z]+) (\d+) (\d+)\n(stuck|needs faces \d+|unsure [1-6])")
+_CAUSES: Dict[str, Type[NotMended]] = {"stuck": Stuck, "needs": NeedsFaces, "unsure": Unsure}
 
 
 def error_of(status: int, text: bytes) -> Error:
@@ -93,6 +128,9 @@ def error_of(status: int, text: bytes) -> Error:
     for kind, words in _TEXTS.items():
         if status == kind.status:
             return kind(words)
+    unmended = _NOT_MENDED.fullmatch(answer)
+    if unmended and status == NotMended.status:
+        return _CAUSES[unmended[4].split(" ")[0]](unmended[1], int(unmended[2]), int(unmended[3]), unmended[4])
     if status == WrongRecord.status:
         return NoFlags(answer) if _NO_FLAGS.match(answer) else WrongRecord(answer)
     return NoProgram(f"the program ended with status {status}")

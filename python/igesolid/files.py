@@ -9,17 +9,22 @@ from .content import Content, content_of_bytes, content_of_path
 from .engine import Engine, Program
 from .errors import Error, NoMemory, NoProgram, error_of
 from .library import Library, library_beside
-from .where import Where
+from .where import Mended, Where
 
 Source = Union[str, bytes, bytearray, memoryview, "os.PathLike[str]"]
 
-VERDICT = re.compile(r"solid (\d+) (?:closed|fail ([A-Z]+) (\d+) (\d+))")
+VERDICT = re.compile(r"solid (\d+) (?:closed|fail ([A-Z]+) (\d+) (\d+)|(unjudged))")
 DONE, NO = 0, 1
+REMEDIES = range(1, 7)
 _default_engines: List[Engine] = []
 
 
+UNJUDGED = "unjudged"
+
+
 class Verdict(NamedTuple):
-    """Of a solid that isn't closed the first rule that fails, and the entity and the place in its record where it does."""
+    """Of a solid that isn't closed the first rule that fails, and the entity and the place in its record where it does. Of a file whose solids
+    share shells again and again some aren't judged (docs/WHERE.md); then the rule is `unjudged`, and `Solid.where` says more."""
 
     rule: Optional[str] = None
     entity: Optional[int] = None
@@ -29,8 +34,12 @@ class Verdict(NamedTuple):
     def is_closed(self) -> bool:
         return self.rule is None
 
+    @property
+    def is_judged(self) -> bool:
+        return self.rule != UNJUDGED
+
     def __str__(self) -> str:
-        return "closed" if self.is_closed else f"fail {self.rule} {self.entity} {self.place}"
+        return "closed" if self.is_closed else f"fail {self.rule} {self.entity} {self.place}" if self.is_judged else UNJUDGED
 
 
 class Asked:
@@ -88,6 +97,20 @@ class Solid:
     def reorient(self) -> bytes:
         """A file of this solid alone, with face flags that fit. Raises `NoFlags` if none fit."""
         return self._asked.text_of("reorient", str(self.number))
+
+    def mend(self, remedy: Optional[int] = None) -> bytes:
+        """A file of this solid alone that is closed: with the first remedy of each failing shell, if it is sure; or with the one of this number,
+        from 1 to 6, as `where_all` tells them. Raises a `NotMended` if there is none."""
+        return self._asked.text_of("mend", *self._words(remedy))
+
+    def mended(self, remedy: Optional[int] = None) -> Mended:
+        """What `mend` would change, with the numbers of the file."""
+        return Mended(self._asked.text_of("mended", *self._words(remedy)).decode("utf-8", "replace"))
+
+    def _words(self, remedy: Optional[int]) -> List[str]:
+        if remedy not in (None, *REMEDIES):
+            raise ValueError(f"{remedy} isn't the number of a remedy, from {REMEDIES[0]} to {REMEDIES[-1]}")
+        return [str(self.number), *([] if remedy is None else [str(remedy)])]
 
     def __repr__(self) -> str:
         return f"<solid {self.number}: {self.verdict}>"
@@ -147,7 +170,7 @@ def _verdicts(text: bytes) -> List[Tuple[int, Verdict]]:
     found = [VERDICT.fullmatch(line) for line in lines[1:]]
     if not lines or lines[0].split()[:2] != ["solids", str(len(found))] or None in found:
         raise NoProgram("igesolid-where answered what this package doesn't know")
-    return [(int(it[1]), Verdict(it[2], int(it[3]), int(it[4])) if it[2] else Verdict()) for it in found if it]
+    return [(int(it[1]), Verdict(it[2], int(it[3]), int(it[4])) if it[2] else Verdict(it[5])) for it in found if it]
 
 
 def default_engine() -> Engine:

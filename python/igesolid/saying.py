@@ -1,7 +1,7 @@
 """What a command in Python prints and says, and how it ends."""
 import os
 import sys
-from typing import Union
+from typing import Iterable, Union
 
 NOT_WRITTEN = 5
 
@@ -34,8 +34,14 @@ def say(text: str) -> None:
 
 
 def print_all(text: Union[str, bytes]) -> None:
+    print_pieces([text])
+
+
+def print_pieces(pieces: Iterable[Union[str, bytes]]) -> None:
+    """Prints pieces as they come."""
     try:
-        sys.stdout.buffer.write(text.encode("utf-8", "surrogateescape") if isinstance(text, str) else text)
+        for text in pieces:
+            sys.stdout.buffer.write(text.encode("utf-8", "surrogateescape") if isinstance(text, str) else text)
         sys.stdout.buffer.flush()
     except (OSError, AttributeError):
         # What is left in the buffer can't be written when Python ends.

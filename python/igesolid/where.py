@@ -1,8 +1,8 @@
 """The text of `where FILE N`: its lines are read into rules, items and facts (docs/WHERE.md), and a line of another shape is refused."""
 from dataclasses import dataclass, field
-from typing import Dict, Iterable, Iterator, List, Optional, Tuple
+from typing import Dict, Generic, Iterable, Iterator, List, Optional, Tuple, TypeVar
 
-from .where_lines import FACTS, HEADS, HOLDERS, ITEMS, SENTENCES, UNSAID, NotUnderstood, Shape, read_line
+from .where_lines import FACTS, HEADS, ITEMS, SENTENCES, UNSAID, NotUnderstood, Shape, read_line
 
 
 @dataclass
@@ -56,15 +56,36 @@ class Rule(Holder):
 
 
 @dataclass
-class Hint(Holder):
-    """A hint, of a shell or of the file; its items are what it names."""
+class Step(Holder):
+    """What a remedy changes in one way; its items are what is changed."""
 
     @property
     def name(self) -> str:
         return self.text.split(" ")[1]
 
+    @property
+    def count(self) -> int:
+        return int(self.text.split(" ")[-1])
 
-KINDS_OF_HOLDERS = {"rule": Rule, "hint": Hint}
+
+@dataclass
+class Hint(Holder):
+    """A hint, of a shell or of the file; the items of a remedy are its steps."""
+
+    @property
+    def name(self) -> str:
+        return self.text.split(" ")[1]
+
+    @property
+    def is_remedy(self) -> bool:
+        return self.name == "remedy"
+
+    @property
+    def steps(self) -> List[Step]:
+        return [it for it in self.items if isinstance(it, Step)]
+
+
+KINDS_OF_HOLDERS = {"rule": Rule, "hint": Hint, "step": Step}
 
 
 @dataclass
@@ -118,8 +139,13 @@ class Where(str):
         return self.parts.hints
 
     @property
+    def remedies(self) -> List[Hint]:
+        """The remedies of the shells that fail, those of a shell by their number."""
+        return [it for it in self.hints if it.is_remedy]
+
+    @property
     def more_hints(self) -> int:
-        """How many further hints aren't written."""
+        """How many further remedies aren't written."""
         return self.parts.more_hints
 
     @property
@@ -154,9 +180,43 @@ def paragraphs(lines: Iterable[str]) -> Iterator[Paragraph]:
         yield last
 
 
-def is_item(it: Paragraph, holder: Optional[str]) -> bool:
-    """Whether a paragraph belongs to the rule or the hint before it: `holder` is the first word of the last head line that is no item."""
-    return it.word in ITEMS or it.word == "more" and holder in HOLDERS
+def lines_in(text: str) -> Iterator[str]:
+    """The lines of a text, one at a time; what comes after the last line feed, too."""
+    at = 0
+    while True:
+        end = text.find("\n", at)
+        yield text[at:] if end < 0 else text[at:end]
+        if end < 0:
+            return
+        at = end + 1
+
+
+def are_items(word: str) -> bool:
+    return any(word in words for words in ITEMS.values())
+
+
+T = TypeVar("T")
+
+
+class Holding(Generic[T]):
+    """Where items belong: to the last rule or hint, and below a hint to its last step. What is made of these is given and found here."""
+
+    def __init__(self) -> None:
+        self.open: List[Tuple[str, T]] = []
+        # In how many others the last paragraph is.
+        self.depth = 0
+
+    def holder_of(self, it: Paragraph, made: T) -> Optional[T]:
+        """What was made of the paragraph that holds this one; None if none does. `more` may stand elsewhere, too."""
+        while self.open and it.word not in ITEMS[self.open[-1][0]]:
+            self.open.pop()
+        found = self.open[-1][1] if self.open else None
+        if not self.open and are_items(it.word) and it.word != "more":
+            raise NotUnderstood(f"the text of igesolid-where has an item of nothing: {it.text}")
+        self.depth = len(self.open)
+        if it.word in ITEMS:
+            self.open.append((it.word, made))
+        return found
 
 
 def _put(parts: Parts, it: Paragraph) -> None:
@@ -170,7 +230,7 @@ def _put(parts: Parts, it: Paragraph) -> None:
     elif it.word == "shell":
         parts.failing.append(it)
     elif it.shape.words == UNSAID:
-        parts.more_hints = it.number("more")
+        parts.more_hints += it.number("more")
     elif isinstance(it, Hint):
         parts.hints.append(it)
     elif isinstance(it, Rule):
@@ -180,26 +240,49 @@ def _put(parts: Parts, it: Paragraph) -> None:
 
 
 def _put_item(holder: Paragraph, it: Paragraph) -> None:
-    if not isinstance(holder, Holder):
-        raise NotUnderstood(f"the text of igesolid-where has an item of nothing: {it.text}")
+    assert isinstance(holder, Holder)
     if it.word == "more":
         holder.more = it.number("more")
     else:
         holder.items.append(it)
 
 
+def _put_all(parts: Parts, found: Iterable[Paragraph]) -> Parts:
+    holding: Holding[Paragraph] = Holding()
+    for it in found:
+        holder = holding.holder_of(it, it)
+        if holder is None:
+            _put(parts, it)
+        else:
+            _put_item(holder, it)
+    return parts
+
+
 def _parts_of(text: str) -> Parts:
-    found = list(paragraphs(text.split("\n")))
+    found = list(paragraphs(lines_in(text)))
     if not found or found[0].word not in ("closed", "fail", "bad"):
         raise NotUnderstood("the text of igesolid-where begins with no verdict")
-    parts = Parts(found[0])
-    last = found[0]
-    for it in found[1:]:
-        if is_item(it, last.word):
-            _put_item(last, it)
-        else:
-            _put(parts, it)
-            last = it
+    parts = _put_all(Parts(found[0]), found[1:])
     if parts.verdict.word == "fail" and not (parts.rules and all(rule.items for rule in parts.rules)):
         raise NotUnderstood("the text of igesolid-where has a rule without items, or none")
     return parts
+
+
+class Mended(str):
+    """The text of `mended`: what `mend` changes in a solid, as the remedies that it takes, one for each shell that fails."""
+
+    _remedies: Optional[List[Hint]] = None
+
+    @property
+    def is_closed(self) -> bool:
+        """Whether the solid is closed as it is."""
+        return self.startswith("closed ")
+
+    @property
+    def remedies(self) -> List[Hint]:
+        if self._remedies is None:
+            found = list(paragraphs(lines_in(self)))
+            if not found or found[0].word not in ("closed", "hint"):
+                raise NotUnderstood("the text of igesolid-repair mended tells no remedy")
+            self._remedies = _put_all(Parts(found[0]), found).hints
+        return self._remedies

@@ -1,19 +1,21 @@
 """The text of `where` as JSON and back (docs/WHERE.md, section 8), and the command `igesolid where --json`.
 
-A line's keys are those of its shape, so nothing is lost or made up: what is made is written back first, and must be the text."""
+A line's keys are those of its shape, so nothing is lost or made up: what is made is written back first, and must be the text. The command holds
+one head line at a time besides the text."""
 import json
 import signal
 import sys
-from typing import Any, Dict, Iterator, List, Optional
+from typing import Any, Dict, Iterator, List, Optional, Tuple
 
 from .content import content_of_file, content_of_path
 from .errors import BadFile, Error, NoMemory, NoProgram, NotRead
 from .files import chosen_engine
-from .saying import Failed, is_utf8, print_all, say
-from .where import Line, is_item, paragraphs
+from .saying import Failed, is_utf8, print_pieces, say
+from .where import Holding, Line, lines_in, paragraphs
 from .where_lines import FACTS, HEADS, NotUnderstood, Shape, Value, kind_of
 
 SCHEMA = 1
+ODD = "the text of igesolid-where isn't laid out as docs/WHERE.md says"
 # A sentence's lines have so many columns at most.
 COLUMNS = 78
 USAGE, ANSWERED = 2, (0, 1, BadFile.status)
@@ -40,25 +42,36 @@ def _object(line: Line) -> Object:
     return {"is": line.shape.words, **{name: _value(name, word) for name, word in line.told.items()}}
 
 
-def told_by(text: str) -> Object:
-    """What a text tells: an object for each head line, with its facts or its sentence; items are in the rule or the hint before them."""
-    lines: List[Object] = []
-    last: Optional[str] = None
-    for it in paragraphs(text.split("\n")):
+def _objects(text: str) -> Iterator[Tuple[int, Object]]:
+    """An object for each head line, with its facts or its sentence, and in how many others it is. The text of all is the text, or an error says
+    so in the end."""
+    holding: Holding[None] = Holding()
+    at = 0
+    for it in paragraphs(lines_in(text)):
         made = _object(it)
         if it.facts:
             made["facts"] = [_object(fact) for fact in it.facts]
         if it.sentence:
             made["sentence"] = it.sentence
-        if is_item(it, last) and lines:
-            lines[-1].setdefault("items", []).append(made)
-        else:
-            lines.append(made)
-            last = it.word
-    told = {"schema": SCHEMA, "lines": lines}
-    if text_of(told) != text:
-        raise NotUnderstood("the text of igesolid-where isn't laid out as docs/WHERE.md says")
-    return told
+        lines = "".join(f"{line}\n" for line in _lines_of(made))
+        if not text.startswith(lines, at):
+            raise NotUnderstood(ODD)
+        at += len(lines)
+        holding.holder_of(it, None)
+        yield holding.depth, made
+    if at != len(text):
+        raise NotUnderstood(ODD)
+
+
+def told_by(text: str) -> Object:
+    """What a text tells: an object for each head line; items are in what holds them."""
+    top: Object = {}
+    holders = [top]
+    for depth, made in _objects(text):
+        del holders[depth + 1 :]
+        holders[depth].setdefault("items", []).append(made)
+        holders.append(made)
+    return {"schema": SCHEMA, "lines": top.get("items", [])}
 
 
 def _line(shapes: Dict[str, List[Shape]], word: str, told: Object) -> str:
@@ -100,6 +113,29 @@ def json_of(text: str) -> str:
     return json.dumps(told_by(text), indent=1) + "\n"
 
 
+def _closed(last: int, depth: int) -> Iterator[str]:
+    """The ends of the last object and of those that hold it, down to a depth."""
+    for k in range(last, depth - 1, -1):
+        yield f"\n{' ' * (2 + 2 * k)}}}"
+        if k > depth:
+            yield f"\n{' ' * (1 + 2 * k)}]"
+
+
+def pieces_of(text: str) -> Iterator[str]:
+    """The same as `json_of` in pieces, one for each head line."""
+    last = -1
+    yield f'{{\n "schema": {SCHEMA},\n "lines": ['
+    for depth, made in _objects(text):
+        if depth > last:
+            yield f',\n{" " * (3 + 2 * last)}"items": [' if last >= 0 else ""
+        else:
+            yield "".join([*_closed(last, depth), ","])
+        body = json.dumps(made, indent=1)[: -len("\n}")]
+        yield "\n" + "\n".join(f"{' ' * (2 + 2 * depth)}{line}" for line in body.split("\n"))
+        last = depth
+    yield "".join([*_closed(last, 0), "\n ]\n}\n"])
+
+
 def _answer(program: Optional[str], file: str, words: List[str]) -> int:
     """Prints the answer of `igesolid-where` to these words as JSON; its status."""
     if file == "-" and sys.stdin is None:
@@ -109,7 +145,12 @@ def _answer(program: Optional[str], file: str, words: List[str]) -> int:
     if status == USAGE:
         raise Failed(USAGE, f"the words are {FORMS}")
     if status in ANSWERED:
-        print_all(json_of(text.decode("utf-8", "surrogateescape")))
+        said = text.decode("utf-8", "surrogateescape")
+        del text
+        # What can't be told is known before anything is printed.
+        for _ in _objects(said):
+            pass
+        print_pieces(pieces_of(said))
     return status
 
 

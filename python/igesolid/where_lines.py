@@ -25,17 +25,8 @@ units <unit_flag> <unit>
 shells <shells> failing <failing>
 shell <shell> entity <entity> flag <flag> faces <faces> edges <edges> vertices <vertices> JOIN <JOIN> PAIR <PAIR> REACH <REACH> LINK <LINK> APART <APART>
 hint face-flags faces <faces>
-hint stray-faces shell <shell> faces <faces> of <of>
-hint bodies shell <shell> pieces <pieces>
-hint doubled-faces shell <shell> faces <faces>
-hint extra-faces shell <shell> faces <faces> of <of>
-hint unsewn shell <shell> edges <edges> alike <alike> gaps <gaps>
-hint missing-faces shell <shell> edges <edges> rims <rims>
-hint turned shell <shell> faces <faces> of <of>
-hint touching shell <shell> edges <edges>
-hint crowded shell <shell> edges <edges>
-hint pinch shell <shell> vertices <vertices>
-hint touching-shells shell <shell> vertices <vertices>
+hint remedy <remedy> shell <shell>
+hint stuck shell <shell>
 hint other-form form <form>
 hint shell
 hint solids <numbers> more <more>
@@ -46,17 +37,28 @@ hint loose-faces
 hint trimmed
 hint other-solids
 hint no-solid
+hint unjudged solids <solids>
 hint looks-like <kind>
 hint layout
 hint more <more>
+step remove faces <faces>
+step turn faces <faces>
+step reverse loops <loops>
+step flags uses <uses>
+step sew seams <seams>
+step copy vertices <vertices>
+step renew edges <edges>
+step part bodies <bodies>
+step fill rims <rims>
 remove <F>
-  same edges face <F>
-rim <rim> edges <edges>
-  at <V>
-  edge <list> <index> face <F>
-  more <more>
-body <body> faces <faces> first <F>
 turn <F>
+reverse loop <loop> face <F>
+change loop <loop> tuple <tuple> flag <flag>
+seam <how> edge <list> <index> edge <left_list> <left_index>
+copy vertex <V>
+renew edge <list> <index> start <start_list> <start_index> <start_x> <start_y> <start_z> end <end_list> <end_index> <end_x> <end_y> <end_z>
+body <body> faces <faces> first <F>
+rim <rim> edges <edges> edge <list> <index>
 rule <rule> shell <shell> faults <faults> once <once> same-way <same_way> many <many>
 rule <rule> shell <shell> faults <faults> parts <parts>
 rule <rule> shell <shell> faults <faults>
@@ -106,6 +108,7 @@ more <more>
 entities <entities>
 solid <solid> closed
 solid <solid> fail <rule> <entity> <place>
+solid <solid> unjudged
 entity <entity> <type>
 entity <entity> <type> surface <surface> <surface_type>
   lines directory <directory> record <first> <last>
@@ -121,10 +124,15 @@ entity <entity> <type> surface <surface> <surface_type>
   more <more>
 """
 SHORT = {"<V>": "<list> <index> <x> <y> <z>", "<F>": "<face> <surface_type>"}
-# Heads whose facts are a sentence, for people, but for one; heads that are items of the rule or the hint before them, and so may `more` be; heads
-# with the same facts.
-SENTENCES, UNSAID, HOLDERS, ALIKE = ("bad", "hint", "rule"), "hint more", ("hint", "rule"), {"solid": "entity"}
-ITEMS = ("remove", "rim", "body", "turn", "gap", "edge", "part", "vertex", "item")
+# Heads whose facts are a sentence, for people, but for one; and one that has it at times.
+SENTENCES, UNSAID, AT_TIMES = ("bad", "hint", "rule", "step"), "hint more", "hint remedy shell"
+# Heads that are items of the one of these before them, by its first word, and heads with the same facts.
+ITEMS = {
+    "hint": ("step",),
+    "step": ("remove", "turn", "reverse", "change", "seam", "copy", "renew", "body", "rim", "more"),
+    "rule": ("gap", "edge", "part", "vertex", "item", "more"),
+}
+ALIKE = {"solid": "entity"}
 
 RECORD_RULES, SHELL_RULES = ("ENTRY", "TYPE", "RECORD", "ONCE", "INDEX", "GEOMETRY"), ("JOIN", "PAIR", "REACH", "LINK", "APART")
 FORMS_DUE = "solid form 0|shell form 1|(?:face|loop|edge-list|vertex-list) form 0 1"
@@ -145,6 +153,8 @@ PAIR_OF_DIGITS = "[0-9a-f]{2}"
 # The values that aren't numbers of 0 or above.
 KINDS = {
     **dict.fromkeys(("level", "colour", "matrix", "subscript", "form"), SIGNED),
+    **dict.fromkeys((f"{end}_{axis}" for end in ("start", "end") for axis in "xyz"), SPELLED),
+    "how": Kind("sure|places|curve"),
     **dict.fromkeys(("flag", "tuple_flag", "face_flag", "shell_flag"), BIT),
     **dict.fromkeys(("type", "surface_type", "curve_type", "reason", "word", "kind"), WORD),
     **dict.fromkeys(("x", "y", "z", "red", "green", "blue", "unit_flag"), SPELLED),
@@ -165,13 +175,18 @@ class NotUnderstood(NoProgram):
     """A line of the text that has none of the shapes."""
 
 
+def whole(line: str) -> str:
+    """A line of the table without what is short for several values."""
+    for short, long in SHORT.items():
+        line = line.replace(short, long)
+    return line
+
+
 class Shape:
     """A shape of lines: fixed words, and values in `<>` by their names."""
 
     def __init__(self, line: str):
-        for short, whole in SHORT.items():
-            line = line.replace(short, whole)
-        self.parts = line.split(" ")
+        self.parts = whole(line).split(" ")
         self.names = [part[1:-1] for part in self.parts if part.startswith("<")]
         self.words = " ".join(part for part in self.parts if not part.startswith("<"))
         patterns = [f"({kind_of(part[1:-1]).shape})" if part.startswith("<") else re.escape(part) for part in self.parts]

@@ -95,6 +95,29 @@ def of_others(gui):
         told["page"], told["then"] = opened[-1], panel.summary.text()
 
 
+def of_mending(gui):
+    """The button Mend: a copy of a name that is free, in a panel of its own; and why there is none."""
+    answer["mend"] = []
+    for _ in range(2):
+        panel = gui.show(task["mend"])
+        press(panel, "Mend")
+        found = [it for it in FreeCADGui.getMainWindow().findChildren(QtGui.QDockWidget, gui.NAME) if it.path != task["mend"]][-1]
+        is_closed = [it for it, _ in rows_of(found)] == ["solid 1: closed"]
+        answer["mend"].append([os.path.basename(found.path), is_closed, found.summary.text().split("\n")[0]])
+    panel = gui.show(task["stuck"])
+    press(panel, "Mend")
+    answer["stuck"] = panel.summary.text().split("\n")[1]
+    panel = gui.show(task["closed"])
+    press(panel, "Mend")
+    answer["nothing"] = panel.summary.text().split("\n")[1]
+    panel = gui.show(task["edge"])
+    rows = panel.tree.findItems("remedy ", QtCore.Qt.MatchStartsWith | QtCore.Qt.MatchRecursive)[:2]
+    answer["remedy"] = []
+    for row in rows:
+        panel.tree.setCurrentItem(row.child(0))
+        answer["remedy"].append(panel._place().remedy)
+
+
 def of_commands(gui):
     """The file of a document that FreeCAD opened itself, which its recent files tell unless two have the same name."""
     from igescheck import commands
@@ -132,7 +155,7 @@ def main():
 
         QtGui.QDesktopServices.openUrl = lambda url: opened.append(url.toLocalFile())
         answer["commands"] = [it for it in FreeCADGui.listCommands() if it.startswith("IgesCheck")]
-        for part in [of_a_fault] if "picture" in task else [of_a_fault, of_closed_document, of_others, of_commands, of_faults]:
+        for part in [of_a_fault] if "picture" in task else [of_a_fault, of_closed_document, of_others, of_mending, of_commands, of_faults]:
             part(gui)
     except BaseException:
         answer["fault"] = traceback.format_exc()

@@ -380,7 +380,7 @@ export function* faults({ file, texts }) {
     } catch (fault) {
       isRefused = fault instanceof NotUnderstood;
     }
-    const hints = [...text.matchAll(/^hint (.*)$/gm)].map(it => it[1]);
+    const hints = [...text.matchAll(/^hint (?!remedy|stuck|more)(.*)$/gm)].map(it => it[1]);
     yield [`picture: the hints of ${name}`, scene.hints.map(it => it.head).join() === hints.join()];
     if (name in MARKED)
       yield [`picture: what is marked of ${name}`, markedIn(scene.excerpt) === MARKED[name]];
@@ -389,14 +389,41 @@ export function* faults({ file, texts }) {
   }
 }
 
-/** The faces that a hint names are shown; of bodies, which have many, none. */
-export function* hints({ file, texts }) {
-  const { name, number, text } = texts.find(it => it.name === "two_tetrahedra");
-  const facesOf = told => sceneOf(name, number, told, file(name)).hints
-    .map(it => it.faces.map(([face]) => face.entity).join());
-  const told = text.replace(/^body \d faces 4 first (.*)$/gm, "remove $1\n  same edges face $1");
-  yield ["picture: the faces that a hint names", facesOf(told).join(";") === "13,29"];
-  yield ["picture: the faces of bodies", facesOf(text).join(";") === ""];
+/** What remedies mark of a text: faces, how many edges and vertices; and the command or none. */
+const REMEDIES = {
+  "76_pinched_vertex": [["copy 1 vertex, copy 3 edges", "", 3, 1, true]],
+  "one_sided": [],
+  "stray_face": [
+    ["remove 1 face", "113 removed", 0, 0, true],
+    ["part it into 2 bodies, make a face on 1 rim", "5 body 1,113 body 2", 4, 0, false],
+  ],
+  "turned": [
+    ["turn 1 face", "21 turned", 0, 0, true],
+    ["reverse 1 loop, change the flags of 4 uses", "21 loop reversed", 4, 0, true],
+  ],
+  "two_lumps": [["part it into 2 bodies", "5 body 1,129 body 2", 0, 0, true]],
+  "unsewn_box": [
+    ["sew 12 pairs of edges", "", 8, 0, true], ["sew 12 pairs of edges", "", 4, 0, true],
+    ["remove 5 faces, make a face on 1 rim", [69, 81, 93, 105, 117].map(it => `${it} removed`).join(),
+      4, 0, false],
+  ],
+};
+
+export function* remedies({ file, withRemedies }) {
+  for (const { name, number, text } of withRemedies) {
+    const [{ shell, remedies: told, left }] =
+      sceneOf("", number, text, file(name), `a ${name}.igs`).remedies;
+    const marked = told.map(it => [
+      it.words, it.faces.map(([face], k) => `${face.entity} ${it.said[k]}`).join(), it.spokes.length,
+      it.dots.length, it.command.startsWith(`igesolid mend 'a ${name}.igs' ${number} ${it.remedy} `),
+    ]);
+    yield [`picture: the remedies of ${name}`,
+      JSON.stringify(marked) === JSON.stringify(REMEDIES[name]) && shell === 1];
+    yield [`picture: more remedies of ${name}`, left === (name === "unsewn_box" ? 2 : 0)];
+    const steps = told.flatMap(it => it.steps);
+    yield [`picture: the steps of ${name} are told`,
+      steps.every(it => it.sentence && it.told.length)];
+  }
 }
 
 function markedIn({ first, lines, marks }) {

@@ -7,6 +7,7 @@ from .certificates import BadPart, book, certificate, checked, upgraded
 from .compaction import compacted
 from .extraction import NoExtract, extracted
 from .lines import BadLine
+from .mending import mend, mended
 from .opening import open_accepted, open_certificate
 from .orientation import orientation, orientation_accepted
 from .reorienting import reorient
@@ -62,12 +63,22 @@ NUMBERED = {
     "compact": lambda file, number: written(compacted(file, number)),
     "reorient": lambda file, number: reorient(file, number, written),
 }
+CHOICES = tuple("123456")
+# Those that one of these may follow.
+MENDING = {
+    "mend": lambda file, number, choice: mend(file, number, choice, written),
+    "mended": lambda file, number, choice: mended(file, number, choice, written),
+}
 CHECKING = {
     "verify": verify,
     "upgrade": upgrade,
     "open-verify": lambda file, text: b"accepted %d\n" % open_accepted(file, text),
     "orient-verify": lambda file, text: b"accepted %d\n" % orientation_accepted(file, text),
 }
+
+
+def is_number(word):
+    return re.fullmatch("[0-9]{1,7}", word) is not None and int(word) > 0
 
 
 def work_of(words, certificate_text):
@@ -77,8 +88,12 @@ def work_of(words, certificate_text):
             return lambda file: (DONE, solids(file))
         case ["certify", _, "all"]:
             return certify_all
-        case [command, _, number] if command in NUMBERED and re.fullmatch("[0-9]{1,7}", number) and int(number):
+        case [command, _, number] if command in NUMBERED and is_number(number):
             return lambda file: NUMBERED[command](file, int(number))
+        case [command, _, number] if command in MENDING and is_number(number):
+            return lambda file: MENDING[command](file, int(number), None)
+        case [command, _, number, choice] if command in MENDING and is_number(number) and choice in CHOICES:
+            return lambda file: MENDING[command](file, int(number), int(choice))
         case [command, _, _] if command in CHECKING:
             return lambda file: (DONE, CHECKING[command](file, certificate_text))
     return None

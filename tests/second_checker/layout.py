@@ -10,7 +10,7 @@ MOST_LINES = 9_999_999
 MOST_BYTES = 164_000_000
 FEWER = "fewer-S", "fewer-G", "fewer-D", "fewer-P"
 KINDS = "mark", "blank", "end", "letter", "past", "number", "ahead", "counts", *FEWER, "after"
-USAGE = b"usage: igesolid-repair relayout FILE | layout FILE | reorient FILE N\n"
+USAGE = b"usage: igesolid-repair relayout FILE | layout FILE | reorient FILE N | mend FILE N [R] | mended FILE N [R]\n"
 
 
 class BadLayout(Exception):

@@ -1,6 +1,5 @@
 """What `igesolid-where` owes for the bytes of a file (docs/WHERE.md)."""
 import re
-import textwrap
 from dataclasses import dataclass
 from typing import NamedTuple
 
@@ -9,39 +8,41 @@ from .certificates import certificate
 from .extraction import Layout, groups_of, topology_layout
 from .fields import Real
 from .file_places import Places
+from .geometry import Geometry
 from .reading import BadFile, File
 from .records import FITTING, FORMS, is_flag, is_integer
 from .shells import Rows
 from .walking import ANY_TOPOLOGY, Fail, Walk
 from .where_hints import put_shell_hints, unset_faces
-from .where_page import DOC, is_told, sentences, type_word
+from .where_page import DOC, cut, is_told, sentences, type_word
 
 LIMIT = 20
 # Of faces at a vertex of APART.
 FACE_LIMIT = 5
-WORD_LIMIT = 100
+WORD_LIMIT, COORDINATE_LIMIT = 100, 32
 
 
 def shown_bytes(text):
     return bytes(byte if byte >= 32 and byte != 127 else 63 for byte in text).decode("latin-1")
 
 
-def spelled(value):
+def spelled(value, limit=WORD_LIMIT):
+    """A value; `limit` is that of the bytes of a real."""
     if value is None:
         return "-"
-    return str(value) if is_integer(value) else shown_word(value)
+    return str(value) if is_integer(value) else shown_word(value, limit if isinstance(value, Real) else WORD_LIMIT)
 
 
-def shown_word(word):
+def shown_word(word, limit):
     """A copied word; of a long one the first bytes, up to the first of these places where no character of UTF-8 is cut in two."""
-    if len(word) <= WORD_LIMIT:
+    if len(word) <= limit:
         return shown_bytes(word)
-    places = [place for place in range(WORD_LIMIT, WORD_LIMIT - 4, -1) if not 128 <= word[place] <= 191]
-    return shown_bytes(word[: (places or [WORD_LIMIT])[0]]) + ".."
+    places = [place for place in range(limit, limit - 4, -1) if not 128 <= word[place] <= 191]
+    return shown_bytes(word[: (places or [limit])[0]]) + ".."
 
 
-def cut(sentence):
-    return textwrap.wrap(sentence, 78, initial_indent="  ", subsequent_indent="  ", break_on_hyphens=False)
+def spelled_coordinate(value):
+    return spelled(value, COORDINATE_LIMIT)
 
 
 class Row(NamedTuple):
@@ -199,7 +200,7 @@ class View:
 
     def vertex(self, number):
         entity, index = self.solid.vertices[number]
-        return " ".join([str(entity), str(index), *map(spelled, self.coordinates(number))])
+        return " ".join([str(entity), str(index), *map(spelled_coordinate, self.coordinates(number))])
 
     def curve(self, number):
         entity, index = self.solid.edges[number]
@@ -664,13 +665,13 @@ def of_solid(text, file, number, solid, places):
 
 
 def put_hints(text, file, solid, failing):
-    unset = unset_faces(file, solid) if any(view.unpaired for view in text.shown(failing)[0]) else []
+    unset = unset_faces(solid) if any(view.unpaired for view in text.shown(failing)[0]) else []
     if unset:
         items = [text.item(f"flag-0 {face.entity} {surface_word(file, face.entity)}", []) for face in unset]
         text.hint(f"face-flags faces {len(unset)}", items if is_told("flag-0") else [])
         return
-    for view in text.shown(failing)[0]:
-        put_shell_hints(text, view)
+    if failing:
+        put_shell_hints(text, text.shown(failing)[0], Geometry(file, solid))
 
 
 def whole(text, file, number, places):
@@ -682,22 +683,58 @@ def whole(text, file, number, places):
     return of_solid(text, file, number, solid, places)
 
 
-def overview(text, file, places):
-    lines, failing = [], 0
+class NamedSizes:
+    """How many values the loops have that an entry's records name, each as often as it is named; a record that doesn't fit names nothing."""
+
+    def __init__(self, file):
+        self.file, self.sizes = file, {}
+
+    def of(self, number, kinds):
+        if (number, kinds) not in self.sizes:
+            self.sizes[number, kinds] = self.counted(number, kinds)
+        return self.sizes[number, kinds]
+
+    def counted(self, number, kinds):
+        entry = self.file.named(number)
+        values = [] if entry is None else entry.values
+        if not kinds:
+            return len(values)
+        told = FITTING[kinds[0]](values)
+        if told is None:
+            return 0
+        members = told.loops if kinds[0] == 510 else [member for member, _ in told]
+        return sum(self.of(member, kinds[1:]) for member in members)
+
+
+def judged_solids(file, count):
+    """The solids of a file of so many bytes that are judged: as long as their sizes together are no more than that."""
+    sizes, judged, total = NamedSizes(file), set(), 0
+    for number in file.solids():
+        size = sizes.of(number, (186, 514, 510))
+        if total + size <= count:
+            total += size
+            judged.add(number)
+    return judged
+
+
+def overview(text, file, places, count):
+    judged, lines, failing = judged_solids(file, count), [], 0
     for number in file.solids():
         try:
-            certificate(file, number)
-            verdict = "closed"
+            if number in judged:
+                certificate(file, number)
+            verdict = "closed" if number in judged else "unjudged"
         except Fail as fail:
             verdict, failing = fail.text().decode().strip(), failing + 1
         lines += [f"solid {number} {verdict}", *entity_facts(file, number, places)]
-    count = len(file.solids())
-    text.lines += [f"solids {count} failing {failing}", *lines]
-    if is_told("unjudged"):
-        put_unjudged(text, file)
-    if count == 0:
+    solids = len(file.solids())
+    text.lines += [f"solids {solids} failing {failing}", *lines]
+    put_unjudged(text, file)
+    if solids == 0:
         text.hint("no-solid")
-    return 1 if failing or count == 0 else 0
+    if len(judged) < solids:
+        text.hint(f"unjudged solids {solids - len(judged)}")
+    return 0 if solids and not failing and len(judged) == solids else 1
 
 
 # The types of solids that are made of others.
@@ -746,7 +783,7 @@ def answer(words, data):
     try:
         file = File(data)
         places = Places(data, file)
-        status = overview(text, file, places) if not words else whole(text, file, int(words[0]), places)
+        status = overview(text, file, places, len(data)) if not words else whole(text, file, int(words[0]), places)
     except BadFile as bad:
         text.lines += [f"bad file line {bad.line} {bad.reason}", *cut(DOC[bad.reason])]
         lines, hints = told(data, bad.line, bad.reason)

@@ -1,7 +1,14 @@
 """What the checker of `where` takes from docs/WHERE.md and the tables beside it: sentences, words for types, and which lines there are. Hints and
 lines that the page doesn't have aren't due."""
 
+import textwrap
+
 DOC = {}
+
+
+def cut(sentence):
+    """A sentence as facts."""
+    return textwrap.wrap(sentence, 78, initial_indent="  ", subsequent_indent="  ", break_on_hyphens=False)
 
 
 def table(path):

@@ -17,6 +17,10 @@ use Rattle.iges_params.specs.Contents.{Contents}
 use Rattle.iges_params.proofs.FileExact.{IsFile-read_file}
 use Rattle.iges_write.proofs.Made.{can_be_made}
 use Rattle.orient_commands.specs.Laws.{AreSameOrRings}
+use Rattle.mend_commands.specs.Due.{OfMend}
+use Rattle.mend_commands.proofs.OneMending.{some_mend}
+use Rattle.mended_commands.specs.Due.{OfMended}
+use Rattle.mended_commands.proofs.SomeTold.{some_mended}
 use Rattle.repair_commands.specs.SolidDue.{OfReorient}
 use Rattle.repair_commands.proofs.FlagsDecided.{reorient_one, some_reorient}
 use Rattle.repair_commands.specs.declared.request.LineCommand.{LineCommand}
@@ -26,7 +30,7 @@ use Rattle.repair_commands.specs.declared.request.Request.TheVariants as request
 use Rattle.repair_commands.specs.Request.{request_of, usage_line}
 use Rattle.repair_commands.specs.Due.{DueOf, OfLines, IsLaid, OfLayout, OfNoLayout, bad_layout, file_too_large, in_layout, not_in_layout, relayout}
 use Rattle.repair_commands.specs.Due.{text_too_large}
-use Rattle.repair_commands.specs.Laws.{AreOneText, InLayoutIsTold, OneAnswerIsOwed, SomeAnswerIsOwed}
+use Rattle.repair_commands.specs.Laws.{AreOneReply, InLayoutIsTold, OneAnswerIsOwed, SomeAnswerIsOwed}
 use Rattle.repair_commands.specs.Texts.{bad_layout_line, changes_text, in_layout_line}
 use Rattle.repair_commands.proofs.SameBytes.{same_bytes, other_bytes}
 
@@ -82,15 +86,17 @@ reorient_alike n bytes a b t u (inr p) (inr q) =
     let same : p.1 ≡ q.1 = ok_is p.1 q.1 (sym (IsFile-read_file bytes p.1 p.2) ∙ IsFile-read_file bytes q.1 q.2) in
     reorient_one n q.1 a b t u (subst (λ (f : Contents). OfReorient n f a t) same p.3) q.3
 
-due_of_one : (q : Request) (bytes : List ℕ) (a b : Answer) (t u : List ℕ) → DueOf q bytes a t → DueOf q bytes b u → (a ≡ b) × AreOneText (Some q) t u
+due_of_one : (q : Request) (bytes : List ℕ) (a b : Answer) (t u : List ℕ) → DueOf q bytes a t → DueOf q bytes b u → AreOneReply (Some q) a b t u
 due_of_one (request.Lines c) bytes a b t u p q = lines_one c bytes a b t u p q
 due_of_one (request.Reorient n) bytes a b t u p q = reorient_alike n bytes a b t u p q
+due_of_one (request.Mend n choice) bytes a b t u p q = tt
+due_of_one (request.Mended n choice) bytes a b t u p q = tt
 
 pub due_one : OneAnswerIsOwed
 due_one words bytes a b t u p q = by_request (request_of words) p q
   where
     by_request : (o : Option Request) → MatchOption o (Exactly answer.Usage usage_line a t) (λ c. DueOf c bytes a t)
-        → MatchOption o (Exactly answer.Usage usage_line b u) (λ c. DueOf c bytes b u) → (a ≡ b) × AreOneText o t u
+        → MatchOption o (Exactly answer.Usage usage_line b u) (λ c. DueOf c bytes b u) → AreOneReply o a b t u
     by_request None p q = (p.0 ∙ sym q.0, p.1 ∙ sym q.1)
     by_request (Some c) p q = due_of_one c bytes a b t u p q
 
@@ -126,6 +132,8 @@ some_of_lines q bytes = by_size (cases_lt FILE_LIMIT (length bytes))
 some_of_bytes : (q : Request) (bytes : List ℕ) → IsDue (DueOf q bytes)
 some_of_bytes (request.Lines c) bytes = some_of_lines c bytes
 some_of_bytes (request.Reorient n) bytes = file_due bytes (OfReorient n) (λ f few is. some_reorient n f (can_be_made bytes f few is).made.limits)
+some_of_bytes (request.Mend n choice) bytes = file_due bytes (OfMend n) (λ f few is. some_mend n f (can_be_made bytes f few is).made.limits)
+some_of_bytes (request.Mended n choice) bytes = file_due bytes (OfMended n) (λ f few is. some_mended n f (can_be_made bytes f few is).made.limits)
 
 pub due_some : SomeAnswerIsOwed
 due_some words bytes = by_request (request_of words)

@@ -15,6 +15,11 @@ use Rattle.repair_commands.specs.SolidDue.{OfReorient}
 use Rattle.file_replies.specs.Written as writing
 use Rattle.file_replies.specs.Written.{OfWritten}
 use Rattle.repair_commands.specs.SolidDue as reorient
+use Rattle.mend_commands.specs.Due.{OfMend}
+use Rattle.mend_commands.specs.Due as mend
+use Rattle.mended_commands.specs.Due.{OfMended, OfTold}
+use Rattle.mended_commands.specs.Due as mended
+use Rattle.solid_mend.specs.declared.mending.Choice.{Choice}
 use Rattle.command_replies.proofs.Endings as endings
 use Rattle.command_replies.proofs.Endings.{IsJudged, IsJudgement, some_told}
 use Rattle.command_replies.specs.Ending.{Finishes, IsComplete, Outcome}
@@ -42,6 +47,23 @@ file_owed n left f reply told owed = record { bytes = told.bytes; told = told.to
 
 pub no_file_owed : (n : ℕ) (left : Option (List ℕ)) (reply : Reply) → IsReply OfNoFile left reply → IsReply (DueOf (request.Reorient n)) left reply
 no_file_owed n left reply none = record { bytes = none.bytes; told = none.told; owed = inl none.owed }
+
+-- the same of mending
+pub mend_owed : (n : ℕ) (choice : Choice) (left : Option (List ℕ)) (f : Contents) (reply : Reply) → IsFileTold left f → OfMend n f reply.answer reply.text
+    → IsReply (DueOf (request.Mend n choice)) left reply
+mend_owed n choice left f reply told owed = record { bytes = told.bytes; told = told.told; owed = inr (told.few, f, told.is, owed) }
+
+pub no_mend_owed : (n : ℕ) (choice : Choice) (left : Option (List ℕ)) (reply : Reply) → IsReply OfNoFile left reply
+    → IsReply (DueOf (request.Mend n choice)) left reply
+no_mend_owed n choice left reply none = record { bytes = none.bytes; told = none.told; owed = inl none.owed }
+
+pub mended_owed : (n : ℕ) (choice : Choice) (left : Option (List ℕ)) (f : Contents) (reply : Reply) → IsFileTold left f → OfMended n f reply.answer reply.text
+    → IsReply (DueOf (request.Mended n choice)) left reply
+mended_owed n choice left f reply told owed = record { bytes = told.bytes; told = told.told; owed = inr (told.few, f, told.is, owed) }
+
+pub no_mended_owed : (n : ℕ) (choice : Choice) (left : Option (List ℕ)) (reply : Reply) → IsReply OfNoFile left reply
+    → IsReply (DueOf (request.Mended n choice)) left reply
+no_mended_owed n choice left reply none = record { bytes = none.bytes; told = none.told; owed = inl none.owed }
 
 -- a reply to what the words ask for
 pub request_owed : (words : List (List ℕ)) (file : Option (List ℕ)) (reply : Reply) (q : Request) → request_of words ≡ Some q → IsReply (DueOf q) file reply
@@ -99,10 +121,32 @@ reorient_judgement n f a t (reorient.unoriented none owed) = unoriented_judgemen
 reorient_judgement n f a t (reorient.not_reoriented x flags entity why refused) = tt
 reorient_judgement n f a t (reorient.reoriented new is owed) = written_judgement new a t owed
 
+mend_judgement : (n : ℕ) (f : Contents) (a : Answer) (t : List ℕ) → OfMend n f a t → IsJudgement a
+mend_judgement n f a t (mend.not_extracted entity why refused) = tt
+mend_judgement n f a t (mend.misplaced g extracted x first) = tt
+mend_judgement n f a t (mend.closed g extracted closed owed) = written_judgement g a t owed
+mend_judgement n f a t (mend.mended x fails g m cs new is owed) = written_judgement new a t owed
+mend_judgement n f a t (mend.unmended g extracted x fails why) = tt
+
+told_judgement : (f : Contents) (text : List ℕ) (a : Answer) (t : List ℕ) → OfTold f text a t → IsJudgement a
+told_judgement f text a t (mended.too_large all is many) = tt
+told_judgement f text a t (mended.told_so all is few) = tt
+
+mended_judgement : (n : ℕ) (f : Contents) (a : Answer) (t : List ℕ) → OfMended n f a t → IsJudgement a
+mended_judgement n f a t (mended.not_extracted entity why refused) = tt
+mended_judgement n f a t (mended.misplaced g extracted x first) = tt
+mended_judgement n f a t (mended.closed g extracted closed owed) = told_judgement g _ a t owed
+mended_judgement n f a t (mended.mended x fails g m cs new is numbers owed) = told_judgement new _ a t owed
+mended_judgement n f a t (mended.unmended g extracted x fails why) = tt
+
 due_judgement : (q : Request) (bytes : List ℕ) (a : Answer) (t : List ℕ) → DueOf q bytes a t → IsJudgement a
 due_judgement (request.Lines c) bytes a t due = lines_judgement c bytes a t due
 due_judgement (request.Reorient n) bytes a t (inl p) = no_file_judgement bytes a t p
 due_judgement (request.Reorient n) bytes a t (inr p) = reorient_judgement n p.1 a t p.3
+due_judgement (request.Mend n choice) bytes a t (inl p) = no_file_judgement bytes a t p
+due_judgement (request.Mend n choice) bytes a t (inr p) = mend_judgement n p.1 a t p.3
+due_judgement (request.Mended n choice) bytes a t (inl p) = no_file_judgement bytes a t p
+due_judgement (request.Mended n choice) bytes a t (inr p) = mended_judgement n p.1 a t p.3
 
 judged : (words : List (List ℕ)) (file : Option (List ℕ)) (a : Answer) (t : List ℕ) → IsOwed words file a t → IsJudged (request_of words) a
 judged words file a t owed = by_request (request_of words) owed.due

@@ -6,6 +6,8 @@ use Rattle.line_layout.specs.Relaid.{relaid}
 use Rattle.command_replies.specs.declared.answer.Answer.{Answer}
 use Rattle.command_replies.specs.declared.answer.Answer.TheVariants as answer
 use Rattle.command_replies.specs.Due.{Owed, Exactly, OfFile}
+use Rattle.mend_commands.specs.Due.{OfMend}
+use Rattle.mended_commands.specs.Due.{OfMended}
 use Rattle.repair_commands.specs.SolidDue.{OfReorient}
 use Rattle.repair_commands.specs.declared.request.LineCommand.{LineCommand}
 use Rattle.repair_commands.specs.declared.request.LineCommand.TheVariants as «line»
@@ -46,6 +48,8 @@ OfLines c bytes a t = OfNoLayout bytes a t ⊎ ((text : List ℕ) × IsLaid byte
 abbrev pub DueOf : Request → List ℕ → Owed
 DueOf (request.Lines c) bytes = OfLines c bytes
 DueOf (request.Reorient n) bytes = OfFile bytes (OfReorient n)
+DueOf (request.Mend n choice) bytes = OfFile bytes (OfMend n)
+DueOf (request.Mended n choice) bytes = OfFile bytes (OfMended n)
 
 -- what is owed for these words and the file's bytes
 abbrev pub Due : List (List ℕ) → List ℕ → Owed

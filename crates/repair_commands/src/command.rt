@@ -16,6 +16,8 @@ use crate::words::Words;
 use command_replies::{Answer, Reply, Stop, bytes_in, file_in, finish};
 use iges_base::FILE_LIMIT;
 use iges_io::{PIECE, Sink, Source};
+use mend_commands::{Choice, mend_solid};
+use mended_commands::mended_solid;
 use std::alloc::Global;
 
 // The reply to a command on the lines of a source.
@@ -46,6 +48,44 @@ fn solid_reply<F: Source>(alloc: Global, no: u32, file: &mut F) -> Result<Reply,
     }
 }
 
+// The reply where the solid of this number is to be mended.
+fn mend_reply<F: Source>(
+    alloc: Global,
+    no: u32,
+    choice: Choice,
+    file: &mut F,
+) -> Result<Reply, Stop>
+    requires { F.can_read file.old }
+    ensures found { IfOk result (IsReply (DueOf (Request.Mend no choice)) (F.left file.old)) }
+    ensures whole { IfOk result (λ reply. ReadsWhole (F.left file.new) reply.answer) }
+    ensures count { CountAfterCall (F.faults file.old) (F.faults file.new) result }
+    ensures taken { TakesWithin FILE_LIMIT (F.left file.old) (F.left file.new) result }
+{
+    match file_in(alloc, file)? {
+        Ok(file) => Ok(mend_solid(alloc, file, no, choice)?),
+        Err(reply) => Ok(reply),
+    }
+}
+
+// The reply where it is to be told how the solid of this number is mended.
+fn mended_reply<F: Source>(
+    alloc: Global,
+    no: u32,
+    choice: Choice,
+    file: &mut F,
+) -> Result<Reply, Stop>
+    requires { F.can_read file.old }
+    ensures found { IfOk result (IsReply (DueOf (Request.Mended no choice)) (F.left file.old)) }
+    ensures whole { IfOk result (λ reply. ReadsWhole (F.left file.new) reply.answer) }
+    ensures count { CountAfterCall (F.faults file.old) (F.faults file.new) result }
+    ensures taken { TakesWithin FILE_LIMIT (F.left file.old) (F.left file.new) result }
+{
+    match file_in(alloc, file)? {
+        Ok(file) => Ok(mended_solid(alloc, file, no, choice)?),
+        Err(reply) => Ok(reply),
+    }
+}
+
 // The reply to what is asked of a source.
 fn source_reply<F: Source>(alloc: Global, request: Request, file: &mut F) -> Result<Reply, Stop>
     requires { F.can_read file.old }
@@ -57,6 +97,8 @@ fn source_reply<F: Source>(alloc: Global, request: Request, file: &mut F) -> Res
     match request {
         Request::Lines(command) => lines_reply(alloc, command, file),
         Request::Reorient(no) => solid_reply(alloc, no, file),
+        Request::Mend(no, choice) => mend_reply(alloc, no, choice, file),
+        Request::Mended(no, choice) => mended_reply(alloc, no, choice, file),
     }
 }
 

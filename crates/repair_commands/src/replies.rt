@@ -13,7 +13,8 @@ use iges_base::{Bytes, FILE_LIMIT, NoMemory, Out};
 use line_layout::{LayoutFault, RelaidFault, relaid};
 use std::alloc::Global;
 
-const USAGE: &[u8] = b"usage: igesolid-repair relayout FILE | layout FILE | reorient FILE N\n";
+const USAGE: &[u8] =
+    b"usage: igesolid-repair relayout FILE | layout FILE | reorient FILE N | mend FILE N [R] | mended FILE N [R]\n";
 
 const IN_LAYOUT: &[u8] = b"in layout\n";
 

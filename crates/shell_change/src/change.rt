@@ -124,6 +124,23 @@ pub enum Fate {
     Kept(FaceNow),
 }
 
+/// An edge of a rim, and the flag of its use there.
+#[derive(Clone, Copy)]
+pub struct RimEdge {
+    pub edge: EdgeName,
+    /// The flag that the new face's loop has for it.
+    pub along: bool,
+}
+
+/// A ring of edges of a piece on which a face must be made anew: its only loop uses these edges in this order, and its flag is
+/// that of the shell.
+#[derive(Drop)]
+pub struct Rim {
+    /// The piece that has the new face.
+    pub piece: u32,
+    pub edges: ItemList<RimEdge>,
+}
+
 /// A change of a shell.
 #[derive(Drop)]
 pub struct Change {
@@ -134,4 +151,16 @@ pub struct Change {
     pub edges: ItemList<NewEdge>,
     pub seams: ItemList<Seam>,
     pub moves: ItemList<Move>,
+    /// The faces that must be made anew, each by its rim.
+    pub rims: ItemList<Rim>,
+}
+
+/// A change that was tried, and what decides which comes first.
+#[derive(Drop)]
+pub struct Remedy {
+    pub change: Change,
+    /// The less, the earlier it is told.
+    pub cost: u32,
+    /// Whether it rests on equal records or on counts alone, and no other of its cost removes other faces.
+    pub sure: bool,
 }

@@ -21,3 +21,25 @@ pub struct Geometry {
     /// The curve of each edge of the solid.
     pub curves: ItemList<CurveKnown>,
 }
+
+/// What is known of an arc.
+#[derive(Clone, Copy)]
+pub struct ArcKnown {
+    /// Equal numbers where two arcs have equal ZT, centre, form and matrix.
+    pub circle: u32,
+    /// Equal numbers where two points of arcs have equal X and Y: that of its start point.
+    pub start: u32,
+    /// The same of its end point.
+    pub end: u32,
+}
+
+/// What a search for changes knows of a solid beside its topology.
+#[derive(Drop)]
+pub struct Known {
+    pub geometry: Geometry,
+    /// Of each face, in the order in which the shells list them, the number of its surface's record: equal numbers where the
+    /// records are equal.
+    pub surfaces: ItemList<u32>,
+    /// Of each edge of the solid: what is known of its curve, if that is an arc.
+    pub arcs: ItemList<Option<ArcKnown>>,
+}

@@ -16,10 +16,10 @@ mod tracks;
 mod uses;
 
 pub use change::{
-    Change, EdgeName, EdgeNow, FaceNow, Fate, LoopNow, Move, NewEdge, NewVertex, Seam, Told,
-    UseNow, VertexName,
+    Change, EdgeName, EdgeNow, FaceNow, Fate, LoopNow, Move, NewEdge, NewVertex, Remedy, Rim,
+    RimEdge, Seam, Told, UseNow, VertexName,
 };
-pub use geometry::{CurveKnown, Geometry};
+pub use geometry::{ArcKnown, CurveKnown, Geometry, Known};
 pub use keeping::keeps_geometry;
 pub use loops::{faces_fit, item_at};
 pub use moves::{Step, move_fits};

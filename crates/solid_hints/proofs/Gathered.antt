@@ -7,7 +7,8 @@ use Rattle.solid_data.specs.declared.solid.Shell.{Shell}
 use Rattle.solid_faults.specs.Faults.{Faults, AreFaults}
 use Rattle.solid_data.proofs.Members.{split_at}
 use Rattle.where_text.proofs.Steps.{piece_more}
-use Rattle.solid_hints.specs.AllFaults.{failing_from, is_failing}
+use Rattle.edge_uses.specs.Before.{AreBelow}
+use Rattle.solid_hints.specs.AllFaults.{EachBelow, failing_from, is_failing}
 
 -- what holds of each item of a list, and of one more, holds of each item of the longer list
 pub one_more : {A : Type 0} (P : ℕ → A → Type 0) (xs : List A) (x : A) → ((k : ℕ) (y : A) → slice_get xs k ≡ Some y → P k y) → P (length xs) x
@@ -27,6 +28,12 @@ faults_more s k old new x long is each last j h y at there =
 
 pub longer : {A : Type 0} (old new : List A) (x : A) (k : ℕ) → length old ≡ k → new ≡ old ++ x ∷ [] → length new ≡ k + 1
 longer old new x k long is = ap (λ xs. length xs) is ∙ (let sum = length-append old (x ∷ []) in omega (arith, long, sum))
+
+-- one shell more of those before which the vertices are counted
+pub one_below : (s : SolidData) (k below : ℕ) (old new : List ℕ) → length old ≡ k → new ≡ old ++ below ∷ [] → AreBelow s k below → EachBelow s old
+    → EachBelow s new
+one_below s k below old new long is last each j n at =
+    one_more (AreBelow s) old below each (subst (λ i. AreBelow s i below) (sym long) last) j n (subst (λ xs. slice_get xs j ≡ Some n) is at)
 
 -- the failing shells, one shell on
 pub failing_more : (xs : List Faults) (x : Faults) (k : ℕ) (b : Bool) (old new all : List ℕ) → slice_get xs k ≡ Some x → b ≡ is_failing x

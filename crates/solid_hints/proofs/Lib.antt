@@ -1,4 +1,3 @@
 pub mod Gathered
 pub mod Counts
-pub mod MergedLemmas
 pub mod ToldHints

@@ -1,104 +1,160 @@
 -- The hints on failing shells, put together.
-use Rattle.std.specs.Prelude.{◌≡◌, ◌↔◌, ◌<◌, ◌+◌, ℕ, zero, suc, Bool, true, false, IsTrue, List, [], ◌∷◌, ◌++◌, All, Some, length, flat_map, slice_get, zip}
-use Rattle.std.specs.Prelude.{if◌then◌else◌, IfOk, Result, Ok, Err}
-use Rattle.std.proofs.Common.{refl, sym, ap, ◌∙◌, subst, arith, inl, inr, get_or}
-use Rattle.std.proofs.lemmas.List.{append-nil, get_or-take}
+use Rattle.std.specs.Prelude.{◌≡◌, ◌↔◌, ◌<◌, ◌≤◌, ◌+◌, ◌==◌, ℕ, suc, Bool, true, false, IsTrue, List, [], ◌∷◌, ◌++◌, All, Some, length, map, flat_map, slice_get, take}
+use Rattle.std.specs.Prelude.{IfOk, IfSome, OnOk, Option, None, Result, Ok, Err}
+use Rattle.edge_uses.specs.Before.{AreBelow}
+use Rattle.std.specs.List.{enumerate_from}
+use Rattle.std.proofs.Common.{refl, sym, ap, ◌∙◌, subst, arith, inl, inr, get_or, drop}
+use Rattle.std.proofs.lemmas.Bool.{eqb-true}
+use Rattle.std.proofs.lemmas.List.{append-nil, drop_all, flat_map_more, map-append, take_all}
+use Rattle.std.proofs.Math.Seq.{take-suc}
 use Rattle.iges_base.specs.declared.entry_no.EntryNo.{EntryNo}
 use Rattle.iges_params.specs.Contents.{Contents}
 use Rattle.solid_data.specs.SolidData.{SolidData}
-use Rattle.solid_data.specs.declared.solid.Shell.{Shell}
+use Rattle.solid_data.proofs.Members.{split_at}
 use Rattle.solid_faults.specs.FaceFlags.{IsClosedFlagged}
 use Rattle.solid_faults.specs.Faults.{Faults}
-use Rattle.where_hints.specs.Facts.{Hints}
+use Rattle.shell_change.specs.declared.change.Remedy.{Remedy}
+use Rattle.shell_change.specs.declared.geometry.Geometry.{Geometry}
+use Rattle.solid_geometry.specs.Known.{IsGeometryOf}
+use Rattle.tried_remedies.specs.Tried.{AreTried}
 use Rattle.where_text.specs.declared.listing.Listing.{Listing}
 use Rattle.where_text.specs.declared.listing.Listing.TheVariants as how
-use Rattle.where_text.specs.Listing.{shown, shown_count}
-use Rattle.where_text.proofs.Steps.{shown_length}
-use Rattle.solid_hints.specs.AllFaults.{failing_from, failing_shells, is_failing}
+use Rattle.where_text.proofs.Steps.{piece_more}
+use Rattle.solid_hints.specs.AllFaults.{EachBelow}
 use Rattle.solid_hints.specs.Flags.{flags_hint, pair_fails, unset_flags}
-use Rattle.solid_hints.specs.ShellHints.{AreHintsOf, AreShellHints, IsHint, hint_faces_at, hints_at}
+use Rattle.solid_hints.specs.ShellHints.{AreRemediesOf, IsHint, IsRemedy, ShellRemedies, faces_named, named_at, remedies_at, remedies_text, remedy_at, written}
 use Rattle.solid_hints.proofs.Gathered.{one_more}
 
-abbrev HintsAt : Contents → SolidData → List ℕ → ℕ → Hints → Type 0
-HintsAt f s ks i x = (k : ℕ) (h : Shell) → slice_get ks i ≡ Some k → slice_get s.shells k ≡ Some h → AreShellHints f s k h x
+-- ---- the remedies of a shell
 
--- the hints on one more shell
-pub hints_more : (f : Contents) (s : SolidData) (ks : List ℕ) (i k : ℕ) (old new : List Hints) (x : Hints) → slice_get ks i ≡ Some k → length old ≡ i → new ≡ old ++ x ∷ []
-    → ((j : ℕ) (y : Hints) → slice_get old j ≡ Some y → (k : ℕ) (h : Shell) → slice_get ks j ≡ Some k → slice_get s.shells k ≡ Some h → AreShellHints f s k h y)
-    → ((h : Shell) → slice_get s.shells k ≡ Some h → AreShellHints f s k h x)
-    → (j : ℕ) (y : Hints) → slice_get new j ≡ Some y → (k : ℕ) (h : Shell) → slice_get ks j ≡ Some k → slice_get s.shells k ≡ Some h → AreShellHints f s k h y
-hints_more f s ks i k old new x at long is each last j y there =
-    one_more (HintsAt f s ks) old x each
-    (subst (λ n. HintsAt f s ks n x) (sym long) (λ l h here. let same : l ≡ k = cc in subst (λ m. slice_get s.shells m ≡ Some h → AreShellHints f s m h x) (sym same)
-    (last h))) j y (subst (λ xs. slice_get xs j ≡ Some y) is there)
+-- once one more is written of items that are numbered
+pub numbered_more : {A : Type 0} (F : ℕ × A → List ℕ) (xs : List A) (i : ℕ) (x : A) (old new all : List ℕ) → slice_get xs i ≡ Some x
+    → old ++ flat_map F (enumerate_from i (drop i xs)) ≡ all → new ≡ old ++ F (i, x) → new ++ flat_map F (enumerate_from (i + 1) (drop (i + 1) xs)) ≡ all
+numbered_more F xs i x old new all at h e =
+    piece_more old new (F (i, x)) (flat_map F (enumerate_from (i + 1) (drop (i + 1) xs))) all
+    (ap (λ ys. old ++ flat_map F (enumerate_from i ys)) (sym (split_at xs i x at)) ∙ h) e
 
--- numbers of failing shells are numbers of shells
-failing_inside : (xs : List Faults) (k i d : ℕ) → i < length (failing_from k xs) → get_or (failing_from k xs) i d < k + length xs
-failing_inside [] k i d lt = absurd (omega (arith, lt))
-failing_inside (x ∷ xs) k i d lt = by_first (is_failing x) i (λ j below. failing_inside xs (k + 1) j d below) lt
-  where
-    by_first : (b : Bool) (i : ℕ) → ((j : ℕ) → j < length (failing_from (k + 1) xs) → get_or (failing_from (k + 1) xs) j d < k + 1 + length xs)
-        → i < length ((if b then k ∷ [] else []) ++ failing_from (k + 1) xs)
-        → get_or ((if b then k ∷ [] else []) ++ failing_from (k + 1) xs) i d < k + suc (length xs)
-    by_first true zero later lt = omega arith
-    by_first true (suc i) later lt = let n = later i (omega (arith, lt)) in omega (arith, n)
-    by_first false i later lt = let n = later i lt in omega (arith, n)
+pub numbered_all : {A : Type 0} (F : ℕ × A → List ℕ) (xs : List A) (i : ℕ) (now all : List ℕ) → length xs ≤ i
+    → now ++ flat_map F (enumerate_from i (drop i xs)) ≡ all → now ≡ all
+numbered_all F xs i now all past h =
+    sym (append-nil now) ∙ (ap (λ ys. now ++ flat_map F (enumerate_from i ys)) (sym (drop_all i xs past)) ∙ h)
 
-shown_inside : (listing : Listing) (ks : List ℕ) (n : ℕ) → ((i d : ℕ) → i < length ks → get_or ks i d < n) → (i d : ℕ) → i < length (shown listing ks)
-    → get_or (shown listing ks) i d < n
-shown_inside listing ks n each i d lt =
-    let few = shown_length listing ks in
-    let low : i < shown_count listing (length ks) = omega (arith, lt, few) in
-    subst (λ m. m < n) (sym (get_or-take (shown_count listing (length ks)) ks i d low)) (each i d (count_inside listing i (length ks) low))
-  where
-    count_inside : (listing : Listing) (i m : ℕ) → i < shown_count listing m → i < m
-    count_inside how.Few i m low = omega (arith, low)
-    count_inside how.All i m low = low
+pub items_more : {A B : Type 0} (F : A → List B) (xs : List A) (i : ℕ) (x : A) (old new all : List B) → slice_get xs i ≡ Some x
+    → old ++ flat_map F (drop i xs) ≡ all → new ≡ old ++ F x → new ++ flat_map F (drop (i + 1) xs) ≡ all
+items_more F xs i x old new all at h e =
+    piece_more old new (F x) (flat_map F (drop (i + 1) xs)) all (ap (λ ys. old ++ flat_map F ys) (sym (split_at xs i x at)) ∙ h) e
 
-pub all_inside : (s : SolidData) (listing : Listing) (xs : List Faults) (ks seen : List ℕ) → length xs ≡ length s.shells → ks ≡ failing_shells xs
-    → seen ≡ shown listing ks → All (λ k. k < length s.shells) seen
-unfolding failing_shells
-all_inside s listing xs ks seen each is first =
-    subst (λ zs. All (λ k. k < length s.shells) zs) (sym first)
-    (λ i d lt. shown_inside listing ks (length s.shells)
-    (λ j e below. subst (λ zs. (j : ℕ) (e : ℕ) → j < length zs → get_or zs j e < length s.shells) (sym is)
-    (λ j e below. let n = failing_inside xs 0 j e below in omega (arith, n, each)) j e below) i d lt)
+pub items_all : {A B : Type 0} (F : A → List B) (xs : List A) (i : ℕ) (now all : List B) → length xs ≤ i → now ++ flat_map F (drop i xs) ≡ all → now ≡ all
+items_all F xs i now all past h = sym (append-nil now) ∙ (ap (λ ys. now ++ flat_map F ys) (sym (drop_all i xs past)) ∙ h)
+
+-- where there are none
+none_named : (listing : Listing) (s : SolidData) (rs : List Remedy) → (length rs == 0) ≡ true → flat_map (faces_named listing s) (written listing rs) ≡ []
+unfolding written
+none_named how.Few s [] none = refl
+none_named how.All s [] none = refl
+none_named listing s (r ∷ rs) none = absurd (let is : length (r ∷ rs) ≡ 0 = eqb-true (length (r ∷ rs)) 0 none in omega (arith, is))
+
+pub nothing_named : {T E : Type 0} (listing : Listing) (s : SolidData) (rs : List Remedy) (r : Result T E) (named : List EntryNo) → (length rs == 0) ≡ true
+    → OnOk r (named ≡ named ++ flat_map (faces_named listing s) (written listing rs))
+nothing_named listing s rs (Ok x) named none = sym (append-nil named) ∙ ap (λ ns. named ++ ns) (sym (none_named listing s rs none))
+nothing_named listing s rs (Err e) named none = tt
+
+pub below_known : (s : SolidData) (k : ℕ) (belows : List ℕ) (o : Option ℕ) → o ≡ slice_get belows k → EachBelow s belows → IfSome o (AreBelow s k)
+below_known s k belows None is each = tt
+below_known s k belows (Some n) is each = each k n (sym is)
+
+pub are_remedies : (f : Contents) (s : SolidData) (g : Geometry) (k : ℕ) (rs : List Remedy) → IsGeometryOf f s g → AreTried s g (record { 0 = k }) rs
+    → All (IsRemedy f s k) rs
+are_remedies f s g k rs known tried = λ i d lt. record { geometry = g; known = known; tried = tried i d lt }
+
+-- ---- the remedies of all shells
+
+-- remedies of these shells are told, with the faces that they name
+abbrev pub AreTold : Listing → Contents → SolidData → List ℕ → List ℕ → List ℕ → List EntryNo → List EntryNo → Type 0
+AreTold listing f s ks old new named more = (told : List ShellRemedies) × AreRemediesOf f s ks told
+    × (new ≡ old ++ flat_map (remedies_at listing f s) told) × (more ≡ named ++ flat_map (named_at listing s) told)
+
+pub none_told : (listing : Listing) (f : Contents) (s : SolidData) (out : List ℕ) (named : List EntryNo) → AreTold listing f s [] out out named named
+none_told listing f s out named = ([], record { shells = refl; each = λ i t at. absurd cc }, sym (append-nil out), sym (append-nil named))
+
+abbrev of_shell : ShellRemedies → ℕ
+of_shell t = t.0
+
+-- what is known of the remedies that were written
+pub put_so : {T E : Type 0} (listing : Listing) (f : Contents) (s : SolidData) (k : ℕ) (rs items : List Remedy) (r : Result T E) (old new : List ℕ)
+    (named more : List EntryNo) → All (IsRemedy f s k) rs → items ≡ rs → OnOk r (new ≡ old ++ remedies_text listing f s k items)
+    → OnOk r (more ≡ named ++ flat_map (faces_named listing s) (written listing items))
+    → IfOk r (λ _. (rs : List Remedy) × All (IsRemedy f s k) rs × (new ≡ old ++ remedies_text listing f s k rs)
+    × (more ≡ named ++ flat_map (faces_named listing s) (written listing rs)))
+put_so listing f s k rs items (Ok x) old new named more are same text faces =
+    (rs, are, text ∙ ap (λ ys. old ++ remedies_text listing f s k ys) same, faces ∙ ap (λ ys. named ++ flat_map (faces_named listing s) (written listing ys)) same)
+put_so listing f s k rs items (Err e) old new named more are same text faces = tt
+
+-- one shell more
+pub told_more : (listing : Listing) (f : Contents) (s : SolidData) (ks : List ℕ) (i k : ℕ) (rs : List Remedy) (old mid new : List ℕ) (named among more : List EntryNo)
+    → i < length ks → k ≡ get_or ks i 0 → AreTold listing f s (take i ks) old mid named among → All (IsRemedy f s k) rs
+    → new ≡ mid ++ remedies_text listing f s k rs → more ≡ among ++ flat_map (faces_named listing s) (written listing rs)
+    → AreTold listing f s (take (i + 1) ks) old new named more
+told_more listing f s ks i k rs old mid new named among more lt is (told, are, text, faces) remedies written_next faces_next =
+    let next : suc i ≡ i + 1 = omega arith in
+    let here : take i ks ++ k ∷ [] ≡ take (i + 1) ks =
+    ap (λ n. take i ks ++ n ∷ []) is ∙ (sym (take-suc ks i 0 lt) ∙ ap (λ n. take n ks) next) in (
+      told ++ (k, rs) ∷ [],
+      record {
+        shells = map-append of_shell told ((k, rs) ∷ []) ∙ (ap (λ ns. ns ++ k ∷ []) are.shells ∙ here);
+        each = one_more (λ j t. All (IsRemedy f s t.0) t.1) told (k, rs) are.each remedies;
+      },
+      written_next ∙ (ap (λ o. o ++ remedies_at listing f s (k, rs)) text ∙ flat_map_more (remedies_at listing f s) old told (k, rs)),
+      faces_next ∙ (ap (λ ns. ns ++ named_at listing s (k, rs)) faces ∙ flat_map_more (named_at listing s) named told (k, rs)),
+    )
+
+-- and all of them
+pub told_all : (listing : Listing) (f : Contents) (s : SolidData) (ks : List ℕ) (i : ℕ) (old new : List ℕ) (named more : List EntryNo) → length ks ≤ i
+    → AreTold listing f s (take i ks) old new named more → AreTold listing f s ks old new named more
+told_all listing f s ks i old new named more past told = subst (λ ns. AreTold listing f s ns old new named more) (take_all i ks past) told
+
+-- no shell at all
+pub none_of_none : (listing : Listing) (f : Contents) (s : SolidData) (ks out : List ℕ) (named : List EntryNo) → (length ks == 0) ≡ true
+    → AreTold listing f s ks out out named named
+none_of_none listing f s [] out named none = none_told listing f s out named
+none_of_none listing f s (k ∷ ks) out named none = absurd (let is : length (k ∷ ks) ≡ 0 = eqb-true (length (k ∷ ks)) 0 none in omega (arith, is))
+
+-- ---- the hint
+
+-- a hint, and what it names
+abbrev pub IsHinted : Listing → Contents → SolidData → List Faults → List ℕ → List ℕ → List ℕ → List EntryNo → List EntryNo → Type 0
+IsHinted listing f s xs ks old new named more = (told : List ShellRemedies) × (hint : List ℕ) × (faces : List EntryNo) × IsHint listing f s xs ks told hint faces
+    × (new ≡ old ++ hint) × (more ≡ named ++ faces)
 
 -- where flags are told
 pub flags_told : (listing : Listing) (f : Contents) (s : SolidData) (xs : List Faults) (ks : List ℕ) (unpaired b : Bool) (unset : ℕ) (old new : List ℕ)
     (named : List EntryNo) → unset ≡ unset_flags s → unpaired ≡ pair_fails xs ks → b ≡ true
-    → (IsTrue b ↔ (IsTrue unpaired × (0 < unset) × IsClosedFlagged s)) → new ≡ old ++ flags_hint unset
-    → (hint : List ℕ) × (faces : List EntryNo) × IsHint listing f s xs ks hint faces × (new ≡ old ++ hint) × (named ≡ named ++ faces)
+    → (IsTrue b ↔ (IsTrue unpaired × (0 < unset) × IsClosedFlagged s)) → new ≡ old ++ flags_hint unset → IsHinted listing f s xs ks old new named named
 flags_told listing f s xs ks unpaired b unset old new named is fails told exact text =
     let so = exact.0 told in (
+      [],
       flags_hint (unset_flags s),
       [],
-      inl ((subst (λ u. IsTrue u) fails so.0, subst (λ n. 0 < n) is so.1, so.2), refl, refl),
+      inl ((subst (λ u. IsTrue u) fails so.0, subst (λ n. 0 < n) is so.1, so.2), refl, refl, refl),
       text ∙ ap (λ n. old ++ flags_hint n) is,
       sym (append-nil named),
     )
 
 -- and where they aren't
-pub hints_told : (listing : Listing) (f : Contents) (s : SolidData) (xs : List Faults) (ks : List ℕ) (unpaired b : Bool) (unset : ℕ) (hs items : List Hints)
-    (old new : List ℕ) (named more : List EntryNo) → unset ≡ unset_flags s → unpaired ≡ pair_fails xs ks → b ≡ false
-    → (IsTrue b ↔ (IsTrue unpaired × (0 < unset) × IsClosedFlagged s)) → AreHintsOf f s ks hs → items ≡ hs
-    → new ≡ old ++ flat_map (hints_at listing f s xs) (zip ks items) → more ≡ named ++ flat_map (hint_faces_at listing s xs) (zip ks items)
-    → (hint : List ℕ) × (faces : List EntryNo) × IsHint listing f s xs ks hint faces × (new ≡ old ++ hint) × (more ≡ named ++ faces)
-hints_told listing f s xs ks unpaired b unset hs items old new named more is fails told exact hints same text faces = (
-  flat_map (hints_at listing f s xs) (zip ks hs),
-  flat_map (hint_faces_at listing s xs) (zip ks hs),
+pub hints_told : (listing : Listing) (f : Contents) (s : SolidData) (xs : List Faults) (ks : List ℕ) (unpaired b : Bool) (unset : ℕ) (old new : List ℕ)
+    (named more : List EntryNo) → unset ≡ unset_flags s → unpaired ≡ pair_fails xs ks → b ≡ false
+    → (IsTrue b ↔ (IsTrue unpaired × (0 < unset) × IsClosedFlagged s)) → AreTold listing f s ks old new named more
+    → IsHinted listing f s xs ks old new named more
+hints_told listing f s xs ks unpaired b unset old new named more is fails told exact (rs, are, text, faces) = (
+  rs,
+  flat_map (remedies_at listing f s) rs,
+  flat_map (named_at listing s) rs,
   inr (
     (λ so. let yes : b ≡ true = exact.1 (subst (λ u. IsTrue u) (sym fails) so.0, subst (λ n. 0 < n) (sym is) so.1, so.2) in absurd cc),
-    hs,
-    hints,
+    are,
     refl,
     refl,
   ),
-  text ∙ ap (λ ys. old ++ flat_map (hints_at listing f s xs) (zip ks ys)) same,
-  faces ∙ ap (λ ys. named ++ flat_map (hint_faces_at listing s xs) (zip ks ys)) same,
+  text,
+  faces,
 )
-
--- two facts of one result
-pub both_ok : {A E : Type 0} (r : Result A E) (P Q : A → Type 0) → IfOk r P → IfOk r Q → IfOk r (λ x. P x × Q x)
-both_ok (Ok x) P Q p q = (p, q)
-both_ok (Err e) P Q p q = tt

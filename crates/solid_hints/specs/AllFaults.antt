@@ -3,6 +3,7 @@ use Rattle.std.specs.Prelude.{◌≡◌, ℕ, ◌+◌, Bool, true, not, ◌&&◌
 use Rattle.iges_base.specs.Word.{is_empty}
 use Rattle.solid_data.specs.SolidData.{SolidData}
 use Rattle.solid_data.specs.declared.solid.Shell.{Shell}
+use Rattle.edge_uses.specs.Before.{AreBelow}
 use Rattle.solid_faults.specs.Faults.{Faults, Linking, AreFaults}
 use Rattle.solid_faults.specs.Parts.{faces_apart}
 
@@ -10,6 +11,10 @@ use Rattle.solid_faults.specs.Parts.{faces_apart}
 pub record AreAllFaults (s : SolidData) (xs : List Faults) : Type 0 where
   pub each : length xs ≡ length s.shells
   pub shell : (k : ℕ) (h : Shell) (x : Faults) → slice_get s.shells k ≡ Some h → slice_get xs k ≡ Some x → AreFaults s k h x
+
+-- at each place the number that the vertices of the shells before it lie below
+abbrev pub EachBelow : SolidData → List ℕ → Type 0
+EachBelow s belows = (k : ℕ) (n : ℕ) → slice_get belows k ≡ Some n → AreBelow s k n
 
 -- no vertex is unlinked, as far as fans are judged
 abbrev pub none_unlinked : Option Linking → Bool

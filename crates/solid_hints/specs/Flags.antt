@@ -9,7 +9,7 @@ use Rattle.solid_faults.specs.Faults.{Faults}
 use Rattle.where_text.specs.Spelled.{space_word}
 
 unfoldable pub flags_sentence : List ℕ
-flags_sentence = codes "  With every face flag read as 1 this solid is closed. If its writer lets a\n  face's flag speak of the surface alone, as Parasolid's translator does, the\n  part is sound; if not, the faces with flag 0 may be turned. The receiver may\n  turn them inside out: check their normals there, or send STEP. igesolid\n  reorient FILE N writes the solid with flags that fit, or says why it can't.\n"
+flags_sentence = codes "  With every face flag read as 1 this solid is closed. If its writer lets a\n  face's flag speak of the surface alone, as Parasolid's translator does, the\n  part is sound; if not, the faces with flag 0 may be turned. The receiver may\n  turn them inside out: check their normals there, or send STEP. igesolid\n  reorient FILE N writes the solid with flags that fit, not always all 1, or\n  says why it can't.\n"
 
 unfoldable pub flags_hint : ℕ → List ℕ
 flags_hint n = codes "hint face-flags faces" ++ space_word (decimal n) ++ codes "\n" ++ flags_sentence

@@ -15,7 +15,7 @@ use std::alloc::Global;
 use where_text::put_number;
 
 const FLAGS: &str =
-    "  With every face flag read as 1 this solid is closed. If its writer lets a\n  face's flag speak of the surface alone, as Parasolid's translator does, the\n  part is sound; if not, the faces with flag 0 may be turned. The receiver may\n  turn them inside out: check their normals there, or send STEP. igesolid\n  reorient FILE N writes the solid with flags that fit, or says why it can't.\n";
+    "  With every face flag read as 1 this solid is closed. If its writer lets a\n  face's flag speak of the surface alone, as Parasolid's translator does, the\n  part is sound; if not, the faces with flag 0 may be turned. The receiver may\n  turn them inside out: check their normals there, or send STEP. igesolid\n  reorient FILE N writes the solid with flags that fit, not always all 1, or\n  says why it can't.\n";
 
 // How many of the faces have the flag 0.
 fn unset_in(faces: &[FaceUse]) -> usize

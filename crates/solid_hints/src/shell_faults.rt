@@ -4,7 +4,7 @@ ghost use Rattle.iges_base.specs.Word.{is_empty};
 ghost use Rattle.solid_data.specs.Numbering.{IsNumberedSolid};
 ghost use Rattle.solid_faults.specs.Parts.{faces_apart};
 ghost use Rattle.std.specs.Prelude.{◌≡◌, ◌++◌, ◌∷◌, [], IfOk, OnOk, ◌<◌, Some, length, option_copied, slice_get, if◌then◌else◌};
-ghost use Rattle.solid_hints.specs.AllFaults.{AreAllFaults, failing_shells, is_failing, none_unlinked};
+ghost use Rattle.solid_hints.specs.AllFaults.{AreAllFaults, EachBelow, failing_shells, is_failing, none_unlinked};
 ghost use Rattle.solid_data.specs.declared.TheConstants.{PART_LIMIT};
 
 use edge_uses::rows;
@@ -40,6 +40,21 @@ pub fn all_faults(alloc: Global, solid: &Solid) -> Result<AllFaults, NoMemory>
         below = below_next(below, &rows);
     }
     Ok(all)
+}
+
+/// For each shell of a solid the number that the vertices of the shells before it lie below.
+pub fn belows(alloc: Global, solid: &Solid) -> Result<ItemList<usize>, NoMemory>
+    ensures { IfOk result (λ belows. EachBelow solid.now belows) }
+{
+    let count = solid.shell_count();
+    let mut belows = ItemList::with_room(alloc, count)?;
+    let mut below = 0;
+    'shells: for k in 0..count {
+        belows.push(below)?;
+        let rows = rows(alloc, solid, ShellAt(k as u32))?;
+        below = below_next(below, &rows);
+    }
+    Ok(belows)
 }
 
 // True where links weren't judged too: then something else fails.

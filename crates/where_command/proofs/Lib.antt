@@ -2,6 +2,5 @@ pub mod ShortWords
 pub mod GivenWords
 pub mod Outcomes
 pub mod OneFaults
-pub mod OneHints
 pub mod OneAnswer
 pub mod Laws

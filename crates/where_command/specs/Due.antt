@@ -1,5 +1,5 @@
 -- What is owed.
-use Rattle.std.specs.Prelude.{◌≡◌, ◌⊎◌, ℕ, ◌<◌, ◌≤◌, Bool, true, false, List, [], ◌++◌, length, MatchOption}
+use Rattle.std.specs.Prelude.{◌≡◌, ◌⊎◌, ℕ, ◌<◌, ◌≤◌, Bool, true, false, List, [], ◌++◌, length, MatchOption, Option}
 use Rattle.iges_base.specs.declared.TheConstants.{FILE_LIMIT}
 use Rattle.iges_lines.specs.declared.fault.LineFault.{LineFault}
 use Rattle.iges_params.specs.Refusal.{Refusal}
@@ -14,7 +14,8 @@ use Rattle.where_places.specs.PlacedFiles.{IsPlacedFile}
 use Rattle.where_file.specs.BadFile.{bad_file_facts}
 use Rattle.where_text.specs.Sentences.{reason_sentence}
 use Rattle.where_text.specs.declared.listing.Listing.{Listing}
-use Rattle.where_solids.specs.Overview.{IsOverview, all_close}
+use Rattle.solid_hints.specs.ShellHints.{ShellRemedies}
+use Rattle.where_overview.specs.Overview.{IsOverview, all_close}
 use Rattle.where_solids.specs.Told.{IsToldOf}
 use Rattle.where_command.specs.declared.asked.Asked.{Asked}
 use Rattle.where_command.specs.declared.asked.Asked.TheVariants as asked
@@ -39,22 +40,33 @@ abbrev pub answer_where : Bool → Answer
 answer_where true = answer.Done
 answer_where false = answer.No
 
--- of one solid of a file: its verdict, and where it fails
-abbrev pub OfSolid : ℕ → Listing → PlacedFile → Owed
-OfSolid n listing p a t = (v : Verdict) × IsToldOf listing p (record { 0 = n }) v t × (a ≡ answer_to v)
+-- of one solid of a file: its verdict, and where it fails, with these remedies of its shells
+abbrev pub OfSolid : ℕ → Listing → PlacedFile → List ShellRemedies → Owed
+OfSolid n listing p remedies a t = (v : Verdict) × IsToldOf listing p (record { 0 = n }) remedies v t × (a ≡ answer_to v)
 
--- of all solids of a file: the verdict on each
+-- of all solids of a file: the verdict on each that is judged
 abbrev pub OfOverview : PlacedFile → Owed
-OfOverview p a t = (vs : List Verdict) × IsOverview p vs t × (a ≡ answer_where (all_close vs))
+OfOverview p a t = (vs : List (Option Verdict)) × IsOverview p vs t × (a ≡ answer_where (all_close vs))
 
-abbrev pub OfContents : Asked → PlacedFile → Owed
-OfContents asked.Overview p = OfOverview p
-OfContents (asked.Solid n listing) p = OfSolid n listing p
+-- no remedies are told of all solids
+abbrev pub OfContents : Asked → PlacedFile → List ShellRemedies → Owed
+OfContents asked.Overview p remedies a t = (remedies ≡ []) × OfOverview p a t
+OfContents (asked.Solid n listing) p remedies a t = OfSolid n listing p remedies a t
 
--- what is owed of a file's bytes
-abbrev pub DueOf : Asked → List ℕ → Owed
-DueOf q bytes a t = OfNoFile bytes a t ⊎ ((length bytes ≤ FILE_LIMIT) × (p : PlacedFile) × IsPlacedFile bytes p × OfContents q p a t)
+-- what is owed of a file's bytes, with these remedies
+abbrev pub DueOf : Asked → List ℕ → List ShellRemedies → Owed
+DueOf q bytes remedies a t = ((remedies ≡ []) × OfNoFile bytes a t)
+    ⊎ ((length bytes ≤ FILE_LIMIT) × (p : PlacedFile) × IsPlacedFile bytes p × OfContents q p remedies a t)
 
--- what is owed for these words and the file's bytes
+-- with some remedies
+abbrev pub DueFor : Asked → List ℕ → Owed
+DueFor q bytes a t = (remedies : List ShellRemedies) × DueOf q bytes remedies a t
+
+-- what is owed for these words and the file's bytes, with these remedies
+abbrev pub DueWith : List ShellRemedies → List (List ℕ) → List ℕ → Owed
+DueWith remedies words bytes a t =
+    MatchOption (asked_of words) ((remedies ≡ []) × Exactly answer.Usage usage_line a t) (λ q. DueOf q bytes remedies a t)
+
+-- what is owed: with some remedies. It stays open which they are.
 abbrev pub Due : List (List ℕ) → List ℕ → Owed
-Due words bytes a t = MatchOption (asked_of words) (Exactly answer.Usage usage_line a t) (λ q. DueOf q bytes a t)
+Due words bytes a t = (remedies : List ShellRemedies) × DueWith remedies words bytes a t

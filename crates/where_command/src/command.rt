@@ -5,7 +5,7 @@ ghost use Rattle.iges_io.specs.Faults.{Rose};
 ghost use Rattle.iges_io.specs.Reading.{TakesAtMost};
 ghost use Rattle.std.specs.Prelude.{◌≡◌, ◌+◌, ◌<◌, ◌⊎◌, IfOk, IsErrOf, IsNone, IsSome};
 ghost use Rattle.where_command.specs.Asked.{asked_of};
-ghost use Rattle.where_command.specs.Due.{DueOf};
+ghost use Rattle.where_command.specs.Due.{DueFor};
 ghost use Rattle.command_replies.specs.Ending.{IsComplete, Outcome};
 ghost use Rattle.where_command.specs.Owed.{IsOwed};
 
@@ -20,7 +20,7 @@ use std::alloc::Global;
 // The reply to what is asked of the file of a source.
 fn source_reply<F: Source>(alloc: Global, asked: Asked, file: &mut F) -> Result<Reply, Stop>
     requires { F.can_read file.old }
-    ensures found { IfOk result (IsReply (DueOf asked) (F.left file.old)) }
+    ensures found { IfOk result (IsReply (DueFor asked) (F.left file.old)) }
     ensures whole { IfOk result (λ reply. ReadsWhole (F.left file.new) reply.answer) }
     ensures count { CountAfterCall (F.faults file.old) (F.faults file.new) result }
     ensures taken { TakesWithin FILE_LIMIT (F.left file.old) (F.left file.new) result }

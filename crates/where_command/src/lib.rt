@@ -10,5 +10,5 @@ mod words;
 
 pub use asked::Asked;
 pub use command::run_where;
-pub use law::{closed_is_told, one_answer};
+pub use law::{closed_is_told, one_answer, told_remedies_pass};
 pub use words::Words;

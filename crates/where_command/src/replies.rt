@@ -1,6 +1,7 @@
 //! The replies to what is asked of a file.
 
-ghost use Rattle.std.specs.Prelude.{◌≡◌, IfOk};
+ghost use Rattle.solid_hints.specs.ShellHints.{ShellRemedies};
+ghost use Rattle.std.specs.Prelude.{◌≡◌, IfOk, List};
 ghost use Rattle.where_command.specs.Asked.{usage_line};
 ghost use Rattle.where_command.specs.Due.{OfContents, OfOverview, OfSolid, answer_to, answer_where};
 
@@ -9,8 +10,9 @@ use command_replies::{Answer, Reply};
 use iges_fields::{Bytes, EntryNo, NoMemory};
 use solid_data::Verdict;
 use std::alloc::Global;
+use where_overview::tell_all;
 use where_places::PlacedFile;
-use where_solids::{tell, tell_all};
+use where_solids::tell;
 use where_text::Listing;
 
 const USAGE: &[u8] = b"usage: igesolid-where FILE [N [all]]\n";
@@ -47,7 +49,8 @@ fn solid_reply(
     no: u32,
     listing: Listing,
 ) -> Result<Reply, NoMemory>
-    ensures { IfOk result (λ reply. OfSolid no listing placed.now reply.answer reply.text) }
+    ensures { IfOk result (λ reply. (remedies : List ShellRemedies)
+        × OfSolid no listing placed.now remedies reply.answer reply.text) }
 {
     let told = tell(alloc, placed, EntryNo(no), listing)?;
     Ok(Reply {
@@ -68,7 +71,8 @@ fn overview_reply(alloc: Global, placed: &PlacedFile) -> Result<Reply, NoMemory>
 
 /// The reply to what is asked of a file.
 pub fn contents_reply(alloc: Global, asked: Asked, placed: &PlacedFile) -> Result<Reply, NoMemory>
-    ensures { IfOk result (λ reply. OfContents asked placed.now reply.answer reply.text) }
+    ensures { IfOk result (λ reply. (remedies : List ShellRemedies)
+        × OfContents asked placed.now remedies reply.answer reply.text) }
 {
     match asked {
         Asked::Overview => overview_reply(alloc, placed),

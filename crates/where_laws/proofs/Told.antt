@@ -1,5 +1,5 @@
 -- Of each solid something is told.
-use Rattle.std.specs.Prelude.{◌≡◌, ◌⊎◌, ℕ, zero, suc, ◌+◌, true, List, [], ◌∷◌, ◌++◌, length, flat_map, zip, Option, Some, None, slice_get}
+use Rattle.std.specs.Prelude.{◌≡◌, ◌⊎◌, ℕ, zero, suc, ◌+◌, Bool, true, false, List, [], ◌∷◌, ◌++◌, All, length, map, flat_map, Option, Some, None, slice_get}
 use Rattle.std.proofs.Common.{refl, sym, ◌∙◌, ap, subst, arith, inl, inr}
 use Rattle.std.proofs.lemmas.Option.{same_Some, none-some}
 use Rattle.iges_base.specs.declared.entry_no.EntryNo.{EntryNo}
@@ -17,6 +17,11 @@ use Rattle.solid_data.specs.declared.solid.Shell.{Shell}
 use Rattle.solid_data.specs.declared.verdict.Failing.{Failing}
 use Rattle.solid_data.specs.declared.verdict.Verdict.{Verdict}
 use Rattle.solid_data.proofs.Decisions.{Decided, decided_below, decided_bool, decided_three}
+use Rattle.solid_data.proofs.ObligationLemmas.{FirstFalse-not_all}
+use Rattle.shell_rules.specs.Closed.{IsClosedSolid}
+use Rattle.shell_rules.specs.ShellObligations.{solid_obligations}
+use Rattle.shell_rules.proofs.ClosedLemmas.{closed_is_all_hold}
+use Rattle.shell_rules.proofs.Decided.{solid_decided}
 use Rattle.solid_data.proofs.ObligationsDecided.{all_or_first_false, some_verdict}
 use Rattle.solid_verdict.specs.Closed.{IsVerdictOn, obligations}
 use Rattle.solid_verdict.proofs.Closed.{obligations_decided}
@@ -26,17 +31,13 @@ use Rattle.fault_laws.proofs.Found.{some_faults}
 use Rattle.record_paths.specs.Paths.{all_owed, sited}
 use Rattle.record_paths.proofs.Bearing.{first_bears}
 use Rattle.record_paths.proofs.Same.{same_sited}
-use Rattle.where_hints.specs.Facts.{Hints}
-use Rattle.hint_laws.proofs.SomeBodies.{closed_decided}
-use Rattle.hint_laws.proofs.SomeHints.{some_hints}
 use Rattle.where_text.specs.declared.listing.Listing.{Listing}
 use Rattle.where_text.specs.Listing.{shown}
 use Rattle.solid_hints.specs.AllFaults.{AreAllFaults, failing_shells}
 use Rattle.solid_hints.specs.Flags.{flags_hint, pair_fails, unset_flags}
 use Rattle.where_solids.specs.Lines.{verdict_line}
-use Rattle.where_solids.specs.Overview.{AreVerdicts}
-use Rattle.solid_hints.specs.ShellHints.{AreHintsOf, AreShellHints, IsHint, TellsFlags, hint_faces_at, hints_at}
-use Rattle.alike_vertices.specs.Alike.{alike_of, spellings}
+use Rattle.where_overview.specs.Overview.{AreVerdicts, has_room, is_judged, judged_from, size_of, total_after}
+use Rattle.solid_hints.specs.ShellHints.{AreRemediesOf, IsHint, IsRemedy, ShellRemedies, TellsFlags, named_at, remedies_at}
 use Rattle.where_places.specs.declared.placed_file.PlacedFile.{PlacedFile}
 use Rattle.where_solids.specs.ShellTexts.{shell_lines, shell_texts}
 use Rattle.where_solids.specs.Told.{IsToldOf, record_rest}
@@ -76,100 +77,99 @@ some_all s numbered =
 
 -- ---- the hints
 
--- of a shell that may not be there
-hints_at_shell : (f : Contents) (s : SolidData) → IsNumberedSolid s → (k : ℕ) → (x : Hints) × ((h : Shell) → slice_get s.shells k ≡ Some h → AreShellHints f s k h x)
-hints_at_shell f s numbered k = by_shell (slice_get s.shells k) refl
+closed_decided : (s : SolidData) → Decided (IsClosedSolid s)
+closed_decided s = by_first (all_or_first_false (solid_obligations s) (solid_decided s))
   where
-    by_shell : (o : Option Shell) → slice_get s.shells k ≡ o → (x : Hints) × ((h : Shell) → slice_get s.shells k ≡ Some h → AreShellHints f s k h x)
-    by_shell None at = (
-      record { bodies = None; doubled = None; extra = None; unsewn = None; missing = None; turns = None; touching = None; crowded = None; pinched = None; shared = None },
-      λ h there. absurd (none-some h (sym at ∙ there)),
-    )
-    by_shell (Some g) at =
-        let x = some_hints s k g (alike_of (spellings f s)) numbered at in
-        (x.0, λ h there. subst (λ t. AreShellHints f s k t x.0) (same_Some g h (sym at ∙ there)) (x.1, x.2, x.3))
+    by_first : AllHold (solid_obligations s) ⊎ ((x : Failing) × FirstFalse (solid_obligations s) x) → Decided (IsClosedSolid s)
+    by_first (inl all) = let both = closed_is_all_hold s in inl (both.1 all)
+    by_first (inr (x, first)) = inr (λ closed. let both = closed_is_all_hold s in FirstFalse-not_all (solid_obligations s) x first (both.0 closed))
 
-hints_of_shells : (f : Contents) (s : SolidData) → IsNumberedSolid s → (ks : List ℕ) → (xs : List Hints) × AreHintsOf f s ks xs
-hints_of_shells f s numbered [] = ([], record { each = refl; shell = λ i x at k h of_k there. absurd cc })
-hints_of_shells f s numbered (m ∷ ks) =
-    let first = hints_at_shell f s numbered m in
-    let rest = hints_of_shells f s numbered ks in (
-      first.0 ∷ rest.0,
-      record { each = ap suc rest.1.each; shell = λ i x at k h of_k there. by_place first.0 rest.0 first.1 rest.1.shell i x at k h of_k there },
-    )
+-- of each shell no remedies
+no_remedies : (f : Contents) (s : SolidData) (ks : List ℕ) → (told : List ShellRemedies) × AreRemediesOf f s ks told
+no_remedies f s [] = ([], record { shells = refl; each = λ i t at. absurd (none-some t at) })
+no_remedies f s (k ∷ ks) =
+    let rest = no_remedies f s ks in
+    ((k, []) ∷ rest.0, record { shells = ap (λ ns. k ∷ ns) rest.1.shells; each = λ i t at. by_place rest.0 rest.1.each i t at })
   where
-    by_place : (y : Hints) (ys : List Hints) → ((h : Shell) → slice_get s.shells m ≡ Some h → AreShellHints f s m h y)
-        → ((i : ℕ) (x : Hints) → slice_get ys i ≡ Some x → (k : ℕ) (h : Shell) → slice_get ks i ≡ Some k → slice_get s.shells k ≡ Some h → AreShellHints f s k h x)
-        → (i : ℕ) (x : Hints) → slice_get (y ∷ ys) i ≡ Some x → (k : ℕ) (h : Shell) → slice_get (m ∷ ks) i ≡ Some k → slice_get s.shells k ≡ Some h
-        → AreShellHints f s k h x
-    by_place y ys first more zero x at k h of_k there =
-        let is : m ≡ k = same_Some m k of_k in
-        subst (λ z. AreShellHints f s k h z) (same_Some y x at)
-        (subst (λ j. AreShellHints f s j h y) is (first h (subst (λ j. slice_get s.shells j ≡ Some h) (sym is) there)))
-    by_place y ys first more (suc i) x at k h of_k there = more i x at k h of_k there
+    by_place : (told : List ShellRemedies) → ((i : ℕ) (t : ShellRemedies) → slice_get told i ≡ Some t → All (IsRemedy f s t.0) t.1) → (i : ℕ) (t : ShellRemedies)
+        → slice_get ((k, []) ∷ told) i ≡ Some t → All (IsRemedy f s t.0) t.1
+    by_place told each zero t at = subst (λ (x : ShellRemedies). All (IsRemedy f s x.0) x.1) (same_Some (k, []) t at) (λ i d lt. absurd (omega (arith, lt)))
+    by_place told each (suc i) t at = each i t at
 
-some_hint : (listing : Listing) (f : Contents) (s : SolidData) → IsNumberedSolid s → (faults : List Faults) (ks : List ℕ)
-    → (hint : List ℕ) × (faces : List EntryNo) × IsHint listing f s faults ks hint faces
-some_hint listing f s numbered faults ks =
+some_hint : (listing : Listing) (f : Contents) (s : SolidData) (faults : List Faults) (ks : List ℕ)
+    → (told : List ShellRemedies) × (hint : List ℕ) × (faces : List EntryNo) × IsHint listing f s faults ks told hint faces
+some_hint listing f s faults ks =
     by_flags (decided_three (decided_bool (pair_fails faults ks) true) (decided_below 0 (unset_flags s)) (closed_decided (flagged_solid s)))
   where
-    by_flags : Decided (TellsFlags s (pair_fails faults ks)) → (hint : List ℕ) × (faces : List EntryNo) × IsHint listing f s faults ks hint faces
-    by_flags (inl tells) = (flags_hint (unset_flags s), [], inl (tells, refl, refl))
+    by_flags : Decided (TellsFlags s (pair_fails faults ks))
+        → (told : List ShellRemedies) × (hint : List ℕ) × (faces : List EntryNo) × IsHint listing f s faults ks told hint faces
+    by_flags (inl tells) = ([], flags_hint (unset_flags s), [], inl (tells, refl, refl, refl))
     by_flags (inr never) =
-        let xs = hints_of_shells f s numbered ks in (
-          flat_map (hints_at listing f s faults) (zip ks xs.0),
-          flat_map (hint_faces_at listing s faults) (zip ks xs.0),
-          inr (never, xs.0, xs.1, refl, refl),
-        )
+        let xs = no_remedies f s ks in
+        (xs.0, flat_map (remedies_at listing f s) xs.0, flat_map (named_at listing s) xs.0, inr (never, xs.1, refl, refl))
 
 -- ---- a solid
 
 module _ (listing : Listing) (p : PlacedFile) (n : EntryNo) where
-  pub some_told : FitsLimits p.file → (v : Verdict) × (t : List ℕ) × IsToldOf listing p n v t
+  pub some_told : FitsLimits p.file → (remedies : List ShellRemedies) × (v : Verdict) × (t : List ℕ) × IsToldOf listing p n remedies v t
   some_told limits = by_places (all_or_first_false (places p.file n.0) (places_decided p.file n.0)) (some_verdict (obligations p.file n.0) (obligations_decided p.file n.0))
     where
       by_places : AllHold (places p.file n.0) ⊎ ((x : Failing) × FirstFalse (places p.file n.0) x) → (v : Verdict) × IsVerdictOn p.file n.0 v
-          → (v : Verdict) × (t : List ℕ) × IsToldOf listing p n v t
+          → (remedies : List ShellRemedies) × (v : Verdict) × (t : List ℕ) × IsToldOf listing p n remedies v t
       by_places (inl placed) (v, judged) =
           let s : SolidData = solid_of p.file n.0 in
           let numbered : IsNumberedSolid s = solid_is_numbered p.file n.0 placed (has_few_parts p.file n.0 limits placed) in
           let all = some_all s numbered in
-          let hint = some_hint listing p.file s numbered all.0 (shown listing (failing_shells all.0)) in
-          let rest : List ℕ = shell_lines listing p.file s all.0 ++ hint.0 ++ shell_texts listing p s all.0 hint.1 in (
+          let hint = some_hint listing p.file s all.0 (shown listing (failing_shells all.0)) in
+          let rest : List ℕ = shell_lines listing p.file s all.0 ++ hint.1 ++ shell_texts listing p s all.0 hint.2 in (
+            hint.0,
             v,
             verdict_line n.0 v ++ rest,
             record {
               judged = judged;
               rest = rest;
-              told = inr (record { placed = placed; faults = all.0; all = all.1; hint = hint.0; faces = hint.1; is_hint = hint.2; rest_is = refl });
+              told = inr (record { placed = placed; faults = all.0; all = all.1; hint = hint.1; faces = hint.2; is_hint = hint.3; rest_is = refl });
               text_is = refl;
             },
           )
       by_places (inr (x, first)) (v, judged) =
           let path = some_path x (sited p.file n.0) (same_bears (all_owed (sited p.file n.0)) (places p.file n.0) x (same_sited p.file n.0) (first_bears (places p.file n.0) x first)) in
           let rest : List ℕ = record_rest p n x path.0 in (
+            [],
             v,
             verdict_line n.0 v ++ rest,
             record {
               judged = judged;
               rest = rest;
-              told = inl (record { failing = x; first = first; path = path.0; leads = path.1; rest_is = refl });
+              told = inl (record { failing = x; first = first; path = path.0; leads = path.1; none = refl; rest_is = refl });
               text_is = refl;
             },
           )
 
 -- ---- all solids
 
-pub some_verdicts : (f : Contents) (ns : List EntryNo) → (vs : List Verdict) × AreVerdicts f ns vs
-some_verdicts f [] = ([], record { each = refl; verdict = λ i n v at there. absurd cc })
-some_verdicts f (m ∷ ns) =
-    let first = some_verdict (obligations f m.0) (obligations_decided f m.0) in
-    let rest = some_verdicts f ns in
-    (first.0 ∷ rest.0, record { each = ap suc rest.1.each; verdict = λ i n v at there. by_place first.0 rest.0 first.1 rest.1.verdict i n v at there })
+some_from : (f : Contents) (limit total : ℕ) (ns : List EntryNo) → (vs : List (Option Verdict))
+    × (map is_judged vs ≡ judged_from limit total (map (size_of f) ns))
+    × ((i : ℕ) (n : EntryNo) (v : Verdict) → slice_get ns i ≡ Some n → slice_get vs i ≡ Some (Some v) → IsVerdictOn f n.0 v)
+some_from f limit total [] = ([], refl, λ i n v at there. absurd (none-some n at))
+some_from f limit total (m ∷ ns) =
+    let rest = some_from f limit (total_after limit total (size_of f m)) ns in
+    let first = next (has_room limit total (size_of f m)) (some_verdict (obligations f m.0) (obligations_decided f m.0)) in (
+      first.0 ∷ rest.0,
+      ap (λ b. b ∷ map is_judged rest.0) first.1 ∙ ap (λ bs. has_room limit total (size_of f m) ∷ bs) rest.1,
+      λ i n v at there. by_place first.0 rest.0 first.2 rest.2 i n v at there,
+    )
   where
-    by_place : (w : Verdict) (vs : List Verdict) → IsVerdictOn f m.0 w
-        → ((i : ℕ) (n : EntryNo) (v : Verdict) → slice_get ns i ≡ Some n → slice_get vs i ≡ Some v → IsVerdictOn f n.0 v)
-        → (i : ℕ) (n : EntryNo) (v : Verdict) → slice_get (m ∷ ns) i ≡ Some n → slice_get (w ∷ vs) i ≡ Some v → IsVerdictOn f n.0 v
+    next : (room : Bool) → (v : Verdict) × IsVerdictOn f m.0 v → (o : Option Verdict) × (is_judged o ≡ room) × ((v : Verdict) → o ≡ Some v → IsVerdictOn f m.0 v)
+    next false judged = (None, refl, λ v is. absurd (none-some v is))
+    next true judged = (Some judged.0, refl, λ v is. subst (IsVerdictOn f m.0) (same_Some judged.0 v is) judged.1)
+
+    by_place : (w : Option Verdict) (vs : List (Option Verdict)) → ((v : Verdict) → w ≡ Some v → IsVerdictOn f m.0 v)
+        → ((i : ℕ) (n : EntryNo) (v : Verdict) → slice_get ns i ≡ Some n → slice_get vs i ≡ Some (Some v) → IsVerdictOn f n.0 v)
+        → (i : ℕ) (n : EntryNo) (v : Verdict) → slice_get (m ∷ ns) i ≡ Some n → slice_get (w ∷ vs) i ≡ Some (Some v) → IsVerdictOn f n.0 v
     by_place w vs first more zero n v at there =
-        subst (λ (x : EntryNo). IsVerdictOn f x.0 v) (same_Some m n at) (subst (IsVerdictOn f m.0) (same_Some w v there) first)
+        subst (λ (x : EntryNo). IsVerdictOn f x.0 v) (same_Some m n at) (first v (same_Some w (Some v) there))
     by_place w vs first more (suc i) n v at there = more i n v at there
+
+pub some_verdicts : (f : Contents) (limit : ℕ) (ns : List EntryNo) → (vs : List (Option Verdict)) × AreVerdicts f limit ns vs
+some_verdicts f limit ns = let found = some_from f limit 0 ns in (found.0, record { judged = found.1; verdict = found.2 })

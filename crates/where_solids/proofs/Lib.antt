@@ -2,5 +2,3 @@ pub mod Judged
 pub mod FirstFailing
 pub mod VerdictSteps
 pub mod ToldSolids
-pub mod SameShells
-pub mod LoneShells

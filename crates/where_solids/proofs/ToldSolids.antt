@@ -1,6 +1,5 @@
 -- What is told of a solid, put together.
-use Rattle.std.specs.Prelude.{◌≡◌, ℕ, ◌-◌, Bool, ◌&&◌, ◌==◌, nat_lt, List, [], ◌∷◌, ◌++◌, Option, length, flat_map, zip}
-use Rattle.std.specs.Prelude.{count_by}
+use Rattle.std.specs.Prelude.{◌≡◌, ℕ, ◌-◌, List, [], ◌∷◌, ◌++◌, Option, length, flat_map}
 use Rattle.std.proofs.Common.{refl, sym, ap, ◌∙◌, subst, inl, inr, append_assoc}
 use Rattle.iges_base.specs.declared.entry_no.EntryNo.{EntryNo}
 use Rattle.iges_params.specs.Contents.{Contents}
@@ -23,11 +22,8 @@ use Rattle.where_text.specs.Listing.{left_line, shown, shown_count}
 use Rattle.where_text.proofs.Steps.{shown_length}
 use Rattle.solid_hints.specs.AllFaults.{AreAllFaults, failing_shells}
 use Rattle.where_entities.specs.Entities.{entities_text}
-use Rattle.where_unjudged.specs.Listed.{solids_of}
-use Rattle.where_unjudged.specs.Unjudged.{unjudged_text}
-use Rattle.where_solids.specs.Overview.{AreVerdicts, IsOverview, all_close, fails, overview_end, overview_start, overview_text, solid_paragraph}
 use Rattle.where_solids.specs.Lines.{line_at, shells_line, units_line, verdict_line}
-use Rattle.solid_hints.specs.ShellHints.{IsHint}
+use Rattle.solid_hints.specs.ShellHints.{IsHint, ShellRemedies}
 use Rattle.where_solids.specs.ShellTexts.{named_at, paragraphs_at, shell_lines, shell_texts}
 use Rattle.where_solids.specs.Told.{IsToldOf, record_rest}
 use Rattle.where_solids.proofs.VerdictSteps.{verdict_rest}
@@ -49,41 +45,48 @@ whole start line text head rest none first last = last ∙ (ap (λ xs. xs ++ res
 
 pub told_records : (listing : Listing) (p : PlacedFile) (n : EntryNo) (x : Failing) (path : Option Path) (start line text : List ℕ) → FirstFalse (places p.file n.0) x
     → IsPathTo x (sited p.file n.0) path
-    → start ≡ [] → line ≡ start ++ verdict_line n.0 (Fails x) → text ≡ line ++ record_rest p n x path → IsToldOf listing p n (Fails x) text
-told_records listing p n x path start line text first leads none head last = record {
-  judged = fails_on p.file n.0 x first;
-  rest = record_rest p n x path;
-  told = inl (record { failing = x; first = first; path = path; leads = leads; rest_is = refl });
-  text_is = whole start line text (verdict_line n.0 (Fails x)) (record_rest p n x path) none head last;
-}
+    → start ≡ [] → line ≡ start ++ verdict_line n.0 (Fails x) → text ≡ line ++ record_rest p n x path
+    → (remedies : List ShellRemedies) × IsToldOf listing p n remedies (Fails x) text
+told_records listing p n x path start line text first leads none head last = (
+  [],
+  record {
+    judged = fails_on p.file n.0 x first;
+    rest = record_rest p n x path;
+    told = inl (record { failing = x; first = first; path = path; leads = leads; none = refl; rest_is = refl });
+    text_is = whole start line text (verdict_line n.0 (Fails x)) (record_rest p n x path) none head last;
+  },
+)
 
 -- the hint, and what is told of the shells after it
 pub record IsShellsRest (listing : Listing) (p : PlacedFile) (s : SolidData) (xs : List Faults) (rest : List ℕ) : Type 0 where
+  pub remedies : List ShellRemedies
   pub hint : List ℕ
   pub faces : List EntryNo
-  pub is_hint : IsHint listing p.file s xs (shown listing (failing_shells xs)) hint faces
+  pub is_hint : IsHint listing p.file s xs (shown listing (failing_shells xs)) remedies hint faces
   pub rest_is : rest ≡ shell_lines listing p.file s xs ++ hint ++ shell_texts listing p s xs faces
 
 pub told_shells : (listing : Listing) (p : PlacedFile) (n : EntryNo) (s : SolidData) (v : Verdict) (xs : List Faults) (start line text rest : List ℕ)
     → s ≡ solid_of p.file n.0 → AllHold (places p.file n.0)
     → AreAllFaults s xs → IsVerdict (solid_obligations s) v → IsShellsRest listing p s xs rest → start ≡ [] → line ≡ start ++ verdict_line n.0 v
-    → text ≡ line ++ rest → IsToldOf listing p n v text
+    → text ≡ line ++ rest → (remedies : List ShellRemedies) × IsToldOf listing p n remedies v text
 told_shells listing p n s v xs start line text rest is placed all judged told none head last =
-    let here : IsShellsRest listing p (solid_of p.file n.0) xs rest = subst (λ s. IsShellsRest listing p s xs rest) is told in
-    record {
-      judged = judged_on p.file n.0 s v is placed judged;
-      rest = rest;
-      told = inr (record {
-        placed = placed;
-        faults = xs;
-        all = subst (λ s. AreAllFaults s xs) is all;
-        hint = here.hint;
-        faces = here.faces;
-        is_hint = here.is_hint;
-        rest_is = here.rest_is;
-      });
-      text_is = whole start line text (verdict_line n.0 v) rest none head last;
-    }
+    let here : IsShellsRest listing p (solid_of p.file n.0) xs rest = subst (λ s. IsShellsRest listing p s xs rest) is told in (
+      here.remedies,
+      record {
+        judged = judged_on p.file n.0 s v is placed judged;
+        rest = rest;
+        told = inr (record {
+          placed = placed;
+          faults = xs;
+          all = subst (λ s. AreAllFaults s xs) is all;
+          hint = here.hint;
+          faces = here.faces;
+          is_hint = here.is_hint;
+          rest_is = here.rest_is;
+        });
+        text_is = whole start line text (verdict_line n.0 v) rest none head last;
+      },
+    )
 
 pub lines_are : (listing : Listing) (f : Contents) (s : SolidData) (xs : List Faults) (lines ks : List ℕ) (m j : ℕ) → ks ≡ failing_shells xs
     → lines ≡ flat_map (line_at s xs) (shown listing ks)
@@ -103,32 +106,6 @@ lines_are listing f s xs lines ks m j is text count few =
 pub three_more : (old one two new a b c : List ℕ) → one ≡ old ++ a → two ≡ one ++ b → new ≡ two ++ c → new ≡ old ++ (a ++ b ++ c)
 three_more old one two new a b c e f g = g ∙ (ap (λ xs. xs ++ c) (f ∙ (ap (λ xs. xs ++ b) e ∙ append_assoc old a b)) ∙ append_assoc old (a ++ b) c)
 
--- the text on all solids, once the line of the counts, the solids and the rest are written
-pub text_told : (p : PlacedFile) (ns items : List EntryNo) (vs judged : List Verdict) (m : ℕ) (start one two three text : List ℕ) → start ≡ []
-    → one ≡ start ++ overview_start vs → items ≡ ns → judged ≡ vs → two ≡ one ++ flat_map (solid_paragraph p) (zip items judged) → m ≡ length ns
-    → three ≡ two ++ (unjudged_text p.file ++ overview_end m) → text ≡ three
-    → text ≡ overview_start vs ++ flat_map (solid_paragraph p) (zip ns vs) ++ (unjudged_text p.file ++ overview_end (length ns))
-text_told p ns items vs judged m start one two three text none head same is told count tail last =
-    last ∙ (three_more start one two three (overview_start vs) (flat_map (solid_paragraph p) (zip ns vs)) (unjudged_text p.file ++ overview_end (length ns))
-    head (told ∙ ap (λ xs. one ++ flat_map (solid_paragraph p) xs) (ap (λ xs. zip xs judged) same ∙ ap (zip ns) is))
-    (tail ∙ ap (λ n. two ++ (unjudged_text p.file ++ overview_end n)) count)
-    ∙ ap (λ xs. xs ++ (overview_start vs ++ flat_map (solid_paragraph p) (zip ns vs) ++ (unjudged_text p.file ++ overview_end (length ns)))) none)
-
-pub all_told : (p : PlacedFile) (ns listed : List EntryNo) (vs judged : List Verdict) (m n : ℕ) (b : Bool) (text : List ℕ) → ns ≡ solids_of p.file → listed ≡ ns
-    → AreVerdicts p.file listed vs → judged ≡ vs → m ≡ length ns
-    → n ≡ count_by fails judged → b ≡ (nat_lt 0 m && n == 0) → text ≡ overview_start vs ++ flat_map (solid_paragraph p) (zip ns vs) ++ (unjudged_text p.file ++ overview_end (length ns))
-    → (ws : List Verdict) × IsOverview p ws text × (b ≡ all_close ws)
-unfolding overview_text
-all_told p ns listed vs judged m n b text solids same verdicts is many failing closed told =
-    let each : m ≡ length vs = many ∙ (ap (λ xs. length xs) (sym same) ∙ sym verdicts.each) in (
-      vs,
-      record {
-        judged = subst (λ xs. AreVerdicts p.file xs vs) (same ∙ solids) verdicts;
-        text_is = told ∙ ap (λ xs. overview_start vs ++ flat_map (solid_paragraph p) (zip xs vs) ++ (unjudged_text p.file ++ overview_end (length xs))) solids;
-      },
-      closed ∙ (ap (λ k. nat_lt 0 k && n == 0) each ∙ ap (λ k. nat_lt 0 (length vs) && k == 0) (failing ∙ ap (count_by fails) is)),
-    )
-
 -- the lines between the verdict and the hints
 pub lines_written : (listing : Listing) (f : Contents) (s : SolidData) (xs : List Faults) (ks seen : List ℕ) (count m j : ℕ) (o0 o1 o2 o3 o4 : List ℕ)
     → ks ≡ failing_shells xs → seen ≡ shown listing ks → count ≡ length s.shells → m ≡ length ks → j ≡ length seen → o1 ≡ o0 ++ units_line f
@@ -145,24 +122,26 @@ lines_written listing f s xs ks seen count m j o0 o1 o2 o3 o4 is first shells ma
 pub rest_written : (listing : Listing) (f : Contents) (p : PlacedFile) (s : SolidData) (xs : List Faults) (ks seen : List ℕ) (n0 n1 n2 : List EntryNo)
     (o0 o1 o2 o3 o4 : List ℕ)
     → f ≡ p.file → ks ≡ failing_shells xs → seen ≡ shown listing ks → n0 ≡ s.entity ∷ [] → o1 ≡ o0 ++ shell_lines listing f s xs
-    → (hint : List ℕ) × (faces : List EntryNo) × IsHint listing f s xs seen hint faces × (o2 ≡ o1 ++ hint) × (n1 ≡ n0 ++ faces)
+    → (remedies : List ShellRemedies) × (hint : List ℕ) × (faces : List EntryNo) × IsHint listing f s xs seen remedies hint faces × (o2 ≡ o1 ++ hint)
+    × (n1 ≡ n0 ++ faces)
     → o3 ≡ o2 ++ flat_map (paragraphs_at listing f s xs) seen → n2 ≡ n1 ++ flat_map (named_at listing s xs) seen → o4 ≡ o3 ++ entities_text p n2
-    → (hint : List ℕ) × (faces : List EntryNo) × IsHint listing f s xs (shown listing (failing_shells xs)) hint faces
-    × (o4 ≡ o0 ++ (shell_lines listing f s xs ++ hint ++ shell_texts listing p s xs faces))
+    → (remedies : List ShellRemedies) × (hint : List ℕ) × (faces : List EntryNo)
+    × IsHint listing f s xs (shown listing (failing_shells xs)) remedies hint faces × (o4 ≡ o0 ++ (shell_lines listing f s xs ++ hint ++ shell_texts listing p s xs faces))
 unfolding shell_texts
 rest_written listing f p s xs ks seen n0 n1 n2 o0 o1 o2 o3 o4 file is first none head hint more names last =
     let among : seen ≡ shown listing (failing_shells xs) = first ∙ ap (shown listing) is in
-    let named : n2 ≡ s.entity ∷ hint.1 ++ flat_map (named_at listing s xs) (shown listing (failing_shells xs)) =
+    let named : n2 ≡ s.entity ∷ hint.2 ++ flat_map (named_at listing s xs) (shown listing (failing_shells xs)) =
     names ∙ (ap (λ zs. n1 ++ flat_map (named_at listing s xs) zs) among
-    ∙ ap (λ ns. ns ++ flat_map (named_at listing s xs) (shown listing (failing_shells xs))) (hint.4 ∙ ap (λ ns. ns ++ hint.1) none)) in
-    let tail : flat_map (paragraphs_at listing f s xs) seen ++ entities_text p n2 ≡ shell_texts listing p s xs hint.1 =
+    ∙ ap (λ ns. ns ++ flat_map (named_at listing s xs) (shown listing (failing_shells xs))) (hint.5 ∙ ap (λ ns. ns ++ hint.2) none)) in
+    let tail : flat_map (paragraphs_at listing f s xs) seen ++ entities_text p n2 ≡ shell_texts listing p s xs hint.2 =
     ap (λ zs. flat_map (paragraphs_at listing f s xs) zs ++ entities_text p n2) among
     ∙ (ap (λ g. flat_map (paragraphs_at listing g s xs) (shown listing (failing_shells xs)) ++ entities_text p n2) file
     ∙ ap (λ ns. flat_map (paragraphs_at listing p.file s xs) (shown listing (failing_shells xs)) ++ entities_text p ns) named) in (
       hint.0,
       hint.1,
-      subst (λ zs. IsHint listing f s xs zs hint.0 hint.1) among hint.2,
-      three_more o0 o1 o2 o4 (shell_lines listing f s xs) hint.0 (shell_texts listing p s xs hint.1) head hint.3
+      hint.2,
+      subst (λ zs. IsHint listing f s xs zs hint.0 hint.1 hint.2) among hint.3,
+      three_more o0 o1 o2 o4 (shell_lines listing f s xs) hint.1 (shell_texts listing p s xs hint.2) head hint.4
           (last ∙ (ap (λ o. o ++ entities_text p n2) more
           ∙ (append_assoc o2 (flat_map (paragraphs_at listing f s xs) seen) (entities_text p n2) ∙ ap (λ t. o2 ++ t) tail))),
     )

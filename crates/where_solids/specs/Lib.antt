@@ -2,5 +2,3 @@ pub mod Lines
 pub mod Hints
 pub mod ShellTexts
 pub mod Told
-pub mod Overview
-pub mod Recalled

@@ -1,15 +1,15 @@
-//! What is said of the solids of a file: the verdict on each, and where and why one fails.
+//! What is said of a solid of a file: the verdict, and where and why it fails.
 #![tactic(auto)]
 
 mod fault_paragraphs;
 mod hints;
 mod lines;
-mod overview;
-mod recalling;
 mod record_texts;
 mod shell_texts;
 mod telling;
 mod verdicts;
 
-pub use overview::{Overview, tell_all};
+pub use hints::put_no_solid;
+pub use lines::{put_count, put_failing};
 pub use telling::{Told, tell};
+pub use verdicts::verdict;

@@ -137,10 +137,17 @@ fn put_each(
     Ok(())
 }
 
-// The solid, spelled where many of its parts may be named.
-fn spelled<'a>(alloc: Global, view: &HintedSolid<'a>) -> Result<SpelledSolid<'a>, NoMemory>
+/// The solid, of which these shells fail, spelled where many of its parts may be named.
+pub fn spelled<'a>(
+    alloc: Global,
+    view: &HintedSolid<'a>,
+    failing: &[u32],
+) -> Result<SpelledSolid<'a>, NoMemory>
     ensures { IfOk result (λ s. s ≡ record { file = view.now.file.now; solid = view.now.solid.now }) }
 {
+    if failing.is_empty() {
+        return Ok(SpelledSolid::new(alloc, view.file, view.solid));
+    }
     match view.listing {
         Listing::Few => Ok(SpelledSolid::new(alloc, view.file, view.solid)),
         Listing::All => SpelledSolid::spell(alloc, view.file, view.solid),
@@ -153,9 +160,11 @@ pub fn put_paragraphs(
     alloc: Global,
     page: &mut Page,
     view: &HintedSolid<'_>,
+    spelled: &SpelledSolid<'_>,
     shells: &[u32],
 ) -> Result<(), NoMemory>
-    requires { AreAllFaults view.now.solid.now view.now.all.now }
+    requires faults { AreAllFaults view.now.solid.now view.now.all.now }
+    requires spelled { spelled.now ≡ record { file = view.now.file.now; solid = view.now.solid.now } }
     ensures paragraphs { OnOk result (page.new.out ≡ page.old.out
         ++ flat_map (paragraphs_at view.now.listing view.now.file.now view.now.solid.now view.now.all.now) shells.now) }
     ensures named { OnOk result (page.new.named ≡ page.old.named
@@ -165,9 +174,7 @@ pub fn put_paragraphs(
         return Ok(());
     }
     let faces = faces_by_vertex(alloc, view.solid)?;
-    let spelled = spelled(alloc, view)?;
-    let put = put_each(alloc, page, view, &faces, &spelled, shells);
-    drop(spelled);
+    let put = put_each(alloc, page, view, &faces, spelled, shells);
     drop(faces);
     put
 }

@@ -6,20 +6,21 @@ ghost use Rattle.iges_base.specs.declared.entry_no.EntryNo.{EntryNo as AnyEntryN
 ghost use Rattle.solid_data.specs.Obligations.{AllHold, FirstFalse};
 ghost use Rattle.std.specs.Prelude.{◌≡◌, ◌++◌, ◌∷◌, ℕ, [], List, IfOk, OnOk};
 ghost use Rattle.solid_hints.specs.AllFaults.{AreAllFaults, failing_shells};
-ghost use Rattle.solid_hints.specs.ShellHints.{IsHint};
+ghost use Rattle.solid_hints.specs.ShellHints.{IsHint, ShellRemedies};
 ghost use Rattle.where_solids.specs.ShellTexts.{shell_lines, shell_texts as texts_of};
 ghost use Rattle.where_solids.specs.Told.{IsToldOf};
 ghost use Rattle.where_text.specs.Listing.{shown};
 
 use crate::lines::{put_shells, put_units, put_verdict};
 use crate::record_texts::put_record_rest;
-use crate::shell_texts::{put_paragraphs, put_shell_lines};
+use crate::shell_texts::{put_paragraphs, put_shell_lines, spelled};
 use crate::verdicts::verdict;
 use brep_walk::{WalkFault, walk};
 use iges_fields::{Bytes, EntryNo, ItemList, NoMemory, Out};
 use record_paths::path_of;
 use solid_data::{Failing, Solid, Verdict};
 use solid_hints::{AllFaults, HintedSolid, all_faults, failing_shells, put_hint};
+use spelled_solid::SpelledSolid;
 use std::alloc::Global;
 use where_entities::put_entities;
 use where_places::PlacedFile;
@@ -42,7 +43,8 @@ fn of_records(
     listing: Listing,
 ) -> Result<Told, NoMemory>
     requires { FirstFalse (places placed.now.file no.0) failing }
-    ensures { IfOk result (λ told. IsToldOf listing placed.now no told.verdict told.text) }
+    ensures { IfOk result (λ told. (remedies : List ShellRemedies)
+        × IsToldOf listing placed.now no remedies told.verdict told.text) }
 {
     let fault = FailingRecord {
         solid: no,
@@ -84,23 +86,50 @@ fn put_failing_shells(
     page: &mut Page,
     placed: &PlacedFile,
     view: &HintedSolid<'_>,
+    spelled: &SpelledSolid<'_>,
+    failing: &[u32],
+) -> Result<(), NoMemory>
+    requires spelled { spelled.now ≡ record { file = view.now.file.now; solid = view.now.solid.now } }
+    requires faults { AreAllFaults view.now.solid.now view.now.all.now }
+    requires file { view.now.file.now ≡ placed.now.file }
+    requires failing { failing.now ≡ failing_shells view.now.all.now }
+    requires named { page.old.named ≡ view.now.solid.now.entity ∷ [] }
+    ensures { IfOk result (λ _. (remedies : List ShellRemedies) × (hint : List ℕ) × (faces : List AnyEntryNo)
+        × IsHint view.now.listing view.now.file.now view.now.solid.now view.now.all.now
+        (shown view.now.listing (failing_shells view.now.all.now)) remedies hint faces
+        × (page.new.out ≡ page.old.out ++ (shell_lines view.now.listing view.now.file.now view.now.solid.now view.now.all.now ++ hint
+        ++ texts_of view.now.listing placed.now view.now.solid.now view.now.all.now faces))) }
+{
+    let shells = shown_members(view.listing, failing);
+    put_lines(alloc, &mut page.out, view, failing)?;
+    let (out, named) = (&mut page.out, &mut page.named);
+    put_hint(alloc, out, named, view, spelled, shells)?;
+    put_paragraphs(alloc, page, view, spelled, shells)?;
+    put_entities(alloc, &mut page.out, placed, &page.named)
+}
+
+// The same, once the solid is spelled.
+fn put_spelled(
+    alloc: Global,
+    page: &mut Page,
+    placed: &PlacedFile,
+    view: &HintedSolid<'_>,
     failing: &[u32],
 ) -> Result<(), NoMemory>
     requires faults { AreAllFaults view.now.solid.now view.now.all.now }
     requires file { view.now.file.now ≡ placed.now.file }
     requires failing { failing.now ≡ failing_shells view.now.all.now }
     requires named { page.old.named ≡ view.now.solid.now.entity ∷ [] }
-    ensures { IfOk result (λ _. (hint : List ℕ) × (faces : List AnyEntryNo)
+    ensures { IfOk result (λ _. (remedies : List ShellRemedies) × (hint : List ℕ) × (faces : List AnyEntryNo)
         × IsHint view.now.listing view.now.file.now view.now.solid.now view.now.all.now
-        (shown view.now.listing (failing_shells view.now.all.now)) hint faces
+        (shown view.now.listing (failing_shells view.now.all.now)) remedies hint faces
         × (page.new.out ≡ page.old.out ++ (shell_lines view.now.listing view.now.file.now view.now.solid.now view.now.all.now ++ hint
         ++ texts_of view.now.listing placed.now view.now.solid.now view.now.all.now faces))) }
 {
-    let shells = shown_members(view.listing, failing);
-    put_lines(alloc, &mut page.out, view, failing)?;
-    put_hint(alloc, &mut page.out, &mut page.named, view, shells)?;
-    put_paragraphs(alloc, page, view, shells)?;
-    put_entities(alloc, &mut page.out, placed, &page.named)
+    let spelled = spelled(alloc, view, failing)?;
+    let put = put_failing_shells(alloc, page, placed, view, &spelled, failing);
+    drop(spelled);
+    put
 }
 
 // What follows the verdict on a solid of which all obligations on records hold.
@@ -114,8 +143,8 @@ fn put_shells_rest(
 ) -> Result<(), NoMemory>
     requires faults { AreAllFaults solid.now all.now }
     requires named { page.old.named ≡ solid.now.entity ∷ [] }
-    ensures { IfOk result (λ _. (hint : List ℕ) × (faces : List AnyEntryNo)
-        × IsHint listing placed.now.file solid.now all.now (shown listing (failing_shells all.now)) hint faces
+    ensures { IfOk result (λ _. (remedies : List ShellRemedies) × (hint : List ℕ) × (faces : List AnyEntryNo)
+        × IsHint listing placed.now.file solid.now all.now (shown listing (failing_shells all.now)) remedies hint faces
         × (page.new.out ≡ page.old.out ++ (shell_lines listing placed.now.file solid.now all.now ++ hint
         ++ texts_of listing placed.now solid.now all.now faces))) }
 {
@@ -127,7 +156,7 @@ fn put_shells_rest(
         all,
         listing,
     };
-    let put = put_failing_shells(alloc, page, placed, &view, failing.as_slice());
+    let put = put_spelled(alloc, page, placed, &view, failing.as_slice());
     drop(failing);
     put
 }
@@ -157,7 +186,8 @@ fn told_of(
     requires placed { AllHold (places placed.now.file no.0) }
     requires solid { solid.now ≡ solid_of placed.now.file no.0 }
     requires faults { AreAllFaults solid.now all.now }
-    ensures { IfOk result (λ told. IsToldOf listing placed.now no told.verdict told.text) }
+    ensures { IfOk result (λ told. (remedies : List ShellRemedies)
+        × IsToldOf listing placed.now no remedies told.verdict told.text) }
 {
     let verdict = verdict(solid, all);
     let mut page = page_of(alloc, solid)?;
@@ -178,7 +208,8 @@ fn of_shells(
 ) -> Result<Told, NoMemory>
     requires placed { AllHold (places placed.now.file no.0) }
     requires solid { solid.now ≡ solid_of placed.now.file no.0 }
-    ensures { IfOk result (λ told. IsToldOf listing placed.now no told.verdict told.text) }
+    ensures { IfOk result (λ told. (remedies : List ShellRemedies)
+        × IsToldOf listing placed.now no remedies told.verdict told.text) }
 {
     let all = all_faults(alloc, solid)?;
     let told = told_of(alloc, placed, no, solid, &all, listing);
@@ -195,7 +226,8 @@ pub fn tell(
     no: EntryNo,
     listing: Listing,
 ) -> Result<Told, NoMemory>
-    ensures { IfOk result (λ told. IsToldOf listing placed.now no told.verdict told.text) }
+    ensures { IfOk result (λ told. (remedies : List ShellRemedies)
+        × IsToldOf listing placed.now no remedies told.verdict told.text) }
 {
     match walk(alloc, &placed.file, no) {
         Ok(solid) => of_shells(alloc, placed, no, &solid, listing),

@@ -10,7 +10,7 @@ use Rattle.iges_params.specs.Named.{named, record_values, values_of}
 use Rattle.brep_lists.specs.Record.{value_or_default}
 use Rattle.solid_data.specs.declared.solid.VertexKey.{VertexKey}
 use Rattle.where_text.specs.Places.{coordinate}
-use Rattle.where_text.specs.Spelled.{spelled, spelled_if}
+use Rattle.where_text.specs.Spelled.{listed, listed_if}
 
 pub or_default : (vs : List Value) (i : ℕ) → unwrap_or (slice_get vs i) Default ≡ value_or_default vs i
 or_default [] i = refl
@@ -27,9 +27,9 @@ values_are f n vs h = values_there (named f (pos n)) vs h
 
 pub coordinate_is : (f : Contents) (key : VertexKey) (axis place : ℕ) (vs : List Value) (v : Option Value)
     → Some vs ≡ option_map (λ (r : Entry × List Value). r.1) (named f (pos key.«list».0))
-    → place ≡ 3 * key.index + axis - 2 → v ≡ slice_get vs place → spelled_if v ≡ coordinate f key axis
+    → place ≡ 3 * key.index + axis - 2 → v ≡ slice_get vs place → listed_if v ≡ coordinate f key axis
 unfolding coordinate
 coordinate_is f key axis place vs v at is there =
-    ap spelled_if there ∙ ap spelled (or_default vs place)
-    ∙ ap (λ xs. spelled (value_or_default xs place)) (values_are f key.«list».0 vs at)
-    ∙ ap (λ i. spelled (value_or_default (values_of f (pos key.«list».0)) i)) is
+    ap listed_if there ∙ ap listed (or_default vs place)
+    ∙ ap (λ xs. listed (value_or_default xs place)) (values_are f key.«list».0 vs at)
+    ∙ ap (λ i. listed (value_or_default (values_of f (pos key.«list».0)) i)) is

@@ -5,12 +5,12 @@ use Rattle.iges_params.specs.Contents.{Contents}
 use Rattle.iges_params.specs.Named.{values_of}
 use Rattle.brep_lists.specs.Record.{int_at, value_or_default}
 use Rattle.solid_data.specs.declared.solid.VertexKey.{VertexKey}
-use Rattle.where_text.specs.Spelled.{space_word, spelled}
+use Rattle.where_text.specs.Spelled.{listed, space_word}
 use Rattle.where_text.specs.Types.{type_of}
 
 -- one of the three coordinates of a vertex, from 0: after the count of its list there are three values for each vertex
 unfoldable pub coordinate : Contents → VertexKey → ℕ → List ℕ
-coordinate f key axis = spelled (value_or_default (values_of f (pos key.«list».0)) (3 * key.index + axis - 2))
+coordinate f key axis = listed (value_or_default (values_of f (pos key.«list».0)) (3 * key.index + axis - 2))
 
 -- a vertex: the number of its list, its index there, and its coordinates
 unfoldable pub vertex_words : Contents → VertexKey → List ℕ

@@ -4,11 +4,11 @@ ghost use Rattle.brep_lists.specs.Record.{value_or_default};
 ghost use Rattle.iges_params.specs.Named.{values_of};
 ghost use Rattle.std.specs.Prelude.{◌≡◌, ◌+◌, ◌-◌, ◌*◌, ◌<◌, ◌++◌, ◌∷◌, [], OnOk, pos};
 ghost use Rattle.where_text.specs.Places.{coordinate, face_words, surface_of, vertex_words};
-ghost use Rattle.where_text.specs.Spelled.{space_word, spelled};
+ghost use Rattle.where_text.specs.Spelled.{listed, space_word};
 
 use crate::listing::EntryNumbers;
 use crate::types::put_type;
-use crate::words::put_value;
+use crate::words::put_listed;
 use brep_lists::int_at;
 use iges_base::put_number;
 use iges_fields::{EntryNo, NoMemory, Out};
@@ -23,13 +23,13 @@ fn put_coordinate(out: &mut Out, file: &File, key: VertexKey, axis: usize) -> Re
 {
     let place = (3 * key.index as usize + axis).saturating_sub(2);
     match file.values(key.list) {
-        Some(values) => put_value(out, values.get(place)),
-        None => put_value(out, None),
+        Some(values) => put_listed(out, values.get(place)),
+        None => put_listed(out, None),
     }
 }
 
 /// Appends a vertex: the number of its list, its index there from 1, and its coordinates as the list's record spells them,
-/// `-` where it has none (IGES 5.3, 4.145). Each of the five words comes after a space.
+/// of more than 32 bytes the first ones, `-` where it has none (IGES 5.3, 4.145). Each of the five words comes after a space.
 #[tactic(auto, unfolding(crate::specs::Places::vertex_words))]
 pub fn put_vertex(out: &mut Out, file: &File, key: VertexKey) -> Result<(), NoMemory>
     ensures text { OnOk result (out.new ≡ out.old ++ vertex_words file.now key) }

@@ -1,9 +1,9 @@
 //! Words, numbers and values of a line.
 
-ghost use Rattle.std.specs.Prelude.{◌≡◌, ◌++◌, OnOk, option_copied};
-ghost use Rattle.where_text.specs.Spelled.{signed, space_word, spelled, spelled_if};
+ghost use Rattle.std.specs.Prelude.{◌≡◌, ◌≤◌, ◌++◌, OnOk, option_copied};
+ghost use Rattle.where_text.specs.Spelled.{listed_if, signed, space_word, spelled_if, spelled_within};
 
-use crate::cutting::{put_shortened, put_text};
+use crate::cutting::{LIST_LIMIT, WORD_LIMIT, put_shortened, put_text};
 use iges_fields::{NoMemory, Out, Value};
 use itoa::Buffer;
 
@@ -23,14 +23,15 @@ pub fn put_signed(out: &mut Out, n: i64) -> Result<(), NoMemory>
     out.put(Buffer::new().format(n).as_bytes())
 }
 
-// A value as it is shown; one that is left out is a hyphen.
-fn put_spelled(out: &mut Out, value: &Value) -> Result<(), NoMemory>
-    ensures text { OnOk result (out.new ≡ out.old ++ spelled value.now) }
+// A value as it is shown, a real with so many bytes at most; one that is left out is a hyphen.
+fn put_spelled(out: &mut Out, value: &Value, limit: usize) -> Result<(), NoMemory>
+    requires { 3 ≤ limit }
+    ensures text { OnOk result (out.new ≡ out.old ++ spelled_within limit value.now) }
 {
     match value {
         Value::Default => out.put(b"-"),
         Value::Int(n) => out.put(Buffer::new().format(*n).as_bytes()),
-        Value::Real(word) => put_shortened(out, word.as_slice()),
+        Value::Real(word) => put_shortened(out, word.as_slice(), limit),
         Value::Text(text) => put_text(out, text.as_slice()),
     }
 }
@@ -44,7 +45,19 @@ pub fn put_value(out: &mut Out, value: Option<&Value>) -> Result<(), NoMemory>
 {
     out.put(b" ")?;
     match value {
-        Some(value) => put_spelled(out, value),
+        Some(value) => put_spelled(out, value, WORD_LIMIT),
+        None => out.put(b"-"),
+    }
+}
+
+/// Appends a space and the value as lists show it: a real of more than 32 bytes is cut, and ends in two dots.
+pub fn put_listed(out: &mut Out, value: Option<&Value>) -> Result<(), NoMemory>
+    ensures text { OnOk result (out.new ≡ out.old
+        ++ space_word (listed_if (option_copied value.entry))) }
+{
+    out.put(b" ")?;
+    match value {
+        Some(value) => put_spelled(out, value, LIST_LIMIT),
         None => out.put(b"-"),
     }
 }

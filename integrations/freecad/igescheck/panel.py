@@ -3,7 +3,7 @@ import functools
 import os
 import pathlib
 import textwrap
-from typing import Any, Callable, Dict, Iterator, List, Optional, Tuple
+from typing import Any, Callable, Dict, Iterator, List, NamedTuple, Optional, Tuple
 
 import FreeCAD
 import FreeCADGui
@@ -12,6 +12,7 @@ from PySide import QtCore, QtGui
 
 from . import report
 from .marks import Marker, Shown, remove_marks
+from .mending import NotWritten, mended_copy
 from .shapes import Element, Shapes, objects_of
 from .telling import CLOSED, FAILS, Node, Told, told_of
 
@@ -24,6 +25,13 @@ MOST_SELECTED = 500
 COLOURS = {CLOSED: "#19743a", FAILS: "#c1121f"}
 WRONG_RECORDS = "FreeCAD doesn't open this file here: a record of a solid is wrong, and FreeCAD may crash on such a file."
 ROLE = QtCore.Qt.UserRole
+
+
+class Place(NamedTuple):
+    """The solid and the remedy that a row is of, if it is of one."""
+
+    number: Optional[int] = None
+    remedy: Optional[int] = None
 
 
 def guarded(slot: Callable[..., Any]) -> Callable[..., Any]:
@@ -97,7 +105,7 @@ class Panel(QtGui.QDockWidget):
         shapes = Shapes(document)
         for solid in told.solids:
             marker = None if solid.is_closed else Marker(document, shapes, solid)
-            self._add(self.tree.invisibleRootItem(), solid.node, marker, solid.number)
+            self._add(self.tree.invisibleRootItem(), solid.node, marker, Place(solid.number))
         document.recompute()
         document.commitTransaction()
         if any(not it.is_closed for it in told.solids):
@@ -123,21 +131,22 @@ class Panel(QtGui.QDockWidget):
         is_shown = bool(objects_of(self.document))
         return "" if is_shown else "FreeCAD shows no face of this file, so what fails is drawn by its coordinates."
 
-    def _add(self, parent: Any, node: Node, marker: Optional[Marker], number: int) -> None:
+    def _add(self, parent: Any, node: Node, marker: Optional[Marker], place: Place) -> None:
         shown = marker.show(node) if marker else Shown()
-        row = self._row(parent, node.words, shown, number)
+        place = place._replace(remedy=node.remedy or place.remedy)
+        row = self._row(parent, node.words, shown, place)
         if node.kind in COLOURS:
             row.setForeground(0, QtGui.QColor(COLOURS[node.kind]))
         if node.sentence:
-            self._row(row, node.sentence, Shown(), number)
+            self._row(row, node.sentence, Shown(), place)
         for it in node.nodes:
-            self._add(row, it, marker, number)
+            self._add(row, it, marker, place)
 
-    def _row(self, parent: Any, words: str, shown: Shown, number: int) -> Any:
+    def _row(self, parent: Any, words: str, shown: Shown, place: Place) -> Any:
         row = QtGui.QTreeWidgetItem(parent, [textwrap.fill(words, LETTERS), shown.words])
         row.setFirstColumnSpanned(not shown.words)
         row.setToolTip(1, shown.words)
-        row.setData(0, ROLE, (number, shown))
+        row.setData(0, ROLE, (place, shown))
         return row
 
     def _expand(self) -> None:
@@ -168,13 +177,31 @@ class Panel(QtGui.QDockWidget):
         if chosen:
             look_at(self.document, chosen)
 
+    def _place(self) -> Place:
+        """Of the chosen row."""
+        row = self.tree.currentItem()
+        return row.data(0, ROLE)[0] if row else Place()
+
+    @guarded
+    def mend(self, *_: Any) -> None:
+        """Writes the mended copy of the chosen row's solid beside the file, and opens it; by the remedy of the row, if it is of one."""
+        if self.told is None:
+            return
+        place = self._place()
+        try:
+            copy = mended_copy(self.path, self.told, place.number, place.remedy)
+        except NotWritten as fault:
+            self.say(f"{os.path.basename(self.path)}: {self.told.words}", str(fault))
+            return
+        opened = show(copy)
+        opened.say(f"{os.path.basename(copy)} is written beside {os.path.basename(self.path)}.", opened.summary.text())
+
     @guarded
     def show_report(self, *_: Any) -> None:
         """Opens the page of the chosen row's solid in a browser."""
         if self.told is None:
             return
-        row = self.tree.currentItem()
-        page = report.write(self.told, self.path, row.data(0, ROLE)[0] if row else None)
+        page = report.write(self.told, self.path, self._place().number)
         QtGui.QDesktopServices.openUrl(QtCore.QUrl.fromLocalFile(str(page)))
 
     @guarded
@@ -192,6 +219,7 @@ class Panel(QtGui.QDockWidget):
 
 # The words of the buttons, what each does, and its slot.
 BUTTONS: Tuple[Tuple[str, str, Callable[..., Any]], ...] = (
+    ("Mend", "Writes a copy beside the file in which the chosen solid is closed, by the chosen remedy or the one that is sure, and opens it", Panel.mend),
     ("Report", "Opens a page that draws the solid and where it fails, in a browser", Panel.show_report),
     ("Check again", "Reads the file again and judges it; the model stays as it was opened", Panel.check),
     ("Remove marks", "Removes what this panel drew into the document", Panel.clear),

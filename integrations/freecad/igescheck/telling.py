@@ -9,7 +9,8 @@ from igesolid.errors import BadFile
 from igesolid.files import File as Judged
 from igesolid.files import Solid, default_engine
 from igesolid.pictures.iges import File, lines_of
-from igesolid.where import Holder, Line, Paragraph, Where
+from igesolid.remedies import words_of, words_of_step
+from igesolid.where import Hint, Holder, Line, Paragraph, Step, Where
 from igesolid.where_lines import RECORD_RULES
 
 from .topology import Edge, Face, Topology, Vertex, millimetres
@@ -40,11 +41,14 @@ WORDS = {
     "ends": "it ends at vertex {index} of list {list} at {x}, {y}, {z}",
     "starts": "that starts at vertex {index} of list {list} at {x}, {y}, {z}",
     "remove": "remove face {face} ({surface_type})",
-    "same edges face": "face {face} ({surface_type}) has the same edges",
-    "rim edges": "rim {rim} of {edges} edges",
-    "edge face": "edge {index} of list {list}, of face {face} ({surface_type})",
-    "body faces first": "body {body} of {faces} faces, the first of them face {face} ({surface_type})",
     "turn": "turn face {face} ({surface_type})",
+    "reverse loop face": "reverse loop {loop} of face {face} ({surface_type})",
+    "change loop tuple flag": "tuple {tuple} of loop {loop} gets the flag {flag}",
+    "seam edge edge": "edge {index} of list {list}, in place of edge {left_index} of list {left_list} ({how})",
+    "copy vertex": "copy vertex {index} of list {list} at {x}, {y}, {z}",
+    "renew edge start end": "copy edge {index} of list {list}",
+    "body faces first": "body {body} of {faces} faces, the first of them face {face} ({surface_type})",
+    "rim edges edge": "rim {rim} of {edges} edges, the first of them edge {index} of list {list}",
     "item": "item {place} of entity {entity}",
     "value found": "its value {value} is {found}",
     "line column": "line {line} of the file, column {column}",
@@ -65,7 +69,9 @@ WORDS = {
 # First words of lines whose faces, and those of their facts, use the edge that is named.
 USING = "edge", "fan"
 # Lines that name edges and vertices which don't fail themselves.
-NEAR_BY = "fan face loop tuple edge to", "at"
+NEAR_BY = "fan face loop tuple edge to", "at", "seam edge edge", "copy vertex", "renew edge start end", "rim edges edge"
+# The pairs of values by which a line names an edge or a vertex.
+KEYS = ("list", "index"), ("to_list", "to_index"), ("left_list", "left_index"), ("start_list", "start_index"), ("end_list", "end_index")
 
 
 class Node(NamedTuple):
@@ -81,12 +87,18 @@ class Node(NamedTuple):
     lost: Tuple[str, ...] = ()
     is_near_by: bool = False
     nodes: Tuple["Node", ...] = ()
+    # The number of a remedy.
+    remedy: Optional[int] = None
 
 
 class ToldSolid(NamedTuple):
+    """A solid; `may_mend` if `mend` may write it: its records are right, and a rule on shells fails."""
+
     number: int
     topology: Optional[Topology]
     node: Node
+    may_mend: bool = False
+    solid: Optional[Solid] = None
 
     @property
     def is_closed(self) -> bool:
@@ -126,23 +138,24 @@ def _reason(engine: Engine, content: Content, is_bad: bool) -> str:
     return "\n".join([reason.words, *map(str, reason.lines)])
 
 
-def _count(number: int, noun: str) -> str:
-    return f"{number:,} {noun}{'' if number == 1 else 's'}"
+def _count(number: int, noun: str, several: str = "") -> str:
+    return f"{number:,} {noun if number == 1 else several or f'{noun}s'}"
 
 
 def _of_solid(solid: Solid, file: File) -> ToldSolid:
-    if solid.verdict.is_closed:
+    where = None if solid.verdict.is_closed else solid.where
+    if where is None or where.is_closed:
         return ToldSolid(solid.number, None, Node(f"solid {solid.number}: closed", kind=CLOSED))
-    where = solid.where
     units = where.parts.units
     topology = Topology(file, millimetres(units.told["unit_flag"], units.told["unit"]) if units else 1.0)
-    meaning = MEANINGS.get(solid.verdict.rule or "", "")
+    meaning = MEANINGS[where.verdict.told["rule"]]
     words = f"solid {solid.number} isn't closed: {meaning}"
-    rows = [Node(f"verdict: {solid.verdict}"), *(_row(it, topology) for it in where.hints)]
-    rows += [Node(f"{_count(where.more_hints, 'further hint')}, which the report shows")] if where.more_hints else []
+    rows = [Node(f"verdict: {where.verdict.text}"), *(_row(it, topology) for it in where.hints)]
+    rows += [Node(f"{_count(where.more_hints, 'further remedy', 'further remedies')}, which the report shows")] if where.more_hints else []
     rows += [_row(it, topology) for it in where.rules]
     rows += _unwritten(where)
-    return ToldSolid(solid.number, topology, Node(words, _moved(where, solid.number), FAILS, nodes=tuple(rows)))
+    node = Node(words, _moved(where, solid.number), FAILS, nodes=tuple(rows))
+    return ToldSolid(solid.number, topology, node, where.shells is not None, solid)
 
 
 def _unwritten(where: Where) -> List[Node]:
@@ -159,15 +172,25 @@ def _moved(where: Where, number: int) -> str:
 
 
 def _row(holder: Holder, topology: Topology) -> Node:
-    """A hint or a rule, with its items."""
+    """A hint, a step or a rule, with its items."""
     shell = f" in shell {holder.shell}" if holder.shell is not None else ""
-    if holder.word == "hint":
-        words = f"hint: {holder.text.split(' ')[1]}{shell}"
+    if isinstance(holder, Hint):
+        words = _name(holder, shell)
+    elif isinstance(holder, Step):
+        words = words_of_step(holder)
     else:
         words = f"{holder.told['rule']}{shell}, {_count(holder.number('faults'), 'fault')}: {MEANINGS[holder.told['rule']]}"
-    items = [_node(it, topology) for it in holder.items]
+    items = [_row(it, topology) if isinstance(it, Step) else _node(it, topology) for it in holder.items]
     more = [Node(f"{holder.more:,} more, which the report shows")] if holder.more else []
-    return Node(words, holder.sentence, nodes=(*items, *more))
+    remedy = holder.number("remedy") if isinstance(holder, Hint) and holder.is_remedy else None
+    return Node(words, holder.sentence, nodes=(*items, *more), remedy=remedy)
+
+
+def _name(hint: Hint, shell: str) -> str:
+    """What a hint is called; a remedy by its number and what it changes."""
+    if hint.is_remedy:
+        return f"remedy {hint.told['remedy']}{shell}: {words_of(hint)}"
+    return f"no remedy is known{shell}" if hint.name == "stuck" else f"hint: {hint.name}{shell}"
 
 
 def _node(line: Line, topology: Topology) -> Node:
@@ -194,7 +217,7 @@ def named_by(line: Line, topology: Topology):
     edges: List[Edge] = []
     vertices: List[Vertex] = []
     lost: List[str] = []
-    for names in ("list", "index"), ("to_list", "to_index"):
+    for names in KEYS:
         if not all(it in told for it in names):
             continue
         key = int(told[names[0]]), int(told[names[1]])

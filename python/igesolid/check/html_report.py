@@ -15,7 +15,7 @@ from .output import total_of
 from .report import STANDARD_INPUT, Report
 from .writing import write_whole
 
-INDEX, PAGES = "index.html", "pages"
+INDEX, PAGES, MOST_PAGES = "index.html", "pages", 100
 MEANINGS = {
     "ENTRY": "a dangling pointer",
     "TYPE": "an entity of the wrong type or form",
@@ -109,9 +109,9 @@ class HtmlReport:
 
 
 def pages_of(report: Report) -> List[int]:
-    """The solids of a file that have a page; 0 stands for a bad file."""
+    """The solids of a file that have a page, each with the whole file in it, so many at most; 0 stands for a bad file."""
     is_bad = report.fault is not None and report.fault.status == BadFile.status
-    return [0] if is_bad else [it.number for it in report.failing]
+    return [0] if is_bad else [it.number for it in report.failing[:MOST_PAGES]]
 
 
 def key_of(file: str) -> str:
@@ -146,7 +146,7 @@ def reason_of(report: Report, drawn: Dict[Tuple[str, int], Drawn]) -> str:
     first = report.failing[0]
     told = drawn.get((report.file, first.number))
     words = told.words if told and told.words else MEANINGS.get(first.verdict.rule or "", "")
-    return f"solid {first.number}: {first.verdict}: {words}"
+    return f"solid {first.number}: {first.verdict}: {first.remedy or words}"
 
 
 def row_of(report: Report, drawn: Dict[Tuple[str, int], Drawn]) -> Row:

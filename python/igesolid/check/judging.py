@@ -9,10 +9,16 @@ from ..content import Content, content_of_file, content_of_path
 from ..engine import Engine
 from ..errors import Error, NotRead, TooLarge
 from ..files import File, Solid
+from ..remedies import first_words
 from ..saying import NOT_WRITTEN
+from ..where_lines import SHELL_RULES
 from .report import STANDARD_INPUT, Fault, Report, SolidReport, fault_of
 from .table import Key, Table
 from .writing import write_whole
+
+
+# Of so many failing solids of a file the first remedy is told.
+REMEDIES = 10
 
 
 class Judge:
@@ -61,8 +67,22 @@ class Judge:
         except (Error, MemoryError) as fault:
             report = report._replace(fault=fault_of(fault))
             solids = []
-        report = report._replace(solids=tuple(SolidReport(it.number, it.verdict) for it in solids))
+        report = report._replace(solids=_with_remedies(solids))
         return _with_certificates(report, solids) if self.has_certificates and report.is_judged else report
+
+
+def _with_remedies(solids: List[Solid]) -> Tuple[SolidReport, ...]:
+    """What is told of solids. Each remedy is an answer of its own, of the whole file, so those of the first that fail are asked for."""
+    failing = [it for it in solids if it.verdict.rule in SHELL_RULES][:REMEDIES]
+    words = {it.number: _remedy(it) for it in failing}
+    return tuple(SolidReport(it.number, it.verdict, remedy=words.get(it.number)) for it in solids)
+
+
+def _remedy(solid: Solid) -> Optional[str]:
+    try:
+        return first_words(solid.where) or None
+    except (Error, MemoryError):
+        return None
 
 
 def _content(name: str) -> Content:

@@ -28,7 +28,7 @@ def _answer(report: Report) -> str:
 
 
 def _solid(solid: SolidReport) -> str:
-    return f"solid {solid.number}: {solid.verdict}"
+    return f"solid {solid.number}: {solid.verdict}{f' ({solid.remedy})' if solid.remedy else ''}"
 
 
 def line_of(report: Report) -> str:

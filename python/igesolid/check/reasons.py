@@ -1,17 +1,19 @@
 """Why files and solids fail, in words and by the lines of the file, as `where` tells it; for the reports that build servers read."""
-from typing import Dict, List, NamedTuple, Optional, Tuple
+from typing import Dict, List, NamedTuple, Optional, Sequence, Tuple
 
 from ..content import Content, content_of_path
 from ..engine import Engine
 from ..errors import BadFile, Error
 from ..files import Verdict
 from ..saying import printable
-from ..where import Paragraph, Where, paragraphs
+from ..remedies import first_words
+from ..where import Holder, Paragraph, Where, paragraphs
 from .html_report import MEANINGS
 from .report import Report
 
-# So many places are told of a solid.
+# So many places are told of a solid, and of so many failing solids of a file.
 PLACES = 10
+SOLIDS = 100
 # In place of a solid's number: the file itself.
 FILE = 0
 
@@ -49,7 +51,7 @@ class Reasons:
 
     def draw(self, report: Report, content: Optional[Content] = None) -> None:
         """Asks for the reason of all that fails in a file."""
-        failing = {it.number: it.verdict for it in report.failing}
+        failing = {it.number: it.verdict for it in report.failing if it.verdict.is_judged}
         is_bad = report.fault is not None and report.fault.status == BadFile.status
         if not failing and not is_bad and report.word != "no solid":
             return
@@ -59,7 +61,7 @@ class Reasons:
                 raise Error("the file changed after it was judged")
             if not failing:
                 self.known[report.file, FILE] = reason_of_file(self.engine, content, is_bad)
-            for number, verdict in failing.items():
+            for number, verdict in list(failing.items())[:SOLIDS]:
                 self.known[report.file, number] = reason_of_solid(self.engine, content, number, verdict)
         except (Error, OSError, MemoryError) as fault:
             self.fault = f"{printable(report.file)}: {getattr(fault, 'strerror', None) or fault or 'out of memory'}"
@@ -86,8 +88,15 @@ def reason_of_solid(engine: Engine, content: Content, number: int, verdict: Verd
     # The failing record comes first, and of its lines the one with the wrong value.
     failing = f"entity {verdict.entity} "
     lines.sort(key=lambda it: (not it.holds.startswith(failing), it.column is None))
-    meaning = MEANINGS.get(verdict.rule or "", "")
-    return Reason(f"{meaning[:1].upper()}{meaning[1:]}. {told[0].sentence}", tuple(lines[:PLACES]))
+    meaning, remedy = MEANINGS.get(verdict.rule or "", ""), first_words(where)
+    said = [f"{meaning[:1].upper()}{meaning[1:]}.", f"{remedy[:1].upper()}{remedy[1:]}." if remedy else "", _sentences(told)]
+    return Reason(" ".join(filter(None, said)), tuple(lines[:PLACES]))
+
+
+def _sentences(told: Sequence[Holder]) -> str:
+    """The sentence of the first rule or hint, and of the steps of a remedy."""
+    first = told[0]
+    return " ".join(filter(None, [first.sentence, *(it.sentence for it in first.items)]))
 
 
 def _bad_line(line: Paragraph) -> Lines:

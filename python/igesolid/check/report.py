@@ -2,7 +2,7 @@
 from typing import Any, Dict, Iterable, List, NamedTuple, Optional, Tuple
 
 from ..errors import BadFile, Error, NoMemory, NotRead, TooLarge
-from ..files import Verdict
+from ..files import UNJUDGED, Verdict
 from ..saying import NOT_WRITTEN
 
 CLOSED, NOT_CLOSED = 0, 1
@@ -11,7 +11,7 @@ STATUSES = {word: status for status, word in WORDS.items()}
 NOT_JUDGED = "not judged"
 # The name of standard input.
 STANDARD_INPUT = "-"
-COLUMNS = "file", "bytes", "sha256", "program", "solid", "verdict", "rule", "entity", "place", "certificate", "line", "reason"
+COLUMNS = "file", "bytes", "sha256", "program", "solid", "verdict", "rule", "entity", "place", "certificate", "line", "reason", "remedy"
 Row = Dict[str, str]
 
 
@@ -28,11 +28,13 @@ class Fault(NamedTuple):
 
 
 class SolidReport(NamedTuple):
-    """The verdict on a solid, and the SHA-256 of the certificate that was written of it."""
+    """The verdict on a solid; the SHA-256 of the certificate that was written of it; and of one that fails the first remedy in words, of the
+    first of a file alone."""
 
     number: int
     verdict: Verdict
     certificate: Optional[str] = None
+    remedy: Optional[str] = None
 
 
 class Report(NamedTuple):
@@ -63,6 +65,8 @@ class Report(NamedTuple):
             return self.fault.word
         if not self.solids:
             return "no solid"
+        if self.failing and not any(it.verdict.is_judged for it in self.failing):
+            return NOT_JUDGED
         return "not closed" if self.failing else "closed"
 
     @property
@@ -84,7 +88,8 @@ def _given(values: Dict[str, Any]) -> Dict[str, Any]:
 def dict_of(report: Report) -> Dict[str, Any]:
     """A report as JSON has it."""
     solids = [
-        _given(dict(solid=it.number, verdict=_word(it.verdict), **it.verdict._asdict(), certificate=it.certificate)) for it in report.solids
+        _given(dict(solid=it.number, verdict=_word(it.verdict), **_where(it.verdict), certificate=it.certificate, remedy=it.remedy))
+        for it in report.solids
     ]
     fault = report.fault._asdict() if report.fault else {}
     head = dict(file=report.file, bytes=report.size, sha256=report.sha256, program=report.program, verdict=report.word, line=fault.get("line"))
@@ -93,21 +98,31 @@ def dict_of(report: Report) -> Dict[str, Any]:
 
 def report_of_dict(told: Dict[str, Any]) -> Report:
     solids = [
-        SolidReport(it["solid"], Verdict(it.get("rule"), it.get("entity"), it.get("place")), it.get("certificate")) for it in told["solids"]
+        SolidReport(it["solid"], _verdict(it["verdict"], it.get("rule"), it.get("entity"), it.get("place")), it.get("certificate"), it.get("remedy"))
+        for it in told["solids"]
     ]
     fault = Fault(told["status"], told["reason"], told.get("line")) if "reason" in told else None
     return Report(told["file"], told.get("bytes"), told.get("sha256"), told.get("program"), tuple(solids), fault)
 
 
 def _word(verdict: Verdict) -> str:
-    return "closed" if verdict.is_closed else "fail"
+    return "closed" if verdict.is_closed else "fail" if verdict.is_judged else UNJUDGED
+
+
+def _where(verdict: Verdict) -> Dict[str, Any]:
+    return verdict._asdict() if verdict.is_judged else {}
+
+
+def _verdict(word: str, rule: Optional[str], entity: Optional[int], place: Optional[int]) -> Verdict:
+    return Verdict(UNJUDGED) if word == UNJUDGED else Verdict(rule, entity, place)
 
 
 def rows_of(report: Report) -> List[Row]:
     """The rows of a file: one for each solid, and one for the file itself if it has none or something went wrong."""
     head = dict(file=report.file, bytes=report.size, sha256=report.sha256, program=report.program)
     rows = [
-        {**head, "solid": it.number, "verdict": _word(it.verdict), **it.verdict._asdict(), "certificate": it.certificate} for it in report.solids
+        {**head, "solid": it.number, "verdict": _word(it.verdict), **_where(it.verdict), "certificate": it.certificate, "remedy": it.remedy}
+        for it in report.solids
     ]
     if report.fault:
         rows.append({**head, "verdict": report.word, "line": report.fault.line, "reason": report.fault.reason})
@@ -131,8 +146,8 @@ def report_of_rows(rows: Iterable[Row]) -> Report:
     for row in rows:
         head = row["file"], _number(row["bytes"]), row["sha256"] or None, row["program"] or None
         if row["solid"]:
-            verdict = Verdict(row["rule"] or None, _number(row["entity"]), _number(row["place"]))
-            solids.append(SolidReport(int(row["solid"]), verdict, row["certificate"] or None))
+            verdict = _verdict(row["verdict"], row["rule"] or None, _number(row["entity"]), _number(row["place"]))
+            solids.append(SolidReport(int(row["solid"]), verdict, row["certificate"] or None, row.get("remedy") or None))
         elif row["verdict"] != "no solid":
             fault = Fault(STATUSES.get(row["verdict"], Error.status), row["reason"], _number(row["line"]))
     return Report(*head, tuple(solids), fault)

@@ -34,7 +34,7 @@ def _reports_in(path: pathlib.Path) -> List[Report]:
         return []
     with open(path, **CODING) as rows:
         reader = csv.DictReader(rows)
-        if tuple(reader.fieldnames or ()) != COLUMNS:
+        if tuple(reader.fieldnames or ()) not in (COLUMNS, COLUMNS[:-1]):
             raise NoTable(f"{path} isn't a table that igesolid check wrote, so it stays as it is")
         try:
             return [report_of_rows(group) for _, group in itertools.groupby(reader, lambda row: row["file"])]

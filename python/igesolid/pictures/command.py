@@ -17,7 +17,8 @@ DESCRIPTION = """Writes an IGES file that marks where solid N fails, to be read 
 
   igesolid marks FILE N > marks.igs
 
-The curves of failing edges and points at failing vertices are red, on level 901; the other edges of the faces there are blue, on level 902.
+The curves of failing edges and points at failing vertices are red, on level 901; the other edges of the faces there are blue, on level 902;
+what the first remedy of a shell changes is green, on level 903.
 What fails is taken from `igesolid where FILE N all`. The status is that of this command: 0 for a closed solid, which has no marks, 1 for one
 that isn't, 3 for a bad file, of which nothing is written."""
 ANSWERED = 0, 1, BadFile.status

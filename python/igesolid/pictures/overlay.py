@@ -1,18 +1,18 @@
 """An IGES file that marks faults, to be laid over the model in a CAD system: copies of curves, and points, under the same global section.
 
 On level 901 and red stand the curves of failing edges and points at failing vertices, labelled FAULT with the fault's number as on the page;
-on level 902 and blue the other edges of the faces there, labelled NEAR, up to a number that is told. Nothing is computed: coordinates are
-copied as they are spelled."""
+on level 902 and blue the other edges of the faces there, labelled NEAR, up to a number that is told; on level 903 and green what the first
+remedy of a shell changes, labelled REMEDY. Nothing is computed: coordinates are copied as they are spelled."""
 from typing import Dict, Iterable, Iterator, List, NamedTuple, Sequence, Tuple
 
 from ..where import Where
 from .iges import RECORD_COLUMNS, Entry, File, Unreadable, integer
-from .marked import marked
+from .marked import changed, marked
 from .solids import Face, Solid, solid_of
 
 # The level, the colour and the label of what is marked.
 Mark = Tuple[int, int, bytes]
-FAULT, NEAR = (901, 2, b"FAULT"), (902, 4, b"NEAR")
+FAULT, NEAR, REMEDY = (901, 2, b"FAULT"), (902, 4, b"NEAR"), (903, 3, b"REMEDY")
 # Statuses of an entity (IGES 5.3, section 2.2.4.4.9): one that stands alone, a part of another, and a part that isn't shown.
 ALONE, PART, HIDDEN = b"00000000", b"00010000", b"01010000"
 DEEPEST = 4
@@ -165,6 +165,22 @@ def faults_of(answer: Where, solid: Solid) -> Fault:
     return Fault(edges, vertices, near, False)
 
 
+def changes_of(answer: Where, solid: Solid) -> Tuple[Dict[int, int], Dict[int, int]]:
+    """The edges and vertices of the first remedy of each shell, by the shell; of faces their edges, as many as are marked near faults."""
+    faces = {face.entity: face for shell in solid.shells for face in shell.faces}
+    edges: Dict[int, int] = {}
+    vertices: Dict[int, int] = {}
+    for remedy in answer.remedies:
+        if remedy.told["remedy"] != "1":
+            continue
+        shell, (named, points, among) = remedy.number("shell"), changed(remedy, solid)
+        for it in (*named, *(edge for face in among if len(edges) < MOST_NEAR for edge in edges_of(faces[face]))):
+            edges.setdefault(it, shell)
+        for it in points:
+            vertices.setdefault(it, shell)
+    return edges, vertices
+
+
 def edges_of(face: Face) -> Iterator[int]:
     return (use.edge for loop in face.loops for use in loop.uses if use.edge is not None)
 
@@ -178,12 +194,15 @@ def marks_of(title: str, number: int, answer: Where, lines: List[bytes]) -> Tupl
     solid = solid_of(file, number) if answer.shells else None
     fault = faults_of(answer, solid) if solid else Fault({}, {}, {}, False)
     if solid:
-        for edges, mark in ((fault.edges, FAULT), (fault.near, NEAR)):
+        lines, points = changes_of(answer, solid)
+        for edges, mark in ((fault.edges, FAULT), (fault.near, NEAR), (lines, REMEDY)):
             left += sum(not overlay.add_edge(solid, edge, mark, subscript) for edge, subscript in sorted(edges.items()))
-        for vertex, subscript in sorted(fault.vertices.items()):
-            overlay.add(116, [*padded(solid.coordinates(vertex)), b"0"], FAULT, subscript)
+        for vertices, mark in ((fault.vertices, FAULT), (points, REMEDY)):
+            for vertex, subscript in sorted(vertices.items()):
+                overlay.add(116, [*padded(solid.coordinates(vertex)), b"0"], mark, subscript)
     near = f"Level 902, blue: {'the first ' + str(MOST_NEAR) + ' ' if fault.is_cut else ''}other edges of the faces there"
-    says = [f"Faults of solid {number} of {title}", "Level 901, red: edges and vertices that fail", near]
+    remedies = ["Level 903, green: what the first remedy of a shell changes"] if answer.remedies else []
+    says = [f"Faults of solid {number} of {title}", "Level 901, red: edges and vertices that fail", near, *remedies]
     return overlay.text(says), told(title, answer, left, fault.is_cut)
 
 

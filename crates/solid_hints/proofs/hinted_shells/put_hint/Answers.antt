@@ -1,5 +1,5 @@
 use Rattle.std.proofs.lemmas.Result.{IfOk-weaker}
-use Rattle.solid_hints.proofs.ToldHints.{both_ok, flags_told, hints_told}
+use Rattle.solid_hints.proofs.ToldHints.{flags_told, hints_told}
 use Rattle.solid_hints.proofs.hinted_shells.put_hint.Goals as goal
 
 pub returns-then-branch : goal.returns-then-branch
@@ -12,10 +12,8 @@ returns-then-branch c =
 
 pub returns : goal.returns
 returns c =
-    IfOk-weaker c.put_all_hints.result _ _
+    IfOk-weaker c.put_known.result _ _
     (λ u last. hints_told c.args.view.now.listing c.args.view.now.file.now c.args.view.now.solid.now c.args.view.now.all.now c.args.shells.now
-    c.pair_fails.result c.in_ok-tells_flags.field-0 c.unset_flags-unset.result c.in_ok-hints.hints c.as_slice.result.now c.args.out.now
-    c.put_all_hints.new.out c.args.named.now c.put_all_hints.new.named
-    c.unset_flags-unset.ensures c.pair_fails.ensures c.if-branch.false c.in_ok-tells_flags.ensures c.in_ok-hints.ensures c.as_slice.ensures
-    last.0 last.1)
-    (both_ok c.put_all_hints.result _ _ c.put_all_hints.ensures.text c.put_all_hints.ensures.named)
+    c.pair_fails.result c.in_ok-tells_flags.field-0 c.unset_flags-unset.result c.args.out.now c.put_known.new.out c.args.named.now c.put_known.new.named
+    c.unset_flags-unset.ensures c.pair_fails.ensures c.if-branch.false c.in_ok-tells_flags.ensures last)
+    c.put_known.ensures

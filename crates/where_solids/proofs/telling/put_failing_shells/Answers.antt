@@ -1,12 +1,6 @@
 use Rattle.std.proofs.lemmas.Result.{IfOk-weaker}
-use Rattle.solid_hints.proofs.ToldHints.{all_inside}
 use Rattle.where_solids.proofs.ToldSolids.{rest_written}
 use Rattle.where_solids.proofs.telling.put_failing_shells.Goals as goal
-
-pub put_hint-requires-clause-shells : goal.put_hint-requires-clause-shells
-put_hint-requires-clause-shells c =
-    all_inside c.args.view.now.solid.now c.args.view.now.listing c.args.view.now.all.now c.args.failing.now c.shown_members-shells.result.now
-    c.requires.faults.each c.requires.failing c.shown_members-shells.ensures
 
 pub returns : goal.returns
 returns c =

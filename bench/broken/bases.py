@@ -1,0 +1,56 @@
+"""The closed solids that are broken: of each file its largest one of at most so many faces, made compact."""
+import pathlib
+from typing import NamedTuple
+
+from .iges import SOLID, File
+
+MOST_FACES = 130
+
+
+class Base(NamedTuple):
+    name: str
+    data: bytes
+    solid: int
+    shells: int
+    faces: int
+
+
+def faces_of(file, solid):
+    return sum(len(file.get(shell)) for shell, _ in file.get(solid))
+
+
+def base_of(path, run):
+    """The base of a file; None where it has no closed solid that isn't too large. `run` gives the status and the output of igesolid."""
+    status, told = run("solids", path)
+    if status != 0:
+        return None
+    data = pathlib.Path(path).read_bytes()
+    closed = [int(solid) for solid in told.split() if run("certify", path, solid.decode())[0] == 0]
+    file = File(data)
+    sizes = [(faces_of(file, solid), -solid) for solid in closed if file.at(solid).form == 0]
+    fitting = [size for size in sizes if 1 < size[0] <= MOST_FACES]
+    if not fitting:
+        return None
+    status, compact = run("compact", path, str(-max(fitting)[1]))
+    if status != 0:
+        return None
+    alone = File(compact)
+    solids = [entry.number for entry in alone.entries if entry.kind == SOLID]
+    return Base(path.stem, compact, solids[0], len(alone.get(solids[0])), faces_of(alone, solids[0])) if len(solids) == 1 else None
+
+
+def touching_base(path):
+    """A file of several solids that touch, as it is."""
+    data = path.read_bytes()
+    file = File(data)
+    return Base(path.stem, data, file.solids()[0], 1, faces_of(file, file.solids()[0]))
+
+
+def bases_of(paths, run):
+    """The bases of files, by their names, and the files of bodies that touch, whose names begin with `t_`."""
+    bases = {}
+    for path in sorted(map(pathlib.Path, paths), key=lambda path: path.stem):
+        base = touching_base(path) if path.stem.startswith("t_") else base_of(path, run)
+        if base is not None:
+            bases.setdefault(base.name, base)
+    return list(bases.values())

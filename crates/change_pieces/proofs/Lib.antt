@@ -1,0 +1,6 @@
+pub mod Steps
+pub mod Appearing
+pub mod Compared
+pub mod GatherSteps
+pub mod Flat
+pub mod Numbered

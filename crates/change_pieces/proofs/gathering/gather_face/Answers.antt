@@ -1,0 +1,8 @@
+use Rattle.std.proofs.Common.{refl, sym}
+use Rattle.change_pieces.proofs.GatherSteps.{gathered_more}
+use Rattle.change_pieces.proofs.gathering.gather_face.Goals as goal
+
+pub returns : goal.returns
+returns c = λ t seen g.
+    gathered_more c.args.vertices.now c.args.edges.now c.args.shells.now seen c.args.counts.now c.count_one.new.counts c.args.now.now c.in-Some.face.now
+    (sym c.in-Some.ensures) (c.if-not-is_face.ensures refl) (c.count_one.ensures.inside t) (c.count_one.ensures.counts t) g

@@ -1,0 +1,35 @@
+-- The changed file.
+use Rattle.std.specs.Prelude.{ℕ, pos, List, [], ◌∷◌, ◌++◌, map, flat_map, Option, Some, None, slice_index_or, unwrap_or}
+use Rattle.std.specs.List.{enumerate_from}
+use Rattle.iges_fields.specs.declared.value.Value.{Value}
+use Rattle.iges_params.specs.Contents.{Contents}
+use Rattle.iges_params.specs.Named.{named}
+use Rattle.entry_references.specs.Refs.{Record}
+use Rattle.solid_data.specs.SolidData.{SolidData}
+use Rattle.shell_change.specs.declared.change.Change.{Change}
+use Rattle.changed_file.specs.declared.draft.Draft.{Draft}
+use Rattle.changed_file.specs.declared.draft.NewEntry.{NewEntry}
+use Rattle.changed_file.specs.Changing.{drafted}
+use Rattle.changed_file.specs.Emptied.{emptied}
+
+-- an old entry, which is given with its place in the directory from 0: its new values, where it has any
+abbrev pub kept_record : List (Option (List Value)) → ℕ × Record → Record
+kept_record slots p = (p.1.0, unwrap_or (slice_index_or slots p.0 None) p.1.1)
+
+-- the fields of the entry that a new one is like
+abbrev pub like_record : Option Record → List Value → List Record
+like_record None values = []
+like_record (Some r) values = (r.0, values) ∷ []
+
+abbrev pub new_record : Contents → NewEntry → List Record
+new_record f e = like_record (named f (pos e.like)) e.values
+
+unfoldable pub rewritten : Contents → Draft → Contents
+rewritten f d = record f { entries = map (kept_record d.slots) (enumerate_from 0 f.entries) ++ flat_map (new_record f) d.added }
+
+abbrev pub without_gone : Contents → Draft → Contents
+without_gone f d = emptied d.loops (emptied d.faces (rewritten f d))
+
+-- The file with one change for each of these shells of the solid, all of them changes of this file.
+unfoldable pub changed : Contents → SolidData → List Change → Contents
+changed f s cs = without_gone f (drafted f s cs)

@@ -1,0 +1,158 @@
+//! The file with new values and new entries.
+
+ghost use Rattle.changed_file.specs.Changed.{kept_record, new_record, rewritten};
+ghost use Rattle.iges_directory.specs.Bounds.{IsBounded};
+ghost use Rattle.iges_params.specs.Contents.{value_count};
+ghost use Rattle.std.specs.List.{enumerate_from};
+ghost use Rattle.std.specs.Prelude.{◌≡◌, ◌<◌, ◌∷◌, ◌++◌, [], None, Some, IfOk, OnOk, flat_map, length, map, option_copied, option_map, slice_get, slice_index_or, unwrap_or};
+
+use crate::copying::{begun, copied_values};
+use crate::draft::{Draft, NewEntry};
+use changed_records::ChangeFault;
+use iges_base::ENTRY_LIMIT;
+use iges_directory::Entry;
+use iges_fields::{EntryNo, FILE_LIMIT, NoMemory, Values};
+use iges_params::File;
+use std::alloc::Global;
+
+/// Puts an entry into a file that has so many values, and gives how many it has then.
+pub(crate) fn push_within(
+    new: &mut File,
+    count: u64,
+    entry: Entry,
+    values: Values,
+) -> Result<u64, ChangeFault>
+    requires bounded { IsBounded entry }
+    requires counted { count ≡ value_count new.old.entries }
+    ensures ok { OnOk result (new.new ≡ record new.old {
+      entries = new.old.entries
+          ++ (entry, values) ∷ [];
+    }) }
+    ensures counted { IfOk result (λ n. n ≡ value_count new.new.entries) }
+{
+    let more = values.len() as u64;
+    let all = count.saturating_add(more);
+    if all > FILE_LIMIT || new.entry_count() as u64 >= ENTRY_LIMIT {
+        return Err(ChangeFault::Unfit);
+    }
+    if entry.kind == 0 && more > 0 {
+        return Err(ChangeFault::Unfit);
+    }
+    new.push(entry, values)?;
+    Ok(all)
+}
+
+/// A copy of the values of the i-th entry.
+pub(crate) fn values_at(alloc: Global, file: &File, i: usize) -> Result<Values, NoMemory>
+    requires { i < length file.now.entries }
+    ensures { IfOk result (λ values. option_map (λ r. r.1) (slice_get file.now.entries i)
+        ≡ Some values) }
+{
+    let _count = file.entry_count();
+    match file.values(file.entry_no(i)) {
+        Some(values) => copied_values(alloc, values),
+        None => Ok(Values::new(alloc)),
+    }
+}
+
+// The new values of the i-th entry, if it has any.
+fn slot_at(slots: &[Option<Values>], i: usize) -> Option<&Values>
+    ensures { option_copied result ≡ slice_index_or slots.now i None }
+{
+    match slots.get(i) {
+        Some(slot) => slot.as_ref(),
+        None => None,
+    }
+}
+
+// The values of the i-th entry: new ones, where there are any.
+fn kept_values(
+    alloc: Global,
+    file: &File,
+    slots: &[Option<Values>],
+    i: usize,
+) -> Result<Values, NoMemory>
+    requires { i < length file.now.entries }
+    ensures { IfOk result (λ values. option_map
+        (λ r. unwrap_or (slice_index_or slots.now i None) r.1) (slice_get file.now.entries i)
+        ≡ Some values) }
+{
+    match slot_at(slots, i) {
+        Some(values) => copied_values(alloc, values),
+        None => values_at(alloc, file, i),
+    }
+}
+
+fn put_old(
+    alloc: Global,
+    new: &mut File,
+    file: &File,
+    slots: &[Option<Values>],
+) -> Result<u64, ChangeFault>
+    requires { new.old.entries ≡ [] }
+    ensures ok { OnOk result (new.new ≡ record new.old {
+      entries = map
+          (kept_record slots.now) (enumerate_from 0 file.now.entries);
+    }) }
+    ensures counted { IfOk result (λ n. n ≡ value_count new.new.entries) }
+{
+    let mut count = 0;
+    'entries: for i in 0..file.entry_count() {
+        let entry = *file.entry_at(i).unwrap();
+        let values = kept_values(alloc, file, slots, i)?;
+        count = push_within(new, count, entry, values)?;
+    }
+    Ok(count)
+}
+
+fn put_new(
+    alloc: Global,
+    new: &mut File,
+    count: u64,
+    file: &File,
+    added: &NewEntry,
+) -> Result<u64, ChangeFault>
+    requires { count ≡ value_count new.old.entries }
+    ensures ok { OnOk result (new.new ≡ record new.old {
+      entries = new.old.entries
+          ++ new_record file.now added.now;
+    }) }
+    ensures counted { IfOk result (λ n. n ≡ value_count new.new.entries) }
+{
+    let Some(entry) = file.entry(EntryNo(added.like)) else {
+        return Err(ChangeFault::Unfit);
+    };
+    let values = copied_values(alloc, &added.values)?;
+    push_within(new, count, *entry, values)
+}
+
+fn put_added(
+    alloc: Global,
+    new: &mut File,
+    count: u64,
+    file: &File,
+    added: &[NewEntry],
+) -> Result<(), ChangeFault>
+    requires { count ≡ value_count new.old.entries }
+    ensures { OnOk result (new.new ≡ record new.old {
+      entries = new.old.entries
+          ++ flat_map (new_record file.now) added.now;
+    }) }
+{
+    let mut count = count;
+    'added: for i in 0..added.len() {
+        count = put_new(alloc, new, count, file, &added[i])?;
+    }
+    Ok(())
+}
+
+/// The file with these new values and new entries.
+#[tactic(auto, unfolding(crate::specs::Changed::rewritten))]
+pub(crate) fn rewritten(alloc: Global, file: &File, draft: &Draft) -> Result<File, ChangeFault>
+    ensures { IfOk result (λ new. new ≡ rewritten file.now draft.now) }
+{
+    let mut new = begun(alloc, file)?;
+    let count = put_old(alloc, &mut new, file, draft.slots.as_slice())?;
+    put_added(alloc, &mut new, count, file, draft.added.as_slice())?;
+    Ok(new)
+}

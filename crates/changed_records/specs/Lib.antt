@@ -1,0 +1,5 @@
+pub mod Values
+pub mod Items
+pub mod Loops
+pub mod Lists
+pub mod Shells

@@ -1,3 +1,0 @@
-pub mod SortedLists
-pub mod DoubleLemmas
-pub mod OtherLemmas

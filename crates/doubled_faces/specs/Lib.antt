@@ -1,3 +1,0 @@
-pub mod Doubles
-pub mod Keyed
-pub mod Doubled

@@ -1,4 +1,0 @@
-pub mod Pieces
-pub mod Bodies
-pub mod Torn
-pub mod Extra

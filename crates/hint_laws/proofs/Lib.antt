@@ -1,9 +1,0 @@
-pub mod Options
-pub mod SomeCounts
-pub mod SomeBodies
-pub mod SomeDoubled
-pub mod SomeExtra
-pub mod SomeUnsewn
-pub mod SomeMissing
-pub mod SomeTurns
-pub mod SomeHints

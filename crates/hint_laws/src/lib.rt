@@ -1,6 +1,0 @@
-//! Laws of the hints on a shell.
-#![tactic(auto)]
-
-mod law;
-
-pub use law::something_is_hinted;

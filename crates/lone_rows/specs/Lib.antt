@@ -1,2 +1,0 @@
-pub mod LoneRows
-pub mod Only

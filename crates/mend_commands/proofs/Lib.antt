@@ -1,0 +1,3 @@
+pub mod OneMending
+pub mod StateLemmas
+pub mod WritableEntries

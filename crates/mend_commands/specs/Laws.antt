@@ -1,0 +1,31 @@
+-- What holds of mending by its definition.
+use Rattle.std.specs.Prelude.{◌≡◌, ℕ, ◌≤◌, List, length}
+use Rattle.iges_base.specs.declared.TheConstants.{FILE_LIMIT}
+use Rattle.iges_params.specs.Contents.{Contents}
+use Rattle.iges_params.specs.IsFile.{IsFile}
+use Rattle.iges_params.specs.Limits.{FitsLimits}
+use Rattle.iges_params.specs.Refusal.{IsOnly}
+use Rattle.iges_write.specs.Text.{IsText}
+use Rattle.solid_data.specs.declared.verdict.Failing.{Failing}
+use Rattle.solid_mend.specs.Mended.{AreClosed}
+use Rattle.shell_change.specs.declared.change.Change.{Change}
+use Rattle.command_replies.specs.declared.answer.Answer.{Answer}
+use Rattle.mend_commands.specs.Due.{FailsBy, IsMendedAs, OfMend}
+
+-- Where it isn't one that fails by a rule on shells, one answer is owed, and one text.
+abbrev pub OneMendAnswer : Type 0
+OneMendAnswer = (n : ℕ) (f : Contents) (a b : Answer) (t u : List ℕ) → ((x : Failing) → ¬ FailsBy n f x) → OfMend n f a t → OfMend n f b u
+    → (a ≡ b) × (t ≡ u)
+
+-- Some answer is owed.
+abbrev pub SomeMendAnswer : Type 0
+SomeMendAnswer = (n : ℕ) (f : Contents) → FitsLimits f → (a : Answer) × (t : List ℕ) × OfMend n f a t
+
+-- For given changes the new file is one.
+abbrev pub OneMended : Type 0
+OneMended = (n : ℕ) (f g : Contents) (m : ℕ) (cs : List Change) (new other : Contents) → IsMendedAs n f g m cs new → IsMendedAs n f g m cs other → new ≡ other
+
+-- The text of a mended file is exactly that file, in which the solid and each new one are closed.
+abbrev pub MendedReadsBack : Type 0
+MendedReadsBack = (n : ℕ) (f g : Contents) (m : ℕ) (cs : List Change) (new : Contents) (text : List ℕ) → IsMendedAs n f g m cs new → IsText new text
+    → length text ≤ FILE_LIMIT → IsOnly (IsFile text) new × AreClosed new m (length g.entries)

@@ -1,0 +1,6 @@
+ghost use Rattle.mended_commands.specs.Laws.{SomeMendedAnswer};
+
+/// In a file within its limits some answer is owed of telling how any solid is mended.
+pub fn some_mended_answer()
+    ensures { SomeMendedAnswer }
+{}

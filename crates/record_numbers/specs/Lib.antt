@@ -1,0 +1,4 @@
+pub mod EqualRecords
+pub mod Parts
+pub mod Keys
+pub mod Marked

@@ -1,4 +1,0 @@
-pub mod EndLemmas
-pub mod SeamLemmas
-pub mod StandLemmas
-pub mod UnsewnLemmas

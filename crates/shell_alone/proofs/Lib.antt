@@ -1,9 +1,0 @@
-pub mod Appearing
-pub mod Flat
-pub mod Chosen
-pub mod Keyed
-pub mod Found
-pub mod Items
-pub mod ChangedShells
-pub mod Numbered
-pub mod MergedSolids

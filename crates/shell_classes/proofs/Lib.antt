@@ -1,4 +1,0 @@
-pub mod Steps
-pub mod LeastLemmas
-pub mod Those
-pub mod PlaceLemmas

@@ -1,2 +1,0 @@
-pub mod Exactly
-pub mod Leasts

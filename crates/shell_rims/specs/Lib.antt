@@ -1,2 +1,0 @@
-pub mod EndPairs
-pub mod Rims

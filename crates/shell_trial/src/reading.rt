@@ -1,0 +1,175 @@
+//! A shell read into flat lists.
+
+use crate::cells::{NONE, item_at, short};
+use crate::facts::{EdgeFact, FaceFact, LoopFact, VertexFact};
+use crate::trial::TrialUse;
+use iges_base::NoMemory;
+use shell_change::{ArcKnown, CurveKnown, Known};
+use solid_data::{EdgeId, FaceUse, Loop, LoopUse, Shell, Solid};
+use std::alloc::Global;
+
+/// The lists that the faces of a shell make.
+#[derive(Drop)]
+pub struct Read {
+    pub faces: Vec<FaceFact>,
+    pub loops: Vec<LoopFact>,
+    pub uses: Vec<TrialUse>,
+    pub loop_of: Vec<u32>,
+    pub face_of: Vec<u32>,
+}
+
+/// Where the edges and the vertices of a shell stand among its own.
+#[derive(Clone, Copy)]
+pub struct Numbers<'a> {
+    pub edges: &'a [u32],
+    pub vertices: &'a [u32],
+}
+
+/// The place of a number in a list that rises; `NONE` where it isn't there.
+pub fn rank(numbers: &[u32], n: u32) -> u32 {
+    match numbers.binary_search(&n) {
+        Ok(i) => short(i),
+        Err(_) => NONE,
+    }
+}
+
+fn use_of(numbers: Numbers<'_>, item: LoopUse) -> TrialUse {
+    match item {
+        LoopUse::EdgeUse { edge, along } => TrialUse {
+            on_edge: true,
+            item: rank(numbers.edges, edge.0),
+            along,
+        },
+        LoopUse::VertexUse { vertex } => TrialUse {
+            on_edge: false,
+            item: rank(numbers.vertices, vertex.0),
+            along: true,
+        },
+    }
+}
+
+fn read_loop(
+    read: &mut Read,
+    numbers: Numbers<'_>,
+    walk: &Loop,
+    face: u32,
+) -> Result<(), NoMemory> {
+    let uses = walk.uses.as_slice();
+    let number = short(read.loops.len());
+    read.loops.push(LoopFact {
+        face,
+        first_use: short(read.uses.len()),
+        uses: short(uses.len()),
+    })?;
+    'uses: for i in 0..uses.len() {
+        read.uses.push(use_of(numbers, uses[i]))?;
+        read.loop_of.push(number)?;
+        read.face_of.push(face)?;
+    }
+    Ok(())
+}
+
+fn read_face(
+    read: &mut Read,
+    numbers: Numbers<'_>,
+    face: &FaceUse,
+    surface: u32,
+) -> Result<(), NoMemory> {
+    let loops = face.loops.as_slice();
+    let number = short(read.faces.len());
+    read.faces.push(FaceFact {
+        flag: face.flag,
+        surface,
+        first_loop: short(read.loops.len()),
+        loops: short(loops.len()),
+    })?;
+    'loops: for i in 0..loops.len() {
+        read_loop(read, numbers, &loops[i], number)?;
+    }
+    Ok(())
+}
+
+/// The faces of a shell; the first one's surface is at this place of the known ones.
+pub fn read_faces(
+    alloc: Global,
+    known: &Known,
+    numbers: Numbers<'_>,
+    shell: &Shell,
+    first: u32,
+) -> Result<Read, NoMemory> {
+    let mut read = Read {
+        faces: Vec::new(alloc),
+        loops: Vec::new(alloc),
+        uses: Vec::new(alloc),
+        loop_of: Vec::new(alloc),
+        face_of: Vec::new(alloc),
+    };
+    let faces = shell.faces.as_slice();
+    let surfaces = known.surfaces.as_slice();
+    'faces: for i in 0..faces.len() {
+        let surface = item_at(surfaces, first.saturating_add(short(i)), NONE);
+        read_face(&mut read, numbers, &faces[i], surface)?;
+    }
+    Ok(read)
+}
+
+/// The vertices with these numbers; those of earlier shells lie below a number.
+pub fn read_vertices(
+    alloc: Global,
+    known: &Known,
+    numbers: &[u32],
+    below: usize,
+) -> Result<Vec<VertexFact>, NoMemory> {
+    let places = known.geometry.places.as_slice();
+    let mut out = Vec::new(alloc);
+    'vertices: for i in 0..numbers.len() {
+        let number = numbers[i];
+        out.push(VertexFact {
+            number,
+            place: item_at(places, number, NONE),
+            shared: (number as usize) < below,
+        })?;
+    }
+    Ok(out)
+}
+
+const NO_CURVE: CurveKnown = CurveKnown {
+    record: NONE,
+    line: None,
+};
+
+const NO_ARC: Option<ArcKnown> = None;
+
+fn edge_fact(solid: &Solid, known: &Known, numbers: Numbers<'_>, number: u32) -> EdgeFact {
+    let curve = item_at(known.geometry.curves.as_slice(), number, NO_CURVE);
+    let arc = item_at(known.arcs.as_slice(), number, NO_ARC);
+    let places = known.geometry.places.as_slice();
+    let (from, to) = match solid.edge(EdgeId(number)) {
+        Some(edge) => (edge.from.0, edge.to.0),
+        None => (0, 0),
+    };
+    EdgeFact {
+        number,
+        from: rank(numbers.vertices, from),
+        to: rank(numbers.vertices, to),
+        from_place: item_at(places, from, NONE),
+        to_place: item_at(places, to, NONE),
+        record: curve.record,
+        is_line: curve.line.is_some(),
+        arc,
+    }
+}
+
+/// The edges of a shell.
+pub fn read_edges(
+    alloc: Global,
+    solid: &Solid,
+    known: &Known,
+    numbers: Numbers<'_>,
+) -> Result<Vec<EdgeFact>, NoMemory> {
+    let mut out = Vec::new(alloc);
+    'edges: for i in 0..numbers.edges.len() {
+        out.push(edge_fact(solid, known, numbers, numbers.edges[i]))?;
+    }
+    Ok(out)
+}

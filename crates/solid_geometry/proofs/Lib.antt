@@ -1,0 +1,4 @@
+pub mod ListSteps
+pub mod RecordValues
+pub mod PointPairs
+pub mod CurveLemmas

@@ -1,0 +1,148 @@
+//! What the uses of a shell are after a trial.
+
+use crate::moving::{Moves, move_of};
+use crate::naming::{Names, edge_name, vertex_name};
+use crate::seaming::Seams;
+use iges_base::{ItemList, NoMemory};
+use shell_change::{EdgeNow, LoopNow, UseNow};
+use shell_trial::{Facts, LoopFact, NONE, Trial, TrialUse, at, is_set};
+use std::alloc::Global;
+use trial_seams::Sewn;
+
+/// What is looked at when a use is told.
+#[derive(Clone, Copy)]
+pub(crate) struct Views<'a> {
+    pub(crate) facts: &'a Facts,
+    pub(crate) trial: &'a Trial,
+    pub(crate) sewn: &'a Sewn,
+    pub(crate) names: &'a Names,
+    pub(crate) seams: &'a Seams,
+}
+
+const NO_USE: TrialUse = TrialUse {
+    on_edge: false,
+    item: NONE,
+    along: true,
+};
+
+fn old_use(facts: &Facts, i: u32) -> TrialUse {
+    shell_trial::item_at(&facts.uses, i, NO_USE)
+}
+
+fn opposite(item: TrialUse) -> TrialUse {
+    TrialUse {
+        along: item.along != item.on_edge,
+        ..item
+    }
+}
+
+// The t-th use of a loop as it was, if the loop is reversed or isn't.
+fn use_before(facts: &Facts, walk: LoopFact, t: u32, reversed: bool) -> TrialUse {
+    if !reversed {
+        return old_use(facts, walk.first_use.saturating_add(t));
+    }
+    let place = walk.uses.saturating_sub(1).saturating_sub(t);
+    opposite(old_use(facts, walk.first_use.saturating_add(place)))
+}
+
+fn are_same(a: TrialUse, b: TrialUse) -> bool {
+    a.on_edge == b.on_edge && a.item == b.item && a.along == b.along
+}
+
+// Whether reversing changes a loop.
+fn is_changed_by_reversing(facts: &Facts, walk: LoopFact) -> bool {
+    'uses: for t in 0..walk.uses {
+        let plain = use_before(facts, walk, t, false);
+        if !are_same(plain, use_before(facts, walk, t, true)) {
+            return true;
+        }
+    }
+    false
+}
+
+fn place_of(views: Views<'_>, vertex: u32) -> u32 {
+    views.facts.vertex(views.trial.vertex(vertex).like).place
+}
+
+// Whether a use of an edge runs the other way now.
+fn is_turned(views: Views<'_>, before: TrialUse, now: TrialUse) -> bool {
+    let old = views.facts.edge(before.item);
+    let new = views.trial.edge(now.item);
+    let changed = now.along != before.along;
+    let at_one = old.from_place == old.to_place
+        || place_of(views, new.from) == place_of(views, new.to);
+    if at_one {
+        let same = new.like == before.item || views.facts.edge(new.like).record == old.record;
+        return changed && !same;
+    }
+    let against = new.like != before.item && is_set(&views.sewn.opposite, before.item);
+    changed != against
+}
+
+fn seam_of(views: Views<'_>, before: TrialUse, now: TrialUse) -> Option<u32> {
+    if views.trial.edge(now.item).like == before.item {
+        return None;
+    }
+    Some(at(&views.seams.numbers, before.item))
+}
+
+fn edge_use(
+    views: Views<'_>,
+    moves: &mut Moves,
+    before: TrialUse,
+    now: TrialUse,
+) -> Result<UseNow, NoMemory> {
+    let (facts, sewn, seams) = (views.facts, views.sewn, views.seams);
+    let turned = is_turned(views, before, now);
+    let old = facts.edge(before.item);
+    let (start, end) = if before.along != turned {
+        (old.from, old.to)
+    } else {
+        (old.to, old.from)
+    };
+    let start_by = move_of(facts, sewn, seams, moves, start)?;
+    let end_by = move_of(facts, sewn, seams, moves, end)?;
+    Ok(UseNow::OnEdge(EdgeNow {
+        edge: edge_name(facts, views.trial, views.names, now.item),
+        along: now.along,
+        turned,
+        seam: seam_of(views, before, now),
+        start_by,
+        end_by,
+    }))
+}
+
+fn use_now(
+    views: Views<'_>,
+    moves: &mut Moves,
+    before: TrialUse,
+    now: TrialUse,
+) -> Result<UseNow, NoMemory> {
+    if now.on_edge {
+        return edge_use(views, moves, before, now);
+    }
+    let by = move_of(views.facts, views.sewn, views.seams, moves, before.item)?;
+    Ok(UseNow::AtVertex {
+        vertex: vertex_name(views.facts, views.trial, views.names, now.item),
+        by,
+    })
+}
+
+/// What a loop is after a trial.
+pub(crate) fn loop_now(
+    alloc: Global,
+    views: Views<'_>,
+    moves: &mut Moves,
+    number: u32,
+) -> Result<LoopNow, NoMemory> {
+    let walk = views.facts.walk(number);
+    let turned = is_set(&views.trial.reversed, number);
+    let reversed = turned && is_changed_by_reversing(views.facts, walk);
+    let mut uses = ItemList::new(alloc);
+    'uses: for t in 0..walk.uses {
+        let before = use_before(views.facts, walk, t, reversed);
+        let now = views.trial.item(walk.first_use.saturating_add(t));
+        uses.push(use_now(views, moves, before, now)?)?;
+    }
+    Ok(LoopNow { reversed, uses })
+}

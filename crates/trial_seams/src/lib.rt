@@ -1,0 +1,10 @@
+//! Sewing: which edges of a shell are one, and which vertices become one with them.
+#![tactic(auto)]
+
+mod linking;
+mod pairing;
+mod sewing;
+mod sewn;
+
+pub use sewing::sew;
+pub use sewn::{Link, SeamCounts, Sewn, unsewn};

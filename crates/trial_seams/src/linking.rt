@@ -1,0 +1,144 @@
+//! Which vertices become one, and on which way each of them comes to the least.
+
+use crate::sewn::{Link, Sewn};
+use iges_base::NoMemory;
+use shell_trial::{Facts, NONE, Table, at, filled, is_set, put, short};
+use std::alloc::Global;
+
+fn link_ends(facts: &Facts, sewn: &mut Sewn, edge: u32, taken: u32) -> Result<(), NoMemory> {
+    let left = facts.edge(edge);
+    let kept = facts.edge(taken);
+    let against = is_set(&sewn.opposite, edge);
+    let (from, to) = if against {
+        (kept.to, kept.from)
+    } else {
+        (kept.from, kept.to)
+    };
+    sewn.links.push(Link {
+        left: left.from,
+        taken: from,
+        edge,
+        at_end: false,
+    })?;
+    sewn.links.push(Link {
+        left: left.to,
+        taken: to,
+        edge,
+        at_end: true,
+    })?;
+    Ok(())
+}
+
+fn link_seams(facts: &Facts, sewn: &mut Sewn) -> Result<(), NoMemory> {
+    'edges: for edge in 0..short(facts.edges.len()) {
+        let taken = at(&sewn.taken, edge);
+        if taken != NONE {
+            link_ends(facts, sewn, edge, taken)?;
+        }
+    }
+    Ok(())
+}
+
+fn link_gaps(facts: &Facts, table: &Table, sewn: &mut Sewn) -> Result<(), NoMemory> {
+    'gaps: for i in 0..table.gaps.len() {
+        let gap = table.gaps[i];
+        if facts.vertex(gap.end).place == facts.vertex(gap.start).place {
+            sewn.counts.gaps = sewn.counts.gaps.saturating_add(1);
+            sewn.links.push(Link {
+                left: gap.end,
+                taken: gap.start,
+                edge: NONE,
+                at_end: false,
+            })?;
+        }
+    }
+    Ok(())
+}
+
+// The links of each vertex, chained: each link stands twice, at each of its vertices.
+#[derive(Drop)]
+struct Chains {
+    first: Vec<u32>,
+    next: Vec<u32>,
+}
+
+// The vertex at which a link stands at a place of the chains, and the other one.
+fn ends_at(sewn: &Sewn, place: u32) -> (u32, u32) {
+    let link = sewn.link(place / 2);
+    if place % 2 == 0 {
+        (link.left, link.taken)
+    } else {
+        (link.taken, link.left)
+    }
+}
+
+fn chains_of(alloc: Global, sewn: &Sewn, vertices: u32) -> Result<Chains, NoMemory> {
+    let count = short(sewn.links.len()).saturating_mul(2);
+    let mut first = filled(alloc, vertices, NONE)?;
+    let mut next = filled(alloc, count, NONE)?;
+    'links: for i in 0..count {
+        let place = count - 1 - i;
+        let (vertex, _) = ends_at(sewn, place);
+        put(&mut next, place, at(&first, vertex));
+        put(&mut first, vertex, place);
+    }
+    Ok(Chains { first, next })
+}
+
+// Reaches the vertices that are linked with one, if they weren't reached before.
+fn reach_next(
+    sewn: &mut Sewn,
+    chains: &Chains,
+    queue: &mut Vec<u32>,
+    vertex: u32,
+    least: u32,
+) -> Result<(), NoMemory> {
+    let mut place = at(&chains.first, vertex);
+    'links: for _ in 0..chains.next.len() {
+        if place == NONE {
+            break 'links;
+        }
+        let (_, other) = ends_at(sewn, place);
+        if at(&sewn.before, other) == NONE && other != least {
+            put(&mut sewn.before, other, vertex);
+            put(&mut sewn.by, other, place / 2);
+            put(&mut sewn.least, other, least);
+            queue.push(other)?;
+        }
+        place = at(&chains.next, place);
+    }
+    Ok(())
+}
+
+// Reaches all vertices that are linked with one, the nearest first.
+fn reach_from(alloc: Global, sewn: &mut Sewn, chains: &Chains, least: u32) -> Result<(), NoMemory> {
+    let mut queue = Vec::new(alloc);
+    queue.push(least)?;
+    'queue: for i in 0..sewn.least.len() {
+        if i >= queue.len() {
+            break 'queue;
+        }
+        let vertex = queue[i];
+        reach_next(sewn, chains, &mut queue, vertex, least)?;
+    }
+    Ok(())
+}
+
+/// Links the vertices that become one.
+pub(crate) fn link_vertices(
+    alloc: Global,
+    facts: &Facts,
+    table: &Table,
+    sewn: &mut Sewn,
+) -> Result<(), NoMemory> {
+    link_seams(facts, sewn)?;
+    link_gaps(facts, table, sewn)?;
+    let vertices = short(facts.vertices.len());
+    let chains = chains_of(alloc, sewn, vertices)?;
+    'vertices: for vertex in 0..vertices {
+        if at(&chains.first, vertex) != NONE && at(&sewn.before, vertex) == NONE {
+            reach_from(alloc, sewn, &chains, vertex)?;
+        }
+    }
+    Ok(())
+}

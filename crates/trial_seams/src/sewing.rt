@@ -1,0 +1,103 @@
+//! Sewing a shell at a level.
+
+use crate::linking::link_vertices;
+use crate::pairing::{pair_all, pair_in};
+use crate::sewn::{Sewn, unsewn};
+use iges_base::NoMemory;
+use shell_change::Told;
+use shell_trial::{Facts, NONE, Table, Trial, TrialEdge, TrialUse, at, is_set, short, table_of};
+use std::alloc::Global;
+
+fn pair(
+    alloc: Global,
+    facts: &Facts,
+    table: &Table,
+    sewn: &mut Sewn,
+    level: u32,
+) -> Result<(), NoMemory> {
+    if level == 4 {
+        return pair_all(alloc, facts, table, sewn);
+    }
+    pair_in(alloc, facts, table, sewn, &facts.sure, Told::Sure)?;
+    if level == 2 {
+        return pair_in(alloc, facts, table, sewn, &facts.ends, Told::Places);
+    }
+    if level == 3 {
+        return pair_in(alloc, facts, table, sewn, &facts.curves, Told::Curve);
+    }
+    Ok(())
+}
+
+fn sewn_use(sewn: &Sewn, item: TrialUse) -> TrialUse {
+    if !item.on_edge {
+        let least = at(&sewn.least, item.item);
+        return TrialUse {
+            item: least,
+            ..item
+        };
+    }
+    let taken = at(&sewn.taken, item.item);
+    if taken == NONE {
+        return item;
+    }
+    TrialUse {
+        item: taken,
+        along: item.along != is_set(&sewn.opposite, item.item),
+        ..item
+    }
+}
+
+fn sew_uses(trial: &mut Trial, sewn: &Sewn) {
+    'uses: for i in 0..trial.uses.len() {
+        let i = short(i);
+        let item = sewn_use(sewn, trial.item(i));
+        trial.put_use(i, item);
+    }
+}
+
+fn sew_edges(trial: &mut Trial, sewn: &Sewn) {
+    'edges: for i in 0..trial.edges.len() {
+        let i = short(i);
+        let edge = trial.edge(i);
+        let now = TrialEdge {
+            from: at(&sewn.least, edge.from),
+            to: at(&sewn.least, edge.to),
+            ..edge
+        };
+        trial.put_edge(i, now);
+    }
+}
+
+fn cost_of(sewn: &Sewn) -> u32 {
+    let mut cost = 1;
+    if sewn.counts.ends > 0 {
+        cost += if sewn.common {
+            6
+        } else if sewn.round {
+            5
+        } else {
+            2
+        };
+    }
+    if sewn.counts.curve > 0 {
+        cost += 3;
+    }
+    cost
+}
+
+/// Sews a shell of which at most faces were removed: 1 by sure seams, 2 by these and by places, 3 by these and by curves, 4 all
+/// edges that are sure to be one. Whoever calls it looks at the counts.
+pub fn sew(alloc: Global, facts: &Facts, trial: &mut Trial, level: u32) -> Result<Sewn, NoMemory> {
+    let mut sewn = unsewn(alloc, facts)?;
+    if level == 0 {
+        return Ok(sewn);
+    }
+    let table = table_of(alloc, facts, trial)?;
+    pair(alloc, facts, &table, &mut sewn, level)?;
+    link_vertices(alloc, facts, &table, &mut sewn)?;
+    sew_uses(trial, &sewn);
+    sew_edges(trial, &sewn);
+    trial.pay(cost_of(&sewn));
+    trial.sure = trial.sure && sewn.counts.ends == 0 && sewn.counts.curve == 0;
+    Ok(sewn)
+}

@@ -1,0 +1,171 @@
+//! The rims on which faces close a shell.
+
+use crate::fans::{Fans, fans_of};
+use iges_base::NoMemory;
+use shell_trial::{
+    Facts, Key, NONE, Rim, RimRow, Table, Trial, at, filled, is_set, key_of, mate, more, put, set,
+    short, table_of, unset,
+};
+use std::alloc::Global;
+
+/// Whether each edge has one row, or two that are mates, and there is no gap.
+pub fn is_whole(table: &Table) -> bool {
+    if !table.gaps.is_empty() {
+        return false;
+    }
+    'rows: for i in 0..table.rows.len() {
+        let i = short(i);
+        let row = table.row(i);
+        if row.edge != NONE && table.rows_on(row.edge) != 1 && mate(table, i) == NONE {
+            return false;
+        }
+    }
+    true
+}
+
+// Of each row the one that it follows.
+fn before_each(alloc: Global, table: &Table) -> Result<Vec<u32>, NoMemory> {
+    let count = short(table.rows.len());
+    let mut out = filled(alloc, count, NONE)?;
+    'rows: for i in 0..count {
+        let row = table.row(i);
+        if row.edge != NONE {
+            put(&mut out, row.next, i);
+        }
+    }
+    Ok(out)
+}
+
+// From the last row of each path of turns to the row before the first one of the next path at the vertex.
+fn links(alloc: Global, table: &Table, fans: &Fans, vertices: u32) -> Result<Vec<u32>, NoMemory> {
+    let before = before_each(alloc, table)?;
+    let mut out = filled(alloc, short(table.rows.len()), NONE)?;
+    let mut firsts = filled(alloc, vertices, NONE)?;
+    let mut lasts = filled(alloc, vertices, NONE)?;
+    'paths: for i in 0..fans.paths.len() {
+        let path = fans.paths[i];
+        let vertex = table.row(path.first).start;
+        let last = at(&lasts, vertex);
+        if last == NONE {
+            put(&mut firsts, vertex, path.first);
+        } else {
+            put(&mut out, last, at(&before, path.first));
+        }
+        put(&mut lasts, vertex, path.last);
+    }
+    'rings: for vertex in 0..vertices {
+        let first = at(&firsts, vertex);
+        if first != NONE {
+            put(&mut out, at(&lasts, vertex), at(&before, first));
+        }
+    }
+    Ok(out)
+}
+
+// The ring of links from a row on, as a rim; which rows are in one.
+fn add_rim(
+    trial: &mut Trial,
+    table: &Table,
+    links: &[u32],
+    first: u32,
+    piece: u32,
+    marked: &mut [bool],
+) -> Result<(), NoMemory> {
+    let begin = short(trial.rim_rows.len());
+    let mut i = first;
+    'ring: for _ in 0..links.len() {
+        if i == NONE || is_set(marked, i) {
+            break 'ring;
+        }
+        set(marked, i, true);
+        let row = table.row(i);
+        trial.rim_rows.push(RimRow {
+            edge: row.edge,
+            along: !row.along,
+        })?;
+        i = at(links, i);
+    }
+    let count = short(trial.rim_rows.len()).saturating_sub(begin);
+    trial.rims.push(Rim {
+        piece,
+        first: begin,
+        count,
+    })?;
+    Ok(())
+}
+
+fn add_rims(
+    alloc: Global,
+    facts: &Facts,
+    trial: &mut Trial,
+    table: &Table,
+    links: &[u32],
+) -> Result<(), NoMemory> {
+    let mut marked = unset(alloc, short(table.rows.len()))?;
+    'rows: for i in 0..table.rows.len() {
+        let i = short(i);
+        if table.is_free(i) && !is_set(&marked, i) {
+            let piece = at(&trial.pieces, at(&facts.face_of, i));
+            add_rim(trial, table, links, i, piece, &mut marked)?;
+        }
+    }
+    Ok(())
+}
+
+// Puts the rims in the order of their pieces.
+fn order_rims(alloc: Global, trial: &mut Trial) -> Result<(), NoMemory> {
+    let mut keys: Vec<Key> = Vec::new(alloc);
+    'keys: for i in 0..trial.rims.len() {
+        keys.push(key_of(trial.rims[i].piece, short(i), short(i)))?;
+    }
+    keys.sort()?;
+    let mut rims = Vec::new(alloc);
+    'rims: for i in 0..keys.len() {
+        let place = keys[i].place as usize;
+        if place < trial.rims.len() {
+            rims.push(trial.rims[place])?;
+        }
+    }
+    trial.rims = rims;
+    Ok(())
+}
+
+// What rims cost: of each body that has some 2 and 1 each, and 4 more if it has one face and one rim and isn't the only one.
+fn pay_rims(alloc: Global, trial: &mut Trial) -> Result<(), NoMemory> {
+    let mut rims = filled(alloc, trial.piece_count, 0)?;
+    let mut faces = filled(alloc, trial.piece_count, 0)?;
+    'rims: for i in 0..trial.rims.len() {
+        more(&mut rims, trial.rims[i].piece);
+    }
+    'faces: for i in 0..trial.pieces.len() {
+        more(&mut faces, trial.pieces[i]);
+    }
+    let many = trial.piece_count > 1;
+    'pieces: for piece in 0..trial.piece_count {
+        let count = at(&rims, piece);
+        if count > 0 {
+            trial.pay(count.saturating_add(2));
+            if many && count == 1 && at(&faces, piece) == 1 {
+                trial.pay(4);
+            }
+        }
+    }
+    Ok(())
+}
+
+/// Puts a face on each rim, so that each edge has two rows. Whether the shell is whole then.
+pub fn fill(alloc: Global, facts: &Facts, trial: &mut Trial) -> Result<bool, NoMemory> {
+    let table = table_of(alloc, facts, trial)?;
+    if !is_whole(&table) {
+        return Ok(false);
+    }
+    let fans = fans_of(alloc, &table)?;
+    let links = links(alloc, &table, &fans, short(trial.vertices.len()))?;
+    add_rims(alloc, facts, trial, &table, &links)?;
+    if !trial.rims.is_empty() {
+        trial.sure = false;
+        order_rims(alloc, trial)?;
+        pay_rims(alloc, trial)?;
+    }
+    Ok(true)
+}

@@ -1,0 +1,77 @@
+//! Parting a shell into the bodies that it falls into.
+
+use crate::separating::separate;
+use iges_base::NoMemory;
+use shell_trial::{Facts, NONE, Sets, Table, Trial, at, filled, mate, put, short};
+use std::alloc::Global;
+
+/// Which edges join the faces that have them.
+#[derive(Clone, Copy, PartialEq, Eq)]
+pub enum By {
+    /// Each one.
+    All,
+    /// Those with two rows.
+    Pairs,
+    /// Those whose two rows are mates.
+    Mates,
+}
+
+fn joins(table: &Table, i: u32, by: By) -> bool {
+    match by {
+        By::All => true,
+        By::Pairs => table.rows_on(table.row(i).edge) == 2,
+        By::Mates => mate(table, i) != NONE,
+    }
+}
+
+/// The sets of faces that edges join.
+pub fn sets_of(alloc: Global, facts: &Facts, table: &Table, by: By) -> Result<Sets, NoMemory> {
+    let mut sets = Sets::new(alloc, short(facts.faces.len()))?;
+    'rows: for i in 0..table.rows.len() {
+        let i = short(i);
+        let row = table.row(i);
+        if row.edge != NONE && row.same != NONE && joins(table, i, by) {
+            let _joined = sets.join(at(&facts.face_of, i), at(&facts.face_of, row.same), false);
+        }
+    }
+    Ok(sets)
+}
+
+// Of each face the number of its set among those of the faces that are kept, by their first faces.
+fn numbered(alloc: Global, trial: &Trial, sets: &mut Sets) -> Result<(Vec<u32>, u32), NoMemory> {
+    let faces = short(trial.pieces.len());
+    let mut numbers = filled(alloc, faces, NONE)?;
+    let mut out = filled(alloc, faces, NONE)?;
+    let mut count = 0u32;
+    'faces: for i in 0..faces {
+        if at(&trial.pieces, i) != NONE {
+            let least = sets.find(i).least;
+            if at(&numbers, least) == NONE {
+                put(&mut numbers, least, count);
+                count = count.saturating_add(1);
+            }
+            put(&mut out, i, at(&numbers, least));
+        }
+    }
+    Ok((out, count))
+}
+
+/// Parts a shell into the sets of faces that edges join. Whether there are two or more.
+pub fn part(
+    alloc: Global,
+    facts: &Facts,
+    trial: &mut Trial,
+    table: &Table,
+    by: By,
+) -> Result<bool, NoMemory> {
+    let mut sets = sets_of(alloc, facts, table, by)?;
+    let (pieces, count) = numbered(alloc, trial, &mut sets)?;
+    if count < 2 {
+        return Ok(false);
+    }
+    trial.pieces = pieces;
+    trial.piece_count = count;
+    trial.pay(2);
+    separate(alloc, facts, trial)?;
+    Ok(true)
+}

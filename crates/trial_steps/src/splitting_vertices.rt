@@ -1,0 +1,167 @@
+//! Splitting vertices where several fans meet.
+
+use crate::fans::{Fans, fans_of};
+use iges_base::NoMemory;
+use shell_trial::{
+    Facts, LoopFact, NONE, Table, Trial, TrialEdge, TrialUse, TrialVertex, VertexKind, at, is_set,
+    set, short, table_of, turn_of, unset,
+};
+use std::alloc::Global;
+
+// Which vertices have a fan that keeps them, and which bodies had one split.
+#[derive(Drop)]
+struct Splits {
+    kept: Vec<bool>,
+    pieces: Vec<bool>,
+    count: u32,
+}
+
+fn new_vertex(trial: &mut Trial, vertex: u32) -> Result<u32, NoMemory> {
+    let like = trial.vertex(vertex).like;
+    trial.add_vertex(TrialVertex {
+        like,
+        kind: VertexKind::Split,
+    })
+}
+
+fn note(splits: &mut Splits, piece: u32) {
+    if !is_set(&splits.pieces, piece) {
+        set(&mut splits.pieces, piece, true);
+        splits.count = splits.count.saturating_add(1);
+    }
+}
+
+// The rows of a cycle start at another vertex now.
+fn move_cycle(trial: &mut Trial, table: &Table, first: u32, vertex: u32) {
+    let mut i = first;
+    'turns: for _ in 0..table.rows.len() {
+        let row = table.row(i);
+        let edge = trial.edge(row.edge);
+        let now = if row.along {
+            TrialEdge {
+                from: vertex,
+                ..edge
+            }
+        } else {
+            TrialEdge { to: vertex, ..edge }
+        };
+        trial.put_edge(row.edge, now);
+        i = turn_of(table, i);
+        if i == first || i == NONE {
+            break 'turns;
+        }
+    }
+}
+
+fn split_cycles(
+    facts: &Facts,
+    trial: &mut Trial,
+    table: &Table,
+    fans: &Fans,
+    splits: &mut Splits,
+) -> Result<(), NoMemory> {
+    'cycles: for i in 0..fans.cycles.len() {
+        let first = fans.cycles[i];
+        let vertex = table.row(first).start;
+        if is_set(&splits.kept, vertex) {
+            let new = new_vertex(trial, vertex)?;
+            move_cycle(trial, table, first, new);
+            note(splits, at(&trial.pieces, at(&facts.face_of, first)));
+        } else {
+            set(&mut splits.kept, vertex, true);
+        }
+    }
+    Ok(())
+}
+
+// Where a loop ends by its last use of an edge; `NONE` where it has no edge.
+fn last_end(trial: &Trial, walk: LoopFact) -> u32 {
+    let mut last = NONE;
+    'uses: for t in 0..walk.uses {
+        let item = trial.item(walk.first_use.saturating_add(t));
+        if item.on_edge {
+            let edge = trial.edge(item.item);
+            last = if item.along { edge.to } else { edge.from };
+        }
+    }
+    last
+}
+
+fn move_point(trial: &mut Trial, walk: LoopFact, vertex: u32) {
+    'uses: for t in 0..walk.uses {
+        let here = walk.first_use.saturating_add(t);
+        let was = trial.item(here);
+        trial.put_use(
+            here,
+            TrialUse {
+                item: vertex,
+                ..was
+            },
+        );
+    }
+}
+
+fn split_points(facts: &Facts, trial: &mut Trial, splits: &mut Splits) -> Result<(), NoMemory> {
+    'loops: for i in 0..facts.loops.len() {
+        let walk = facts.walk(short(i));
+        let piece = at(&trial.pieces, walk.face);
+        if piece != NONE && walk.uses > 0 && last_end(trial, walk) == NONE {
+            let vertex = trial.item(walk.first_use).item;
+            if is_set(&splits.kept, vertex) {
+                let new = new_vertex(trial, vertex)?;
+                move_point(trial, walk, new);
+                note(splits, piece);
+            } else {
+                set(&mut splits.kept, vertex, true);
+            }
+        }
+    }
+    Ok(())
+}
+
+// Uses of vertices go with the edge uses before them.
+fn follow_edges(trial: &mut Trial, walk: LoopFact) {
+    let mut last = last_end(trial, walk);
+    'uses: for t in 0..walk.uses {
+        let here = walk.first_use.saturating_add(t);
+        let was = trial.item(here);
+        if was.on_edge {
+            let edge = trial.edge(was.item);
+            last = if was.along { edge.to } else { edge.from };
+        } else if last != NONE {
+            trial.put_use(here, TrialUse { item: last, ..was });
+        }
+    }
+}
+
+fn follow_all(facts: &Facts, trial: &mut Trial) {
+    'loops: for i in 0..facts.loops.len() {
+        let walk = facts.walk(short(i));
+        if at(&trial.pieces, walk.face) != NONE {
+            follow_edges(trial, walk);
+        }
+    }
+}
+
+/// Splits the vertices where several fans of a body meet: each cycle of turns and each loop without an edge gets a new one, but
+/// the first where there is no path.
+pub fn split_vertices(alloc: Global, facts: &Facts, trial: &mut Trial) -> Result<(), NoMemory> {
+    let table = table_of(alloc, facts, trial)?;
+    let fans = fans_of(alloc, &table)?;
+    let mut splits = Splits {
+        kept: unset(alloc, short(trial.vertices.len()))?,
+        pieces: unset(alloc, trial.piece_count)?,
+        count: 0,
+    };
+    'paths: for i in 0..fans.paths.len() {
+        let vertex = table.row(fans.paths[i].first).start;
+        set(&mut splits.kept, vertex, true);
+    }
+    split_cycles(facts, trial, &table, &fans, &mut splits)?;
+    split_points(facts, trial, &mut splits)?;
+    if splits.count > 0 {
+        follow_all(facts, trial);
+        trial.pay(splits.count.saturating_mul(2));
+    }
+    Ok(())
+}

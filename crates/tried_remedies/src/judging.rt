@@ -1,0 +1,97 @@
+//! Whether a remedy that was found fits and passes.
+
+ghost use Rattle.std.specs.Prelude.{◌≡◌, ◌↔◌, ◌≤◌, ◌<◌, IsTrue, IfOk, length};
+ghost use Rattle.edge_uses.specs.Before.{AreBelow};
+ghost use Rattle.tried_remedies.specs.Tried.{IsTried, AreTried};
+
+use change_fits::fits;
+use change_passes::passes_before;
+use edge_uses::rows;
+use iges_base::{ItemList, NoMemory};
+use remedy_search::search;
+use shell_change::{Geometry, Known, Remedy};
+use solid_data::{ShellAt, Solid};
+use solid_faults::below_next;
+use std::alloc::Global;
+
+fn is_of(remedy: &Remedy, shell: ShellAt) -> bool
+    ensures { IsTrue result ↔ (remedy.now.change.shell ≡ shell) }
+{
+    remedy.change.shell.0 == shell.0
+}
+
+fn is_tried(
+    alloc: Global,
+    solid: &Solid,
+    geometry: &Geometry,
+    shell: ShellAt,
+    below: usize,
+    remedy: &Remedy,
+) -> Result<bool, NoMemory>
+    requires { AreBelow solid.now shell.0 below }
+    ensures { IfOk result (λ tried. IsTrue tried
+        → IsTried solid.now geometry.now shell remedy.now) }
+{
+    if !is_of(remedy, shell) {
+        return Ok(false);
+    }
+    let fit = fits(alloc, solid, geometry, &remedy.change)?;
+    if !fit {
+        return Ok(false);
+    }
+    let pass = passes_before(alloc, solid, &remedy.change, below)?;
+    Ok(pass)
+}
+
+fn below_shell(alloc: Global, solid: &Solid, shell: ShellAt) -> Result<usize, NoMemory>
+    requires { shell.0 ≤ length solid.now.shells }
+    ensures { IfOk result (λ below. AreBelow solid.now shell.0 below) }
+{
+    solid.recall_numbering();
+    let mut below = 0;
+    'shells: for k in 0..shell.0 {
+        let rows = rows(alloc, solid, ShellAt(k))?;
+        below = below_next(below, &rows);
+    }
+    Ok(below)
+}
+
+/// The same as `tried_remedies`, where the number is given that the vertices of the shells before this one lie below: whoever
+/// goes over the shells carries it, and each takes time for itself alone.
+pub fn tried_before(
+    alloc: Global,
+    solid: &Solid,
+    known: &Known,
+    shell: ShellAt,
+    below: usize,
+) -> Result<ItemList<Remedy>, NoMemory>
+    requires { AreBelow solid.now shell.0 below }
+    ensures { IfOk result (λ remedies. AreTried solid.now known.now.geometry shell remedies) }
+{
+    let found = search(alloc, solid, known, shell, below)?;
+    let mut tried = ItemList::new(alloc);
+    'found: for remedy in found {
+        let good = is_tried(alloc, solid, &known.geometry, shell, below, &remedy)?;
+        if good {
+            tried.push(remedy)?;
+        }
+    }
+    Ok(tried)
+}
+
+/// The remedies of a shell that fit and pass, the cheapest first, at most six. What the search proposes and a judge refuses is
+/// left out. There are none of a shell that the solid hasn't got.
+pub fn tried_remedies(
+    alloc: Global,
+    solid: &Solid,
+    known: &Known,
+    shell: ShellAt,
+) -> Result<ItemList<Remedy>, NoMemory>
+    ensures { IfOk result (λ remedies. AreTried solid.now known.now.geometry shell remedies) }
+{
+    if shell.0 as usize >= solid.shell_count() {
+        return Ok(ItemList::new(alloc));
+    }
+    let below = below_shell(alloc, solid, shell)?;
+    tried_before(alloc, solid, known, shell, below)
+}

@@ -1,3 +1,0 @@
-pub mod Sentences
-pub mod Facts
-pub mod Lines

@@ -1,0 +1,3 @@
+pub mod LoneShells
+pub mod SameShells
+pub mod AllSolids

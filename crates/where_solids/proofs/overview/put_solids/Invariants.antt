@@ -1,9 +1,0 @@
-use Rattle.std.proofs.Common.{◌≡◌, ◌++◌, drop, flat_map}
-use Rattle.std.specs.Prelude.{zip}
-use Rattle.where_solids.specs.Overview.{solid_paragraph}
-use Rattle.where_solids.proofs.overview.put_solids.Given as goal
-
-abbrev pub invariant-solids : goal.invariant-solids
-invariant-solids l =
-    l.out ++ flat_map (solid_paragraph l.placed) (zip (drop l.i l.solids) (drop l.i l.verdicts)) ≡ l.fn.out
-    ++ flat_map (solid_paragraph l.placed) (zip l.solids l.verdicts)

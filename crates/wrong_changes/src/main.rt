@@ -1,0 +1,92 @@
+//! `wrong_changes`: what the checker of changes says of a change that fits, and of many that don't, each for another clause.
+//! tests/wrong_changes.py writes what it reads and must print.
+#![tactic(auto)]
+
+mod items;
+mod numbers;
+
+use crate::items::Item;
+use crate::numbers::Row;
+use brep_walk::walk;
+use change_fits::fits;
+use iges_base::{EntryNo, FILE_LIMIT};
+use iges_params::read_file;
+use shell_change::{Change, Geometry};
+use solid_data::Solid;
+use std::alloc::Global;
+use std::{fs, io};
+
+// The solid of the first entry of a file.
+fn solid_of(alloc: Global, text: &[u8]) -> Option<Solid> {
+    if text.len() as u64 > FILE_LIMIT {
+        return None;
+    }
+    let file = read_file(alloc, text).ok()?;
+    walk(alloc, &file, EntryNo(1)).ok()
+}
+
+fn numbers_of(alloc: Global, text: &str) -> Option<Vec<u32>> {
+    let mut numbers = Vec::new(alloc);
+    'words: for word in text.split_whitespace() {
+        let number = word.parse::<u32>().ok()?;
+        numbers.push(number).ok()?;
+    }
+    Some(numbers)
+}
+
+// The item that all numbers of a text stand for.
+fn item_of<T: Item>(alloc: Global, text: &str) -> Option<T> {
+    let numbers = numbers_of(alloc, text)?;
+    let mut row = Row::new(numbers.as_slice());
+    let item = T::read(alloc, &mut row);
+    if !row.is_whole() {
+        return None;
+    }
+    Some(item)
+}
+
+// What the checker says of the change that a text stands for.
+fn verdict(alloc: Global, solid: &Solid, geometry: &Geometry, text: &str) -> &'static str {
+    let Some(change) = item_of::<Change>(alloc, text) else {
+        return "unread";
+    };
+    match fits(alloc, solid, geometry, &change) {
+        Ok(true) => "fits",
+        Ok(false) => "refused",
+        Err(_) => "unjudged",
+    }
+}
+
+// Prints a line for each change, which stands behind its name: what the checker says, and the name.
+fn print_verdicts(
+    rt: &HostRuntime,
+    solid: &Solid,
+    geometry: &Geometry,
+    changes: &str,
+) -> io::Result<()> {
+    'lines: for line in changes.lines() {
+        let Some((name, change)) = line.split_once('\t') else {
+            continue;
+        };
+        let said = verdict(rt.alloc(), solid, geometry, change);
+        println!(rt; "{said}: {name}")?;
+    }
+    Ok(())
+}
+
+fn judge(rt: &HostRuntime, solid: &Solid) -> io::Result<()> {
+    let known = fs::read_to_string(rt, "geometry.txt")?;
+    let changes = fs::read_to_string(rt, "changes.tsv")?;
+    match item_of::<Geometry>(rt.alloc(), known.as_str()) {
+        Some(geometry) => print_verdicts(rt, solid, &geometry, changes.as_str()),
+        None => println!(rt; "no geometry"),
+    }
+}
+
+fn main(rt: HostRuntime) -> io::Result<()> {
+    let file = fs::read_to_string(&rt, "solid.igs")?;
+    match solid_of(rt.alloc(), file.as_str().as_bytes()) {
+        Some(solid) => judge(&rt, &solid),
+        None => println!(rt; "no solid"),
+    }
+}

@@ -1,0 +1,60 @@
+"""The mended copy of a file, beside it: what `igesolid mend` writes. FreeCAD isn't needed here."""
+import itertools
+import os
+import pathlib
+from typing import Optional
+
+from igesolid import Error, NeedsFaces, NotMended, Unsure
+
+from .telling import Told, ToldSolid
+
+
+class NotWritten(Exception):
+    """There is no mended copy; why, in words."""
+
+
+def solid_to_mend(told: Told, number: Optional[int]) -> ToldSolid:
+    """The solid of this number, if it may be mended; where none is chosen, the first that may."""
+    found = next((it for it in told.solids if it.may_mend and number in (None, it.number)), None)
+    if found is None:
+        of = "in this file" if number is None else f"of solid {number}"
+        raise NotWritten(f"There is nothing to mend {of}: it is closed, or a record is wrong.")
+    return found
+
+
+def _why(fault: NotMended, number: int) -> str:
+    if isinstance(fault, Unsure):
+        return f"The records don't tell which remedy of solid {number} is meant. Choose one in the tree, such as remedy {fault.remedy}, and press Mend again."
+    if isinstance(fault, NeedsFaces):
+        faces = "a face" if fault.faces == 1 else f"{fault.faces:,} faces"
+        return f"Solid {number} isn't mended, since {faces} must be made anew: the rims of its first remedy tell where. Another remedy may do without: choose it."
+    return f"No remedy is known that closes solid {number}."
+
+
+def _new_file(path: str, data: bytes) -> str:
+    """Writes a file of a name that is free, part-mended-1.igs or with the next number; its path."""
+    whole = pathlib.Path(path)
+    for k in itertools.count(1):
+        new = whole.with_name(f"{whole.stem}-mended-{k}{whole.suffix}")
+        try:
+            with open(new, "xb") as file:
+                file.write(data)
+            return os.fspath(new)
+        except FileExistsError:
+            continue
+        except OSError as fault:
+            raise NotWritten(f"{new} can't be written: {fault.strerror}") from fault
+    raise AssertionError
+
+
+def mended_copy(path: str, told: Told, number: Optional[int], remedy: Optional[int]) -> str:
+    """Writes the mended copy of a solid, by the remedy of this number or else by the one that is sure; its path."""
+    chosen = solid_to_mend(told, number)
+    assert chosen.solid is not None
+    try:
+        data = chosen.solid.mend(remedy)
+    except NotMended as fault:
+        raise NotWritten(_why(fault, chosen.number)) from fault
+    except Error as fault:
+        raise NotWritten(f"Solid {chosen.number} isn't mended: {fault}") from fault
+    return _new_file(path, data)

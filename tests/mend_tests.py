@@ -1,0 +1,69 @@
+"""`mend` and `mended` (docs/REPAIR.md, section 7): solids that are made at random and mostly broken, and the examples, beside the second checker; what is
+written is closed, and a closed solid stays as extracted."""
+import pathlib
+import random
+
+from lattices import lattice_text
+from programs import Program
+from second_checker import answer
+from second_checker.reading import BadFile, File
+from surfaces import surface_text
+
+TOP = pathlib.Path(__file__).resolve().parent.parent
+CHOICES = "", "", "1", "2", "3", "6"
+# Words of no form: N and R that aren't what they are to be.
+WORDS = (), ("0",), ("x",), ("12345678",), ("1", "0"), ("1", "7"), ("1", "01"), ("1", "x"), ("1", ""), ("1", "1", "1")
+
+
+class Mending:
+    """Runs of igesolid-repair, and of igesolid on what it writes, each in a folder of its own."""
+
+    def __init__(self, folder, igesolid, repair):
+        for name in "to_judge", "to_mend":
+            (folder / name).mkdir(exist_ok=True)
+        self.judge, self.program = Program(igesolid, folder / "to_judge"), Program(repair, folder / "to_mend")
+
+    def checks(self, name, data, solid=1, choice=""):
+        words = ["FILE", str(solid), *([choice] if choice else [])]
+        told = self.program.words(["mend", *words], data)
+        for command, got in ("mend", told), ("mended", self.program.words(["mended", *words], data)):
+            yield f"{name}: {command} {choice}", got == answer([command, *words], data)
+        if told[0] == 0:
+            yield f"{name}: what mend {choice} writes is closed", self.judge.words(["certify", "FILE", "all"], told[1])[0] == 0
+        if self.judge.words(["certify", "FILE", str(solid)], data)[0] == 0:
+            yield f"{name}: stays as extracted", told == self.judge.words(["extract", "FILE", str(solid)], data)
+
+
+def example_checks(runs):
+    for path in sorted((TOP / "examples").rglob("*.igs")):
+        data = path.read_bytes()
+        try:
+            solids = File(data).solids()
+        except BadFile:
+            solids = [1]
+        for solid in solids:
+            yield from runs.checks(f"{path.name}, solid {solid}", data, solid)
+
+
+def random_checks(runs, cases):
+    for case in cases:
+        rng = random.Random(f"mend {case}")
+        made = rng.choice([lattice_text, lattice_text, lattice_text, surface_text])
+        yield from runs.checks(f"mend: case {case}", made(rng), choice=rng.choice(CHOICES))
+
+
+def words_checks(runs, usage):
+    for command in "mend", "mended":
+        for words in WORDS:
+            yield f"{command} {' '.join(words)}: usage", runs.program.words([command, *(["FILE"] if words else []), *words], b"") == (2, usage)
+
+
+def checks(folder, igesolid, repair, usage, cases):
+    runs = Mending(folder, igesolid, repair)
+    yield from example_checks(runs)
+    yield from random_checks(runs, cases)
+    yield from words_checks(runs, usage)
+
+
+def more_checks(folder, igesolid, repair, cases):
+    yield from random_checks(Mending(folder, igesolid, repair), cases)
