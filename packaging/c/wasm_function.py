@@ -308,6 +308,9 @@ class Function:
 
     def set_local(self, op, k):
         value = self.pop()
+        # Some compilers warn of what is set to itself.
+        if value.text == f"l{k}":
+            return
         self.keep_where(lambda it: k in it.locals)
         self.lines.append(f"l{k} = {value.number};")
 
