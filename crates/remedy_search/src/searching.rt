@@ -11,13 +11,7 @@ use trial_removals::{copies, like_faces, removals, remove};
 use trial_seams::{SeamCounts, Sewn, sew};
 
 // Tries a sewn shell, as it is and with each set of faces removed that may be too many.
-fn try_removals(
-    memory: &mut Memory,
-    facts: &Facts,
-    sewn: &Sewn,
-    trial: &Trial,
-    found: &mut Found,
-) {
+fn try_removals(memory: &mut Memory, facts: &Facts, sewn: &Sewn, trial: &Trial, found: &mut Found) {
     let mut plain = copy_of(memory, trial);
     try_ways(memory, facts, sewn, &mut plain, found);
     if found.is_over() {
@@ -46,12 +40,7 @@ fn is_among(seen: &[SeamCounts], counts: SeamCounts) -> bool {
 }
 
 // Tries a shell unsewn, and sewn at each level that sews other numbers than those before.
-fn try_levels(
-    memory: &mut Memory,
-    facts: &Facts,
-    trial: &Trial,
-    found: &mut Found,
-) {
+fn try_levels(memory: &mut Memory, facts: &Facts, trial: &Trial, found: &mut Found) {
     let mut seen = memory.list();
     'levels: for level in 0..5 {
         if found.is_over() {

@@ -1,6 +1,5 @@
 //! Lists that are read and written at any place: beyond the end there is nothing.
 
-
 /// No number.
 pub const NONE: u32 = u32::MAX;
 

@@ -1,7 +1,7 @@
 //! Keys, and the numbers of the classes of equal ones.
 
-use crate::memory::Memory;
 use crate::cells::{item_at, put};
+use crate::memory::Memory;
 
 /// Four numbers that are compared, and whose they are.
 #[derive(Clone, Copy, PartialEq, Eq, PartialOrd, Ord)]

@@ -1,6 +1,6 @@
 //! What a search knows of a shell before it is changed, by numbers within the shell.
 
-use crate::cells::{item_at};
+use crate::cells::item_at;
 use crate::trial::TrialUse;
 use shell_change::ArcKnown;
 

@@ -1,9 +1,9 @@
 //! What is known of a shell, with the classes of its edges.
 
-use crate::memory::Memory;
 use crate::cells::{NONE, item_at, short};
 use crate::classes::{Key, classes_of};
 use crate::facts::{EdgeFact, Facts};
+use crate::memory::Memory;
 use crate::reading::{Numbers, Read, read_edges, read_faces, read_vertices};
 use edge_uses::rows;
 use shell_change::{CurveKnown, Known};

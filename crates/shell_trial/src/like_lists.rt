@@ -1,8 +1,8 @@
 //! Which owners have equal lists of numbers, whatever their order.
 
-use crate::memory::Memory;
 use crate::cells::{NONE, item_at, put, short};
 use crate::classes::{Key, classes_of, key_of};
+use crate::memory::Memory;
 
 /// A number that an owner has.
 #[derive(Clone, Copy, PartialEq, Eq, PartialOrd, Ord)]

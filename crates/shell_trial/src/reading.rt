@@ -1,8 +1,8 @@
 //! A shell read into flat lists.
 
-use crate::memory::Memory;
 use crate::cells::{NONE, item_at, short};
 use crate::facts::{EdgeFact, FaceFact, LoopFact, VertexFact};
+use crate::memory::Memory;
 use crate::trial::TrialUse;
 use shell_change::{ArcKnown, CurveKnown, Known};
 use solid_data::{EdgeId, FaceUse, Loop, LoopUse, Shell, Solid};
@@ -47,20 +47,17 @@ fn use_of(numbers: Numbers<'_>, item: LoopUse) -> TrialUse {
     }
 }
 
-fn read_loop(
-    memory: &mut Memory,
-    read: &mut Read,
-    numbers: Numbers<'_>,
-    walk: &Loop,
-    face: u32,
-) {
+fn read_loop(memory: &mut Memory, read: &mut Read, numbers: Numbers<'_>, walk: &Loop, face: u32) {
     let uses = walk.uses.as_slice();
     let number = short(read.loops.len());
-    memory.add(&mut read.loops, LoopFact {
-        face,
-        first_use: short(read.uses.len()),
-        uses: short(uses.len()),
-    });
+    memory.add(
+        &mut read.loops,
+        LoopFact {
+            face,
+            first_use: short(read.uses.len()),
+            uses: short(uses.len()),
+        },
+    );
     'uses: for i in 0..uses.len() {
         memory.add(&mut read.uses, use_of(numbers, uses[i]));
         memory.add(&mut read.loop_of, number);
@@ -77,12 +74,15 @@ fn read_face(
 ) {
     let loops = face.loops.as_slice();
     let number = short(read.faces.len());
-    memory.add(&mut read.faces, FaceFact {
-        flag: face.flag,
-        surface,
-        first_loop: short(read.loops.len()),
-        loops: short(loops.len()),
-    });
+    memory.add(
+        &mut read.faces,
+        FaceFact {
+            flag: face.flag,
+            surface,
+            first_loop: short(read.loops.len()),
+            loops: short(loops.len()),
+        },
+    );
     'loops: for i in 0..loops.len() {
         read_loop(memory, read, numbers, &loops[i], number);
     }
@@ -123,11 +123,14 @@ pub fn read_vertices(
     let mut out = memory.list();
     'vertices: for i in 0..numbers.len() {
         let number = numbers[i];
-        memory.add(&mut out, VertexFact {
-            number,
-            place: item_at(places, number, NONE),
-            shared: (number as usize) < below,
-        });
+        memory.add(
+            &mut out,
+            VertexFact {
+                number,
+                place: item_at(places, number, NONE),
+                shared: (number as usize) < below,
+            },
+        );
     }
     out
 }

@@ -1,7 +1,7 @@
 //! Sets that are joined, each member on one of two sides.
 
-use crate::memory::Memory;
 use crate::cells::{NONE, at, is_set, put, set};
+use crate::memory::Memory;
 
 /// The least member of a set, and whether a member is on its other side.
 #[derive(Clone, Copy)]

@@ -1,8 +1,8 @@
 //! The rows of a trial: the uses of edges by the faces that it keeps.
 
-use crate::memory::Memory;
 use crate::cells::{NONE, at, is_set, item_at, more, put, put_item, short};
 use crate::facts::{Facts, LoopFact};
+use crate::memory::Memory;
 use crate::trial::{Trial, TrialUse};
 
 /// A row, by the number of its use.
@@ -113,11 +113,14 @@ fn add_gaps(memory: &mut Memory, trial: &Trial, table: &mut Table, number: u32, 
         let (_, end) = bare_ends(trial, trial.item(here));
         let (start, _) = bare_ends(trial, trial.item(after));
         if end != start {
-            memory.add(&mut table.gaps, Gap {
-                at_loop: number,
-                end,
-                start,
-            });
+            memory.add(
+                &mut table.gaps,
+                Gap {
+                    at_loop: number,
+                    end,
+                    start,
+                },
+            );
         }
     }
 }

@@ -1,8 +1,8 @@
 //! A shell while steps change it.
 
-use crate::memory::Memory;
 use crate::cells::{NONE, item_at, put_item, short};
 use crate::facts::{EdgeFact, FaceFact, Facts};
+use crate::memory::Memory;
 
 /// A use of an edge or of a vertex.
 #[derive(Clone, Copy)]
@@ -143,12 +143,15 @@ fn first_edges(memory: &mut Memory, edges: &[EdgeFact]) -> Vec<TrialEdge> {
     let mut out = memory.list();
     'edges: for i in 0..edges.len() {
         let edge = edges[i];
-        memory.add(&mut out, TrialEdge {
-            like: short(i),
-            from: edge.from,
-            to: edge.to,
-            split: false,
-        });
+        memory.add(
+            &mut out,
+            TrialEdge {
+                like: short(i),
+                from: edge.from,
+                to: edge.to,
+                split: false,
+            },
+        );
     }
     out
 }
@@ -156,10 +159,13 @@ fn first_edges(memory: &mut Memory, edges: &[EdgeFact]) -> Vec<TrialEdge> {
 fn first_vertices(memory: &mut Memory, count: u32) -> Vec<TrialVertex> {
     let mut out = memory.list();
     'vertices: for like in 0..count {
-        memory.add(&mut out, TrialVertex {
-            like,
-            kind: VertexKind::Own,
-        });
+        memory.add(
+            &mut out,
+            TrialVertex {
+                like,
+                kind: VertexKind::Own,
+            },
+        );
     }
     out
 }

@@ -7,7 +7,9 @@ use crate::telling::loop_now;
 use crate::views::Views;
 use iges_base::ItemList;
 use shell_change::{Change, FaceNow, Fate, Move, NewEdge, NewVertex, Rim, RimEdge};
-use shell_trial::{Facts, Memory, NONE, Rim as TrialRim, RimRow, Trial, at, is_set, item_at, short};
+use shell_trial::{
+    Facts, Memory, NONE, Rim as TrialRim, RimRow, Trial, at, is_set, item_at, short,
+};
 use solid_data::{EdgeId, ShellAt, VertexId};
 use trial_seams::Sewn;
 
@@ -32,12 +34,7 @@ fn face_now(
     }
 }
 
-fn fate_of(
-    memory: &mut Memory,
-    views: Views<'_>,
-    moves: &mut Moves,
-    number: u32,
-) -> Fate {
+fn fate_of(memory: &mut Memory, views: Views<'_>, moves: &mut Moves, number: u32) -> Fate {
     let piece = at(&views.trial.pieces, number);
     if piece == NONE {
         return Fate::Removed;
@@ -72,11 +69,7 @@ fn new_edge(memory: &mut Memory, views: Views<'_>, moves: &mut Moves, number: u3
     }
 }
 
-fn new_edges(
-    memory: &mut Memory,
-    views: Views<'_>,
-    moves: &mut Moves,
-) -> ItemList<NewEdge> {
+fn new_edges(memory: &mut Memory, views: Views<'_>, moves: &mut Moves) -> ItemList<NewEdge> {
     let mut out = memory.items();
     'edges: for i in 0..views.names.edges.len() {
         let edge = new_edge(memory, views, moves, views.names.edges[i]);
@@ -89,9 +82,12 @@ fn new_vertices(memory: &mut Memory, views: Views<'_>) -> ItemList<NewVertex> {
     let mut out = memory.items();
     'vertices: for i in 0..views.names.vertices.len() {
         let vertex = views.trial.vertex(views.names.vertices[i]);
-        memory.add_item(&mut out, NewVertex {
-            like: VertexId(views.facts.vertex(vertex.like).number),
-        });
+        memory.add_item(
+            &mut out,
+            NewVertex {
+                like: VertexId(views.facts.vertex(vertex.like).number),
+            },
+        );
     }
     out
 }
@@ -113,10 +109,13 @@ fn rim_now(memory: &mut Memory, views: Views<'_>, rim: TrialRim) -> Rim {
     let mut edges = memory.items();
     'edges: for i in 0..rim.count {
         let row = item_at(&views.trial.rim_rows, rim.first.saturating_add(i), NO_ROW);
-        memory.add_item(&mut edges, RimEdge {
-            edge: edge_name(views.facts, views.trial, views.names, row.edge),
-            along: row.along,
-        });
+        memory.add_item(
+            &mut edges,
+            RimEdge {
+                edge: edge_name(views.facts, views.trial, views.names, row.edge),
+                along: row.along,
+            },
+        );
     }
     Rim {
         piece: rim.piece,

@@ -78,12 +78,7 @@ fn removed(memory: &mut Memory, change: &Change, like: &[u32]) -> Vec<u32> {
 }
 
 /// Whether two changes remove the same faces, where those that are like each other count as one.
-pub fn removed_alike(
-    memory: &mut Memory,
-    a: &Change,
-    b: &Change,
-    like: &[u32],
-) -> bool {
+pub fn removed_alike(memory: &mut Memory, a: &Change, b: &Change, like: &[u32]) -> bool {
     let a = removed(memory, a, like);
     let b = removed(memory, b, like);
     if a.len() != b.len() {

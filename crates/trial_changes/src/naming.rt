@@ -51,13 +51,7 @@ pub(crate) fn edge_name(facts: &Facts, trial: &Trial, names: &Names, edge: u32) 
     EdgeName::New(at(&names.edge_numbers, edge))
 }
 
-fn name_vertex(
-    memory: &mut Memory,
-    facts: &Facts,
-    trial: &Trial,
-    names: &mut Names,
-    vertex: u32,
-) {
+fn name_vertex(memory: &mut Memory, facts: &Facts, trial: &Trial, names: &mut Names, vertex: u32) {
     if is_old_vertex(facts, trial, vertex) || at(&names.vertex_numbers, vertex) != NONE {
         return;
     }

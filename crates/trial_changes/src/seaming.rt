@@ -27,12 +27,7 @@ fn used_before(memory: &mut Memory, facts: &Facts, trial: &Trial) -> Vec<bool> {
 }
 
 /// The pairs that were sewn, but of those that aren't told by curves only such that a face that is kept used the edge left.
-pub(crate) fn seams_of(
-    memory: &mut Memory,
-    facts: &Facts,
-    trial: &Trial,
-    sewn: &Sewn,
-) -> Seams {
+pub(crate) fn seams_of(memory: &mut Memory, facts: &Facts, trial: &Trial, sewn: &Sewn) -> Seams {
     let used = used_before(memory, facts, trial);
     let count = short(facts.edges.len());
     let mut list = memory.items();
@@ -42,11 +37,14 @@ pub(crate) fn seams_of(
         let told = sewn.told(left);
         if taken != NONE && (is_set(&used, left) || told == Told::Curve) {
             put(&mut numbers, left, short(list.len()));
-            memory.add_item(&mut list, Seam {
-                left: EdgeId(facts.edge(left).number),
-                taken: EdgeId(facts.edge(taken).number),
-                told,
-            });
+            memory.add_item(
+                &mut list,
+                Seam {
+                    left: EdgeId(facts.edge(left).number),
+                    taken: EdgeId(facts.edge(taken).number),
+                    told,
+                },
+            );
         }
     }
     Seams { list, numbers }

@@ -44,12 +44,7 @@ fn others(memory: &mut Memory, like: &[u32], kept: &[u32]) -> Vec<u32> {
 
 /// Of each set of like faces all but the one with the fewest free edges; of equal ones the first is kept, or the last. At most
 /// two removals, each of some faces.
-pub fn copies(
-    memory: &mut Memory,
-    facts: &Facts,
-    table: &Table,
-    like: &[u32],
-) -> Vec<Removal> {
+pub fn copies(memory: &mut Memory, facts: &Facts, table: &Table, like: &[u32]) -> Vec<Removal> {
     let free = free_edges(memory, facts, table);
     let mut out = memory.list();
     'ways: for way in 0..2 {

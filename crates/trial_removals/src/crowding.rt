@@ -19,12 +19,7 @@ pub(crate) const NO_CROWD: Crowd = Crowd {
     all: 0,
 };
 
-fn crowded_rows(
-    memory: &mut Memory,
-    facts: &Facts,
-    table: &Table,
-    patches: &Patches,
-) -> Vec<Key> {
+fn crowded_rows(memory: &mut Memory, facts: &Facts, table: &Table, patches: &Patches) -> Vec<Key> {
     let mut out: Vec<Key> = memory.list();
     'rows: for i in 0..table.rows.len() {
         let i = short(i);
@@ -61,12 +56,15 @@ pub(crate) fn crowds_of(
         let next = item_at(&rows, short(i).saturating_add(1), NO_KEY);
         own = own.saturating_add(1);
         if next.first != key.first || next.second != key.second {
-            memory.add(&mut out, Crowd {
-                patch: key.first,
-                edge: key.second,
-                own,
-                all: table.rows_on(key.second),
-            });
+            memory.add(
+                &mut out,
+                Crowd {
+                    patch: key.first,
+                    edge: key.second,
+                    own,
+                    all: table.rows_on(key.second),
+                },
+            );
             own = 0;
         }
     }
@@ -79,11 +77,7 @@ pub(crate) fn leaves_well(all: u32, own: u32) -> bool {
 }
 
 /// Which patches are clean.
-pub(crate) fn clean_patches(
-    memory: &mut Memory,
-    crowds: &[Crowd],
-    faces: u32,
-) -> Vec<bool> {
+pub(crate) fn clean_patches(memory: &mut Memory, crowds: &[Crowd], faces: u32) -> Vec<bool> {
     let mut clean = memory.unset(faces);
     'there: for i in 0..crowds.len() {
         set(&mut clean, crowds[i].patch, true);

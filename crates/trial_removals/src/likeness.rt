@@ -1,6 +1,9 @@
 //! Faces that are like each other by their records.
 
-use shell_trial::{Entry, Facts, Key, Memory, NONE, TrialUse, at, classes_of, is_set, key_of, list_classes, put, set, short};
+use shell_trial::{
+    Entry, Facts, Key, Memory, NONE, TrialUse, at, classes_of, is_set, key_of, list_classes, put,
+    set, short,
+};
 
 // What a use is, whatever its edge or vertex is called.
 fn use_key(facts: &Facts, item: TrialUse, place: u32) -> Key {
@@ -40,10 +43,13 @@ fn use_entries(memory: &mut Memory, facts: &Facts, classes: &[u32]) -> Vec<Entry
     let mut out = memory.list();
     'uses: for i in 0..facts.uses.len() {
         let i = short(i);
-        memory.add(&mut out, Entry {
-            owner: at(&facts.face_of, i),
-            number: at(classes, i),
-        });
+        memory.add(
+            &mut out,
+            Entry {
+                owner: at(&facts.face_of, i),
+                number: at(classes, i),
+            },
+        );
     }
     out
 }

@@ -43,12 +43,7 @@ fn counts(memory: &mut Memory, leasts: &[u32]) -> Vec<u32> {
     out
 }
 
-fn free_counts(
-    memory: &mut Memory,
-    facts: &Facts,
-    table: &Table,
-    leasts: &[u32],
-) -> Vec<u32> {
+fn free_counts(memory: &mut Memory, facts: &Facts, table: &Table, leasts: &[u32]) -> Vec<u32> {
     let mut out = memory.filled(short(leasts.len()), 0);
     'rows: for i in 0..table.rows.len() {
         let i = short(i);
@@ -118,11 +113,7 @@ pub(crate) fn patches_of(
 }
 
 /// The faces of these parts, or of these patches.
-pub(crate) fn faces_of(
-    memory: &mut Memory,
-    leasts: &[u32],
-    chosen: &[bool],
-) -> Vec<u32> {
+pub(crate) fn faces_of(memory: &mut Memory, leasts: &[u32], chosen: &[bool]) -> Vec<u32> {
     let mut out = memory.list();
     'faces: for i in 0..leasts.len() {
         if is_set(chosen, leasts[i]) {

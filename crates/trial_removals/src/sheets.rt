@@ -2,7 +2,9 @@
 
 use crate::crowding::{Crowd, leaves_well};
 use crate::patches::Patches;
-use shell_trial::{Entry, Key, Memory, NONE, at, is_set, item_at, key_of, list_classes, more, put, set, short};
+use shell_trial::{
+    Entry, Key, Memory, NONE, at, is_set, item_at, key_of, list_classes, more, put, set, short,
+};
 
 /// Patches by the class of their crowded edges.
 #[derive(Drop)]
@@ -16,10 +18,13 @@ pub(crate) struct Sheets {
 fn classes(memory: &mut Memory, crowds: &[Crowd], faces: u32) -> Vec<u32> {
     let mut entries = memory.list();
     'crowds: for i in 0..crowds.len() {
-        memory.add(&mut entries, Entry {
-            owner: crowds[i].patch,
-            number: crowds[i].edge,
-        });
+        memory.add(
+            &mut entries,
+            Entry {
+                owner: crowds[i].patch,
+                number: crowds[i].edge,
+            },
+        );
     }
     list_classes(memory, entries, faces)
 }
@@ -29,7 +34,10 @@ fn by_class(memory: &mut Memory, crowds: &[Crowd], class: &[u32]) -> Vec<Key> {
     let mut keys: Vec<Key> = memory.list();
     'crowds: for i in 0..crowds.len() {
         let crowd = crowds[i];
-        memory.add(&mut keys, key_of(at(class, crowd.patch), crowd.edge, short(i)));
+        memory.add(
+            &mut keys,
+            key_of(at(class, crowd.patch), crowd.edge, short(i)),
+        );
     }
     memory.sort(&mut keys);
     keys
@@ -44,12 +52,7 @@ const NO_KEY: Key = Key {
 };
 
 // The classes of which all patches together leave some edge with other than none or two rows.
-fn bad_classes(
-    memory: &mut Memory,
-    crowds: &[Crowd],
-    keys: &[Key],
-    faces: u32,
-) -> Vec<bool> {
+fn bad_classes(memory: &mut Memory, crowds: &[Crowd], keys: &[Key], faces: u32) -> Vec<bool> {
     let mut bad = memory.unset(faces);
     let mut own = 0u32;
     'keys: for i in 0..keys.len() {
@@ -71,12 +74,7 @@ fn bad_classes(
 }
 
 // The classes of two patches or more that aren't bad, those of fewest faces first.
-fn good_classes(
-    memory: &mut Memory,
-    patches: &Patches,
-    class: &[u32],
-    bad: &[bool],
-) -> Vec<u32> {
+fn good_classes(memory: &mut Memory, patches: &Patches, class: &[u32], bad: &[bool]) -> Vec<u32> {
     let count = short(class.len());
     let mut members = memory.filled(count, 0);
     let mut sizes = memory.filled(count, 0);
@@ -120,11 +118,7 @@ pub(crate) fn sheets_of(
 }
 
 /// The patches of a class.
-pub(crate) fn patches_in(
-    memory: &mut Memory,
-    sheets: &Sheets,
-    wanted: u32,
-) -> Vec<bool> {
+pub(crate) fn patches_in(memory: &mut Memory, sheets: &Sheets, wanted: u32) -> Vec<bool> {
     let count = short(sheets.class.len());
     let mut out = memory.unset(count);
     'patches: for patch in 0..count {

@@ -10,13 +10,7 @@ use shell_trial::{Facts, Memory, NONE, Table, Trial, at, is_set, set, short};
 const MOST: usize = 6;
 
 // Puts a removal at the end, if it has faces, not all, and isn't there yet.
-fn add(
-    memory: &mut Memory,
-    out: &mut Vec<Removal>,
-    patches: &Patches,
-    faces: Vec<u32>,
-    cost: u32,
-) {
+fn add(memory: &mut Memory, out: &mut Vec<Removal>, patches: &Patches, faces: Vec<u32>, cost: u32) {
     let count = short(faces.len());
     if count == 0 || count >= patches.faces {
         return;
@@ -147,12 +141,7 @@ fn count_of(marks: &[bool]) -> u32 {
 }
 
 // The faces of these patches and of these parts; none, if one face is of both, or if there aren't both.
-fn faces_of_both(
-    memory: &mut Memory,
-    patches: &Patches,
-    fins: &[bool],
-    open: &[bool],
-) -> Vec<u32> {
+fn faces_of_both(memory: &mut Memory, patches: &Patches, fins: &[bool], open: &[bool]) -> Vec<u32> {
     let mut out = memory.list();
     'faces: for i in 0..patches.part.len() {
         let i = short(i);
@@ -187,12 +176,7 @@ fn add_fins(
     }
 }
 
-fn add_walls(
-    memory: &mut Memory,
-    patches: &Patches,
-    order: &[u32],
-    out: &mut Vec<Removal>,
-) {
+fn add_walls(memory: &mut Memory, patches: &Patches, order: &[u32], out: &mut Vec<Removal>) {
     'order: for i in 0..order.len() {
         if i >= MOST {
             break 'order;
@@ -204,12 +188,7 @@ fn add_walls(
     }
 }
 
-fn add_sheets(
-    memory: &mut Memory,
-    patches: &Patches,
-    crowds: &[Crowd],
-    out: &mut Vec<Removal>,
-) {
+fn add_sheets(memory: &mut Memory, patches: &Patches, crowds: &[Crowd], out: &mut Vec<Removal>) {
     let sheets = sheets_of(memory, patches, crowds, short(patches.patch.len()));
     'order: for i in 0..sheets.order.len() {
         if i >= MOST {
@@ -222,12 +201,7 @@ fn add_sheets(
 }
 
 /// The sets of faces that may be too many, each of some faces but not of all, in the order in which they are tried.
-pub fn removals(
-    memory: &mut Memory,
-    facts: &Facts,
-    trial: &Trial,
-    table: &Table,
-) -> Vec<Removal> {
+pub fn removals(memory: &mut Memory, facts: &Facts, trial: &Trial, table: &Table) -> Vec<Removal> {
     let patches = patches_of(memory, facts, trial, table);
     let mut out = memory.list();
     add_apart(memory, &mut out, &patches);

@@ -5,11 +5,7 @@ use crate::patches::Patches;
 use shell_trial::{Key, Memory, NONE, at, is_set, item_at, key_of, put, set, short};
 
 /// The clean patches, those of fewest faces first, of equal ones the last first.
-pub(crate) fn ordered(
-    memory: &mut Memory,
-    patches: &Patches,
-    clean: &[bool],
-) -> Vec<u32> {
+pub(crate) fn ordered(memory: &mut Memory, patches: &Patches, clean: &[bool]) -> Vec<u32> {
     let mut keys: Vec<Key> = memory.list();
     'patches: for i in 0..clean.len() {
         let i = short(i);

@@ -12,18 +12,24 @@ fn link_ends(memory: &mut Memory, facts: &Facts, sewn: &mut Sewn, edge: u32, tak
     } else {
         (kept.from, kept.to)
     };
-    memory.add(&mut sewn.links, Link {
-        left: left.from,
-        taken: from,
-        edge,
-        at_end: false,
-    });
-    memory.add(&mut sewn.links, Link {
-        left: left.to,
-        taken: to,
-        edge,
-        at_end: true,
-    });
+    memory.add(
+        &mut sewn.links,
+        Link {
+            left: left.from,
+            taken: from,
+            edge,
+            at_end: false,
+        },
+    );
+    memory.add(
+        &mut sewn.links,
+        Link {
+            left: left.to,
+            taken: to,
+            edge,
+            at_end: true,
+        },
+    );
 }
 
 fn link_seams(memory: &mut Memory, facts: &Facts, sewn: &mut Sewn) {
@@ -40,12 +46,15 @@ fn link_gaps(memory: &mut Memory, facts: &Facts, table: &Table, sewn: &mut Sewn)
         let gap = table.gaps[i];
         if facts.vertex(gap.end).place == facts.vertex(gap.start).place {
             sewn.counts.gaps = sewn.counts.gaps.saturating_add(1);
-            memory.add(&mut sewn.links, Link {
-                left: gap.end,
-                taken: gap.start,
-                edge: NONE,
-                at_end: false,
-            });
+            memory.add(
+                &mut sewn.links,
+                Link {
+                    left: gap.end,
+                    taken: gap.start,
+                    edge: NONE,
+                    at_end: false,
+                },
+            );
         }
     }
 }
@@ -119,12 +128,7 @@ fn reach_from(memory: &mut Memory, sewn: &mut Sewn, chains: &Chains, least: u32)
 }
 
 /// Links the vertices that become one.
-pub(crate) fn link_vertices(
-    memory: &mut Memory,
-    facts: &Facts,
-    table: &Table,
-    sewn: &mut Sewn,
-) {
+pub(crate) fn link_vertices(memory: &mut Memory, facts: &Facts, table: &Table, sewn: &mut Sewn) {
     link_seams(memory, facts, sewn);
     link_gaps(memory, facts, table, sewn);
     let vertices = short(facts.vertices.len());

@@ -2,7 +2,9 @@
 
 use crate::sewn::Sewn;
 use shell_change::{ArcKnown, Told};
-use shell_trial::{EdgeFact, Facts, Memory, NONE, Table, at, is_set, more, put, put_item, set, short};
+use shell_trial::{
+    EdgeFact, Facts, Memory, NONE, Table, at, is_set, more, put, put_item, set, short,
+};
 
 // Whether two edges are between the same two places.
 fn same_places(a: EdgeFact, b: EdgeFact) -> bool {
@@ -124,12 +126,7 @@ pub(crate) fn pair_in(
 }
 
 /// Makes one edge of those that are sure to be one, where one of them is free.
-pub(crate) fn pair_all(
-    memory: &mut Memory,
-    facts: &Facts,
-    table: &Table,
-    sewn: &mut Sewn,
-) {
+pub(crate) fn pair_all(memory: &mut Memory, facts: &Facts, table: &Table, sewn: &mut Sewn) {
     let count = short(facts.sure.len());
     let mut first = memory.filled(count, NONE);
     let mut free = memory.filled(count, 0);

@@ -4,15 +4,11 @@ use crate::linking::link_vertices;
 use crate::pairing::{pair_all, pair_in};
 use crate::sewn::{Sewn, unsewn};
 use shell_change::Told;
-use shell_trial::{Facts, Memory, NONE, Table, Trial, TrialEdge, TrialUse, at, is_set, short, table_of};
+use shell_trial::{
+    Facts, Memory, NONE, Table, Trial, TrialEdge, TrialUse, at, is_set, short, table_of,
+};
 
-fn pair(
-    memory: &mut Memory,
-    facts: &Facts,
-    table: &Table,
-    sewn: &mut Sewn,
-    level: u32,
-) {
+fn pair(memory: &mut Memory, facts: &Facts, table: &Table, sewn: &mut Sewn, level: u32) {
     if level == 4 {
         return pair_all(memory, facts, table, sewn);
     }

@@ -1,7 +1,10 @@
 //! The rims on which faces close a shell.
 
 use crate::fans::{Fans, fans_of};
-use shell_trial::{Facts, Key, Memory, NONE, Rim, RimRow, Table, Trial, at, is_set, key_of, mate, more, put, set, short};
+use shell_trial::{
+    Facts, Key, Memory, NONE, Rim, RimRow, Table, Trial, at, is_set, key_of, mate, more, put, set,
+    short,
+};
 
 /// Whether each edge has one row, or two that are mates, and there is no gap.
 pub fn is_whole(table: &Table) -> bool {
@@ -74,10 +77,13 @@ fn add_rim(
         }
         set(marked, i, true);
         let row = table.row(i);
-        memory.add(&mut trial.rim_rows, RimRow {
-            edge: row.edge,
-            along: !row.along,
-        });
+        memory.add(
+            &mut trial.rim_rows,
+            RimRow {
+                edge: row.edge,
+                along: !row.along,
+            },
+        );
         i = at(links, i);
     }
     let count = short(trial.rim_rows.len()).saturating_sub(begin);
@@ -88,13 +94,7 @@ fn add_rim(
     }
 }
 
-fn add_rims(
-    memory: &mut Memory,
-    facts: &Facts,
-    trial: &mut Trial,
-    table: &Table,
-    links: &[u32],
-) {
+fn add_rims(memory: &mut Memory, facts: &Facts, trial: &mut Trial, table: &Table, links: &[u32]) {
     let mut marked = memory.unset(short(table.rows.len()));
     'rows: for i in 0..table.rows.len() {
         let i = short(i);

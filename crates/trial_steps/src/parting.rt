@@ -55,13 +55,7 @@ fn numbered(memory: &mut Memory, trial: &Trial, sets: &mut Sets) -> (Vec<u32>, u
 }
 
 /// Parts a shell into the sets of faces that edges join. Whether there are two or more.
-pub fn part(
-    memory: &mut Memory,
-    facts: &Facts,
-    trial: &mut Trial,
-    table: &Table,
-    by: By,
-) -> bool {
+pub fn part(memory: &mut Memory, facts: &Facts, trial: &mut Trial, table: &Table, by: By) -> bool {
     let mut sets = sets_of(memory, facts, table, by);
     let (pieces, count) = numbered(memory, trial, &mut sets);
     if count < 2 {

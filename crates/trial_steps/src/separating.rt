@@ -1,6 +1,9 @@
 //! Edges and vertices of each body's own.
 
-use shell_trial::{FaceFact, Facts, LoopFact, Memory, NONE, Trial, TrialEdge, TrialUse, TrialVertex, VertexKind, at, item_at, put, short};
+use shell_trial::{
+    FaceFact, Facts, LoopFact, Memory, NONE, Trial, TrialEdge, TrialUse, TrialVertex, VertexKind,
+    at, item_at, put, short,
+};
 
 // What a body in turn has of each vertex and of each edge.
 #[derive(Drop)]
@@ -41,17 +44,26 @@ fn own_vertex(
         vertex
     } else {
         let like = trial.vertex(vertex).like;
-        trial.add_vertex(memory, TrialVertex {
-            like,
-            kind: VertexKind::Copied,
-        })
+        trial.add_vertex(
+            memory,
+            TrialVertex {
+                like,
+                kind: VertexKind::Copied,
+            },
+        )
     };
     put(&mut owned.vertex_now, vertex, now);
     now
 }
 
 // What a body has of an edge.
-fn own_edge(memory: &mut Memory, trial: &mut Trial, owned: &mut Owned, piece: u32, edge: u32) -> u32 {
+fn own_edge(
+    memory: &mut Memory,
+    trial: &mut Trial,
+    owned: &mut Owned,
+    piece: u32,
+    edge: u32,
+) -> u32 {
     let last = at(&owned.edge_piece, edge);
     if last == piece {
         return at(&owned.edge_now, edge);

@@ -1,7 +1,9 @@
 //! Splitting crowded edges.
 
 use crate::parting::{By, sets_of};
-use shell_trial::{Facts, Key, Memory, NONE, Sets, Table, Trial, TrialEdge, TrialUse, at, item_at, more, short};
+use shell_trial::{
+    Facts, Key, Memory, NONE, Sets, Table, Trial, TrialEdge, TrialUse, at, item_at, more, short,
+};
 
 const NO_KEY: Key = Key {
     first: NONE,
@@ -12,24 +14,22 @@ const NO_KEY: Key = Key {
 };
 
 // The rows of edges with four rows or more: by edge, those along before those against, by patch, by number.
-fn crowded_rows(
-    memory: &mut Memory,
-    facts: &Facts,
-    table: &Table,
-    patches: &mut Sets,
-) -> Vec<Key> {
+fn crowded_rows(memory: &mut Memory, facts: &Facts, table: &Table, patches: &mut Sets) -> Vec<Key> {
     let mut out = memory.list();
     'rows: for i in 0..table.rows.len() {
         let i = short(i);
         let row = table.row(i);
         if row.edge != NONE && table.rows_on(row.edge) >= 4 {
-            memory.add(&mut out, Key {
-                first: row.edge,
-                second: u32::from(!row.along),
-                third: patches.find(at(&facts.face_of, i)).least,
-                fourth: i,
-                place: i,
-            });
+            memory.add(
+                &mut out,
+                Key {
+                    first: row.edge,
+                    second: u32::from(!row.along),
+                    third: patches.find(at(&facts.face_of, i)).least,
+                    fourth: i,
+                    place: i,
+                },
+            );
         }
     }
     memory.sort(&mut out);

@@ -1,7 +1,10 @@
 //! Splitting vertices where several fans meet.
 
 use crate::fans::{Fans, fans_of};
-use shell_trial::{Facts, LoopFact, Memory, NONE, Table, Trial, TrialEdge, TrialUse, TrialVertex, VertexKind, at, is_set, set, short, turn_of};
+use shell_trial::{
+    Facts, LoopFact, Memory, NONE, Table, Trial, TrialEdge, TrialUse, TrialVertex, VertexKind, at,
+    is_set, set, short, turn_of,
+};
 
 // Which vertices have a fan that keeps them, and which bodies had one split.
 #[derive(Drop)]
@@ -13,10 +16,13 @@ struct Splits {
 
 fn new_vertex(memory: &mut Memory, trial: &mut Trial, vertex: u32) -> u32 {
     let like = trial.vertex(vertex).like;
-    trial.add_vertex(memory, TrialVertex {
-        like,
-        kind: VertexKind::Split,
-    })
+    trial.add_vertex(
+        memory,
+        TrialVertex {
+            like,
+            kind: VertexKind::Split,
+        },
+    )
 }
 
 fn note(splits: &mut Splits, piece: u32) {
@@ -139,7 +145,12 @@ fn follow_all(facts: &Facts, trial: &mut Trial) {
 
 /// Splits the vertices where several fans of a body meet: each cycle of turns and each loop without an edge gets a new one, but
 /// the first where there is no path. Whether there were such.
-pub fn split_vertices(memory: &mut Memory, facts: &Facts, trial: &mut Trial, table: &Table) -> bool {
+pub fn split_vertices(
+    memory: &mut Memory,
+    facts: &Facts,
+    trial: &mut Trial,
+    table: &Table,
+) -> bool {
     let fans = fans_of(memory, table);
     let mut splits = Splits {
         kept: memory.unset(short(trial.vertices.len())),

@@ -1,7 +1,9 @@
 //! Turning faces, so that the two rows of an edge run opposite.
 
 use crate::turning_loops::turn_loops;
-use shell_trial::{Facts, Memory, NONE, Row, Sets, Table, Trial, at, is_set, more, set, short, table_of};
+use shell_trial::{
+    Facts, Memory, NONE, Row, Sets, Table, Trial, at, is_set, more, set, short, table_of,
+};
 
 /// The first row of two of an edge, and the other one; None where its edge hasn't two, or it isn't the first.
 pub(crate) fn two_rows(table: &Table, i: u32) -> Option<(Row, Row)> {
@@ -40,11 +42,7 @@ fn join_faces(facts: &Facts, table: &Table, sets: &mut Sets) -> bool {
 }
 
 /// Of each set the members on the side that is to be turned: that without the least one, unless it has more.
-pub(crate) fn smaller_sides(
-    memory: &mut Memory,
-    sets: &mut Sets,
-    members: &[bool],
-) -> Vec<bool> {
+pub(crate) fn smaller_sides(memory: &mut Memory, sets: &mut Sets, members: &[bool]) -> Vec<bool> {
     let count = short(members.len());
     let mut here = memory.filled(count, 0);
     let mut there = memory.filled(count, 0);
@@ -90,12 +88,7 @@ fn change_flags(trial: &mut Trial, turned: &[bool]) {
 }
 
 // Whether flags alone did it.
-fn turn_faces(
-    memory: &mut Memory,
-    facts: &Facts,
-    trial: &mut Trial,
-    table: &Table,
-) -> bool {
+fn turn_faces(memory: &mut Memory, facts: &Facts, trial: &mut Trial, table: &Table) -> bool {
     let mut sets = Sets::new(memory, short(facts.faces.len()));
     if !join_faces(facts, table, &mut sets) {
         return false;

@@ -1,7 +1,9 @@
 //! Turning loops, where turning faces alone doesn't do.
 
 use crate::turning::{smaller_sides, two_rows};
-use shell_trial::{FaceFact, Facts, LoopFact, Memory, NONE, Sets, Table, Trial, TrialUse, at, is_set, set, short};
+use shell_trial::{
+    FaceFact, Facts, LoopFact, Memory, NONE, Sets, Table, Trial, TrialUse, at, is_set, set, short,
+};
 
 // Joins the loops of each edge with two rows. False where nothing makes all of them opposite.
 fn join_loops(facts: &Facts, table: &Table, sets: &mut Sets) -> bool {
@@ -91,12 +93,7 @@ fn turn_these(facts: &Facts, trial: &mut Trial, turned: &[bool]) -> bool {
 }
 
 /// Turns loops so that the two rows of each edge with two run opposite, if that can be.
-pub(crate) fn turn_loops(
-    memory: &mut Memory,
-    facts: &Facts,
-    trial: &mut Trial,
-    table: &Table,
-) {
+pub(crate) fn turn_loops(memory: &mut Memory, facts: &Facts, trial: &mut Trial, table: &Table) {
     let mut sets = Sets::new(memory, short(facts.loops.len()));
     if !join_loops(facts, table, &mut sets) {
         return;

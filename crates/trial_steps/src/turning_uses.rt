@@ -82,12 +82,7 @@ fn loops_with_gaps(memory: &mut Memory, facts: &Facts, table: &Table) -> Vec<boo
 }
 
 /// Turns uses in the loops that have gaps, the fewest with which each joins. Whether it did something.
-pub fn turn_uses(
-    memory: &mut Memory,
-    facts: &Facts,
-    trial: &mut Trial,
-    table: &Table,
-) -> bool {
+pub fn turn_uses(memory: &mut Memory, facts: &Facts, trial: &mut Trial, table: &Table) -> bool {
     let gaps = loops_with_gaps(memory, facts, table);
     let mut some = false;
     'loops: for i in 0..facts.loops.len() {
