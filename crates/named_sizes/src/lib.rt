@@ -1,7 +1,7 @@
 //! How much the records of solids name: whether it takes long to judge them.
 //!
-//! Each value takes a byte of the file at least, so where each loop is named once, all solids together name no more values than
-//! the file has bytes.
+//! Each value takes a byte of the file at least, and an entry three lines of 80 bytes, of which 64 hold values at most; so where
+//! each loop is named once, the sizes of all solids together are no more than the bytes of the file.
 #![tactic(auto)]
 
 mod records;
