@@ -5,16 +5,16 @@ use Rattle.iges_params.specs.Contents.{Contents}
 use Rattle.iges_params.specs.Named.{values_of}
 use Rattle.brep_lists.specs.OwnValues.{is_record_of}
 use Rattle.brep_lists.specs.declared.entity_kind.EntityKind.TheVariants.{Solid as solid, Shell as shell, Face as face}
-use Rattle.named_sizes.specs.declared.TheConstants.{MOST}
+use Rattle.named_sizes.specs.declared.TheConstants.{ENTRY, MOST}
 use Rattle.brep_walk.specs.Places.{faces, loops, shells}
 
 abbrev pub items_if : {A : Type 0} → Bool → List A → List A
 items_if true xs = xs
 items_if false xs = []
 
--- the size of a record of n values: as many, and 100 more, which is less than what an entry's lines have beside them; nothing where there are none
+-- the size of a record of n values: as many, and some more, which is less than what an entry's lines have beside them; nothing where there are none
 abbrev pub record_size : ℕ → ℕ
-record_size n = if n == 0 then 0 else n + 100
+record_size n = if n == 0 then 0 else n + ENTRY
 
 unfoldable pub loop_size : Contents → ℤ → ℕ
 loop_size f z = record_size (length (values_of f z))

@@ -11,3 +11,6 @@ pub use sizes::solid_sizes;
 
 /// The most that is counted of a size; a file within `FILE_LIMIT` has fewer values.
 pub const MOST: u64 = 4_294_967_295;
+
+/// What a loop's size counts beside its values.
+pub const ENTRY: u64 = 100;

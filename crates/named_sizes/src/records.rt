@@ -8,13 +8,10 @@ ghost use Rattle.named_sizes.specs.Sizes.{AreSizes, capped, face_size as size_of
 ghost use Rattle.std.specs.List.{sum_by};
 ghost use Rattle.std.specs.Prelude.{◌≡◌, ◌+◌, ◌<◌, ◌≤◌, Bool, ℤ, ℕ, ◌∷◌, [], IfSome, MatchOption};
 
-use crate::MOST;
+use crate::{ENTRY, MOST};
 use brep_loops::{FaceRecord, ShellRecord, SolidRecord};
 use iges_fields::{ItemList, Values};
 use iges_params::File;
-
-// What an entry counts beside its values.
-const ENTRY: u64 = 100;
 
 /// At the place of each number the size of its entry.
 pub type Sizes = ItemList<u64>;
