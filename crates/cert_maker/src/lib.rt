@@ -10,6 +10,7 @@ mod making;
 mod naming;
 mod pairs;
 mod shell_part;
+mod sharing;
 
 pub use book::{BookFault, certify_all};
 pub use deciding::verdict;
