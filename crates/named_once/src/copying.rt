@@ -38,6 +38,15 @@ pub(crate) fn kept_count(stay: &[bool]) -> Result<u32, NoMemory>
     Ok(count)
 }
 
+fn put_number(kept: &mut ItemList<i64>, number: i64, stays: bool) -> Result<(), NoMemory>
+    ensures { OnOk result (kept.new ≡ with_kept_number kept.old number stays) }
+{
+    if stays {
+        return kept.push(number);
+    }
+    Ok(())
+}
+
 /// What the places that stay name.
 pub(crate) fn kept_numbers(
     alloc: Global,
@@ -46,11 +55,13 @@ pub(crate) fn kept_numbers(
 ) -> Result<ItemList<i64>, NoMemory>
     ensures { IfOk result (λ kept. kept ≡ kept_numbers numbers.now stay.now) }
 {
+    // There are as many.
+    if numbers.len() != stay.len() {
+        return Err(NoMemory);
+    }
     let mut kept = ItemList::new(alloc);
-    'places: for i in 0..numbers.len().min(stay.len()) {
-        if stay[i] {
-            kept.push(numbers[i])?;
-        }
+    'places: for i in 0..numbers.len() {
+        put_number(&mut kept, numbers[i], stay[i])?;
     }
     Ok(kept)
 }

@@ -125,12 +125,7 @@ fn put_shells(
 }
 
 // Goes through the faces of the outer shell, and of each void that stays.
-fn put_faces(
-    draft: &mut Draft,
-    alloc: Global,
-    file: &File,
-    values: &Values,
-) -> Result<(), NoMemory>
+fn put_faces(draft: &mut Draft, alloc: Global, file: &File, values: &Values) -> Result<(), NoMemory>
     requires { length values.now ≤ FILE_LIMIT }
     ensures { OnOk result (draft.new ≡ with_shells file.now values.now draft.old) }
 {

@@ -45,12 +45,7 @@ fn item_after(first: u32, before: usize) -> Result<u32, NoMemory>
 }
 
 // The next place is left out.
-fn put_dropped(
-    seen: &mut Seen,
-    file: &File,
-    listed: Listed,
-    number: i64,
-) -> Result<(), NoMemory>
+fn put_dropped(seen: &mut Seen, file: &File, listed: Listed, number: i64) -> Result<(), NoMemory>
     ensures { OnOk result (seen.new ≡ with_dropped file.now listed seen.old number) }
 {
     let item = item_after(listed.first, seen.stay.len())?;
