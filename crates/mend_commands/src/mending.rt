@@ -118,8 +118,8 @@ fn mend_placed(
     twice: Option<Failing>,
     choice: Choice,
 ) -> Result<Reply, NoMemory>
-    requires { AreShellsOf file no shells }
-    ensures { IfOk result (λ reply. OfPlaced no file twice reply.answer reply.text) }
+    ensures { AreShellsOf file no shells
+        → IfOk result (λ reply. OfPlaced no file twice reply.answer reply.text) }
 {
     match into_extract_numbered(alloc, file, EntryNo(no)) {
         Ok(extraction) => by_shells(alloc, extraction, shells, twice, choice),
