@@ -58,7 +58,7 @@ class Judged:
     needs_face: bool
     counts: dict = field(default_factory=dict)
     faults: list = field(default_factory=list)
-    # What mend wrote without R, the solids to compare it with, and its sure ones' bytes.
+    # What mend wrote without R, and the solids to compare it with.
     mended: bytes = b""
     originals: tuple = ()
 
@@ -96,7 +96,7 @@ def judge_text(it, case, shells):
     it.counts["first right"], it.counts["among six"] = int(right[0]), int(any(right))
     file = File(case.data)
     false = false_facts(file, case.solid, shells)
-    it.counts["false facts"] = len(false)
+    it.counts["false facts"], it.counts["remedies told"] = len(false), sum(map(len, shells.values()))
     it.faults += [f"false: {words}" for words in false]
 
 
