@@ -13,7 +13,7 @@ class Broken:
     """A base whose solid is being broken, a source of choices, and the closed solids of which one may be put beside it."""
 
     def __init__(self, base, rng, bases):
-        self.file, self.solid, self.rng = File(base.data), base.solid, rng
+        self.file, self.solid, self.rng, self.units = File(base.data), base.solid, rng, base.units
         self.others = [other for other in bases if other.name != base.name]
 
     def shells(self):
@@ -418,7 +418,8 @@ def lumps(is_open):
     """The faces of another closed solid in the outer shell, and where it is open a face of one of the two missing."""
 
     def way(it):
-        small = [base for base in it.others if base.faces <= 30 and base.shells == 1]
+        # Beside one of another unit no volume could be compared, and a file of bodies that touch has more than this solid.
+        small = [base for base in it.others if base.faces <= 30 and base.shells == 1 and base.units == it.units and not base.name.startswith(TOUCHING)]
         if not small:
             return None
         other = it.rng.choice(small)

@@ -1,4 +1,5 @@
 """Judges of remedies: whether the first steps are those that undo what was done, whether what is told of them is true, and what a mended file kept."""
+import functools
 import re
 from collections import Counter
 from fractions import Fraction
@@ -9,6 +10,7 @@ NUMBER = re.compile(r"([+-]?)(\d*)\.?(\d*)(?:[EDed]([+-]?\d+))?")
 LINE = 110
 
 
+@functools.lru_cache(100_000)
 def value(word):
     """A number's value, exactly; a text as it is; None where it is left out."""
     found = NUMBER.fullmatch(word)
