@@ -6,7 +6,7 @@ use crate::seaming::seams_of;
 use crate::telling::loop_now;
 use crate::views::Views;
 use iges_base::ItemList;
-use shell_change::{Change, FaceNow, Fate, Move, NewEdge, NewVertex, Rim, RimEdge};
+use shell_change::{Change, FaceNow, Fate, NewEdge, NewVertex, Rim, RimEdge};
 use shell_trial::{
     Facts, Memory, NONE, Rim as TrialRim, RimRow, Trial, at, is_set, item_at, short,
 };
@@ -92,14 +92,6 @@ fn new_vertices(memory: &mut Memory, views: Views<'_>) -> ItemList<NewVertex> {
     out
 }
 
-fn all_moves(memory: &mut Memory, moves: &[Move]) -> ItemList<Move> {
-    let mut out = memory.items();
-    'moves: for i in 0..moves.len() {
-        memory.add_item(&mut out, moves[i]);
-    }
-    out
-}
-
 const NO_ROW: RimRow = RimRow {
     edge: NONE,
     along: false,
@@ -132,14 +124,14 @@ fn rims(memory: &mut Memory, views: Views<'_>) -> ItemList<Rim> {
     out
 }
 
-/// The change that a trial made of a shell; None if it would have too many moves.
-pub fn change_of(
+// The change, and whether it has few enough moves.
+fn changed(
     memory: &mut Memory,
     facts: &Facts,
     sewn: &Sewn,
     trial: &Trial,
     shell: ShellAt,
-) -> Option<Change> {
+) -> (Change, bool) {
     let names = names_of(memory, facts, trial);
     let seams = seams_of(memory, facts, trial, sewn);
     let mut moves = no_moves(memory, facts, sewn);
@@ -154,17 +146,27 @@ pub fn change_of(
     let edges = new_edges(memory, views, &mut moves);
     let vertices = new_vertices(memory, views);
     let rims = rims(memory, views);
-    if are_too_many(facts, &moves) {
-        return None;
-    }
-    let moves = all_moves(memory, &moves.list);
-    Some(Change {
+    let few = !are_too_many(facts, &moves);
+    let change = Change {
         shell,
         faces,
         vertices,
         edges,
         seams: seams.list,
-        moves,
+        moves: moves.list,
         rims,
-    })
+    };
+    (change, few)
+}
+
+/// The change that a trial made of a shell; None if it would have too many moves.
+pub fn change_of(
+    memory: &mut Memory,
+    facts: &Facts,
+    sewn: &Sewn,
+    trial: &Trial,
+    shell: ShellAt,
+) -> Option<Change> {
+    let (change, few) = changed(memory, facts, sewn, trial, shell);
+    if few { Some(change) } else { None }
 }

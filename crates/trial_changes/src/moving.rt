@@ -1,6 +1,7 @@
 //! The moves of a change: on which way a vertex has come to another place.
 
 use crate::views::Views;
+use iges_base::ItemList;
 use shell_change::Move;
 use shell_trial::{Facts, Memory, NONE, at, put, short};
 use trial_seams::Sewn;
@@ -11,7 +12,7 @@ const MOVES_EACH: u32 = 8;
 /// The moves that were needed so far.
 #[derive(Drop)]
 pub(crate) struct Moves {
-    pub(crate) list: Vec<Move>,
+    pub(crate) list: ItemList<Move>,
     // Of each vertex of the shell the last move of its way; `NONE` if there is none yet.
     last: Vec<u32>,
     // Of each vertex one further on its way, without another place between; itself, where the next one has another place.
@@ -34,7 +35,7 @@ pub(crate) fn no_moves(memory: &mut Memory, facts: &Facts, sewn: &Sewn) -> Moves
         put(&mut further, vertex, one_further(facts, sewn, vertex));
     }
     Moves {
-        list: memory.list(),
+        list: memory.items(),
         last: memory.filled(count, NONE),
         further,
     }
@@ -80,7 +81,7 @@ fn step(
         back: here != link.left,
         after: if after == NONE { None } else { Some(after) },
     };
-    memory.add(&mut moves.list, step);
+    memory.add_item(&mut moves.list, step);
     put(&mut moves.last, vertex, number);
 }
 
