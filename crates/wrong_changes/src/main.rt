@@ -25,29 +25,19 @@ fn solid_of(alloc: Global, text: &[u8]) -> Option<Solid> {
     walk(alloc, &file, EntryNo(1)).ok()
 }
 
-fn numbers_of(alloc: Global, text: &str) -> Option<Vec<u32>> {
-    let mut numbers = Vec::new(alloc);
-    'words: for word in text.split_whitespace() {
-        let number = word.parse::<u32>().ok()?;
-        numbers.push(number).ok()?;
-    }
-    Some(numbers)
-}
-
-// The item that all numbers of a text stand for.
-fn item_of<T: Item>(alloc: Global, text: &str) -> Option<T> {
-    let numbers = numbers_of(alloc, text)?;
-    let mut row = Row::new(numbers.as_slice());
+// The item that all numbers of a row stand for.
+fn item_of<T: Item>(alloc: Global, numbers: &[u8]) -> Option<T> {
+    let mut row = Row { numbers, at: 0 };
     let item = T::read(alloc, &mut row);
-    if !row.is_whole() {
+    if row.at != numbers.len() {
         return None;
     }
     Some(item)
 }
 
-// What the checker says of the change that a text stands for.
-fn verdict(alloc: Global, solid: &Solid, geometry: &Geometry, text: &str) -> &'static str {
-    let Some(change) = item_of::<Change>(alloc, text) else {
+// What the checker says of the change that a row stands for.
+fn verdict(alloc: Global, solid: &Solid, geometry: &Geometry, row: &str) -> &'static str {
+    let Some(change) = item_of::<Change>(alloc, row.as_bytes()) else {
         return "unread";
     };
     match fits(alloc, solid, geometry, &change) {
@@ -77,7 +67,7 @@ fn print_verdicts(
 fn judge(rt: &HostRuntime, solid: &Solid) -> io::Result<()> {
     let known = fs::read_to_string(rt, "geometry.txt")?;
     let changes = fs::read_to_string(rt, "changes.tsv")?;
-    match item_of::<Geometry>(rt.alloc(), known.as_str()) {
+    match item_of::<Geometry>(rt.alloc(), known.as_str().as_bytes()) {
         Some(geometry) => print_verdicts(rt, solid, &geometry, changes.as_str()),
         None => println!(rt; "no geometry"),
     }
