@@ -296,14 +296,14 @@ class Rows:
 
 
 def files():
-    """The files of the program by their paths: the solid, its geometry, the changes a line each, and what it must print."""
+    """The files of the program by their paths: the solid; its geometry, and the changes, a line each; and what it must print."""
     row = lambda numbers: "".join(chr(ord("0") + it) for it in numbers)
     rows = Rows()
     changes = [("the right change", rows.change(right())), *((f"{name} ({clause})", rows.change(change)) for name, clause, change in wrong_changes())]
     verdicts = [f"{'refused' if at else 'fits'}: {name}\n" for at, (name, _) in enumerate(changes)]
     yield FOLDER / "data" / "solid.igs", solid_text()
-    yield FOLDER / "data" / "geometry.txt", row(rows.geometry()).encode()
-    yield FOLDER / "data" / "changes.tsv", "".join(f"{name}\t{row(numbers)}\n" for name, numbers in changes).encode()
+    lines = [row(rows.geometry()), *(f"{name}\t{row(numbers)}" for name, numbers in changes)]
+    yield FOLDER / "data" / "changes.txt", "".join(f"{line}\n" for line in lines).encode()
     yield FOLDER / "stdout", "".join(verdicts).encode()
 
 
