@@ -16,9 +16,9 @@ from spawned import SECONDS
 PAGE = TOP / "docs" / "GALLERY.md"
 # A picture, the name of the file, the solid's number, a sentence, and the words of `where`.
 ROW = re.compile(r"(?m)^\| !\[\]\((images/[\w.]+)\) \| (\w+) (\d+) \| (.+?) \| (`.+`) \|$")
-# Of a mended solid the command that writes its file: the name of the broken one, its number, and the remedy's.
-MENDED, MEND = "_mended", re.compile(r"`mend (\w+)\.igs (\d+)( \d)?`")
-FEWEST, FEWEST_MENDED = 22, 3
+# A broken file, the command that mends it, the mended file, and what is said of that.
+PAIR = re.compile(r"(?m)^\| `([\w/.]+)` \| `(mend .+?)` \| `([\w/.]+)` \| (.+) \|$")
+MENDED, FEWEST, FEWEST_PAIRS = "_mended", 22, 3
 WIDTH, HEIGHT = 480, 360
 # The view alone, of the whole solid.
 ALONE = """$page.ready.then(() => {
@@ -52,29 +52,31 @@ def told(where, data, number, path):
     return subprocess.run([where, path, number, "all"], stdout=subprocess.PIPE, timeout=SECONDS).stdout.decode()
 
 
-def mend_of(picture):
-    """The words of the command that a mended solid's row tells."""
-    row = next(row for row in ROW.findall(PAGE.read_text()) if row[0] == picture)
-    return MEND.search(row[3])
+def pairs():
+    """Of each pair of examples/README.md the file before, the words of `mend`, the file after, and the lines of `mended` that are quoted."""
+    for before, command, after, quoted in PAIR.findall((TOP / "examples" / "README.md").read_text()):
+        yield f"examples/{before}", command.split()[2:], f"examples/{after}", [it for it in re.findall("`(.+?)`", quoted) if it.startswith("step ")]
 
 
-def mended_checks(folder, repair, found):
-    """The broken solid's row stands before the mended one's, and `mend` writes the file of this."""
-    mended = [(before, row) for before, row in zip(found, found[1:]) if row[1].endswith(MENDED)]
-    yield "docs/GALLERY.md: mended solids", len(mended) >= FEWEST_MENDED
-    for before, (picture, name, file, _, quoted) in mended:
-        words = mend_of(picture)
-        yield f"docs/GALLERY.md: {name}: the row before", words and (words[1], words[2]) == (before[1], before[3]) and name == before[1] + MENDED
+def pair_checks(folder, repair, found):
+    """What `mend` and `mended` say of each broken file; its row stands before that of the mended one, which tells the command."""
+    files, page, made = [row[2] for row in found], PAGE.read_text(), list(pairs())
+    yield "examples/README.md: pairs", len(made) >= FEWEST_PAIRS and len({steps[0] for *_, steps in made}) >= FEWEST_PAIRS
+    for before, words, after, steps in made:
         path = folder / "broken.igs"
-        path.write_bytes(content(before[2]))
-        done = subprocess.run([repair, "mend", path, *words[0].strip("`").split()[2:]], stdout=subprocess.PIPE, timeout=SECONDS)
-        yield f"docs/GALLERY.md: {name}: what mend writes", (done.returncode, done.stdout) == (0, content(file))
-        yield f"docs/GALLERY.md: {name}: closed", quoted[0].startswith("closed ") and before[4][0].startswith("fail ")
+        path.write_bytes(content(before))
+        said = {command: subprocess.run([repair, command, path, *words], stdout=subprocess.PIPE, timeout=SECONDS) for command in ("mend", "mended")}
+        yield f"{after}: what mend writes", (said["mend"].returncode, said["mend"].stdout) == (0, content(after))
+        yield f"{after}: what mended tells", [it for it in said["mended"].stdout.decode().splitlines() if it.startswith("step ")] == steps
+        place = files.index(after)
+        command = " ".join(["mend", pathlib.Path(before).name.removesuffix(".gz"), *words])
+        verdicts = [quoted[0].split()[0] for *_, quoted in found[place - 1 : place + 1]]
+        yield f"docs/GALLERY.md: {after}", files[place - 1] == before and f"| `{command}`: " in page and verdicts == ["fail", "closed"]
 
 
 def checks(folder, where, repair):
     found = rows()
-    yield from mended_checks(folder, repair, found)
+    yield from pair_checks(folder, repair, found)
     yield "docs/GALLERY.md: rows", len(found) == PAGE.read_text().count("\n| ![") >= FEWEST
     for picture, name, file, number, quoted in found:
         yield f"docs/GALLERY.md: {name}: its picture and its file", (PAGE.parent / picture).is_file() and (TOP / file).is_file() and name in picture

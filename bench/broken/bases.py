@@ -2,7 +2,8 @@
 import pathlib
 from typing import NamedTuple
 
-from .iges import SOLID, File
+from .iges import SOLID, VERTICES, File
+from .judge import value
 
 MOST_FACES = 130
 
@@ -15,6 +16,8 @@ class Base(NamedTuple):
     faces: int
     # Parameters 13 to 15 of the global section: scale and units.
     units: tuple
+    # The places of its vertices.
+    places: frozenset
 
 
 def faces_of(file, solid):
@@ -23,7 +26,8 @@ def faces_of(file, solid):
 
 def based(path, data, file, shells):
     solid = file.solids()[0]
-    return Base(path.stem, data, solid, shells, faces_of(file, solid), tuple(file.globals[10:13]))
+    places = frozenset(tuple(map(value, item)) for entry in file.entries if entry.kind == VERTICES for item in entry.record)
+    return Base(path.stem, data, solid, shells, faces_of(file, solid), tuple(file.globals[10:13]), places)
 
 
 def base_of(path, run):

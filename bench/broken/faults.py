@@ -13,7 +13,7 @@ class Broken:
     """A base whose solid is being broken, a source of choices, and the closed solids of which one may be put beside it."""
 
     def __init__(self, base, rng, bases):
-        self.file, self.solid, self.rng, self.units = File(base.data), base.solid, rng, base.units
+        self.file, self.base, self.solid, self.rng = File(base.data), base, base.solid, rng
         self.others = [other for other in bases if other.name != base.name]
 
     def shells(self):
@@ -414,12 +414,16 @@ def pinch(it):
     return None
 
 
+def is_another(other, own):
+    """Whether a base may stand beside another one: not as its copy, and in its unit, so that their volumes make a sum."""
+    return other.units == own.units and not other.places <= own.places and not other.name.startswith(TOUCHING)
+
+
 def lumps(is_open):
     """The faces of another closed solid in the outer shell, and where it is open a face of one of the two missing."""
 
     def way(it):
-        # Beside one of another unit no volume could be compared, and a file of bodies that touch has more than this solid.
-        small = [base for base in it.others if base.faces <= 30 and base.shells == 1 and base.units == it.units and not base.name.startswith(TOUCHING)]
+        small = [base for base in it.others if base.faces <= 30 and base.shells == 1 and is_another(base, it.base)]
         if not small:
             return None
         other = it.rng.choice(small)
@@ -511,6 +515,24 @@ WAYS = {
     "unsewhalf": unsew("half", "same"), "unsewhalf_D0": unsew("half", "D0"), "unsewhalf_digit": unsew("half", "digit"),
     "crack": crack, "splitv": part_vertex, "pinch": pinch, "lumps": lumps(False), "lumps_open": lumps(True), "voidlump": void_as_lump,
     "voidtouch": touching_voids("vertex"), "voidtouch_e": touching_voids("edge"),
+}  # fmt: skip
+# The ways by what they do; bodies that touch are of files with names of their own.
+KINDS = {
+    "faces missing": ("del1", "del2", "del3", "delcap"),
+    "a face twice": ("dup_same", "dup_rev", "dup_own"),
+    "another face on its edges": ("disc",),
+    "walls, fins": ("wall1", "wall2", "fin"),
+    "faces turned": ("rev1", "revsome", "revall"),
+    "loops turned": ("revloop", "revloop_in"),
+    "faces unsewn": (
+        "unsew1", "unsew1_1.0", "unsew1_D0", "unsewsome", "unsewsome_E", "unsewall", "unsewall_1.0", "unsewhalf", "unsewhalf_D0", "crack",
+    ),
+    "unsewn by a digit": ("unsew1_digit", "unsewhalf_digit"),
+    "a vertex parted": ("splitv",),
+    "vertices pinched": ("pinch",),
+    "bodies in one shell": ("lumps", "voidlump"),
+    "bodies, one open": ("lumps_open",),
+    "voids that touch": ("voidtouch", "voidtouch_e"),
 }  # fmt: skip
 # Those of which two are done to a solid, one after the other, and how many such pairs each solid gets.
 PAIRED = (
