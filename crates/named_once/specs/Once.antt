@@ -71,7 +71,7 @@ with_record at vs place d s = record {
 }
 
 -- the places behind the count at this one
-abbrev pub with_places : Contents → Listed → List Value → ℕ → Draft → Draft
+unfoldable pub with_places : Contents → Listed → List Value → ℕ → Draft → Draft
 with_places f at vs place d =
     with_record at vs place d (fold_items (with_place f at) (record { marks = d.seen.marks; stay = []; dropped = d.seen.dropped }) (numbers_told vs place))
 
@@ -91,7 +91,7 @@ blank_draft f = record {
 abbrev pub with_outer : Contents → ℤ → Draft → Draft
 with_outer f z d = record d { seen = record { marks = with_mark f d.seen.marks z; stay = d.seen.stay; dropped = d.seen.dropped } }
 
-abbrev pub with_shells : Contents → List Value → Draft → Draft
+unfoldable pub with_shells : Contents → List Value → Draft → Draft
 with_shells f vs d = fold_items (with_shell f) d (int_at vs 0 ∷ kept_numbers (numbers_told vs 2) d.seen.stay)
 
 abbrev pub with_solid : Contents → ℕ → List Value → Draft → Draft

@@ -76,6 +76,7 @@ fn put_record(
 }
 
 // Goes through the places of a record behind the count at this one.
+#[tactic(auto, unfolding(crate::specs::Once::with_places))]
 fn put_listed(
     draft: &mut Draft,
     alloc: Global,
@@ -125,6 +126,7 @@ fn put_shells(
 }
 
 // Goes through the faces of the outer shell, and of each void that stays.
+#[tactic(auto, unfolding(crate::specs::Once::with_shells))]
 fn put_faces(draft: &mut Draft, alloc: Global, file: &File, values: &Values) -> Result<(), NoMemory>
     requires { length values.now ≤ FILE_LIMIT }
     ensures { OnOk result (draft.new ≡ with_shells file.now values.now draft.old) }
