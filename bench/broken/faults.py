@@ -210,7 +210,7 @@ def doubled(how):
                 return None
         added = it.add_face(face, copy.deepcopy(loops))
         it.insert(shell, added, flag ^ (how == "reversed"))
-        return {"kinds": ["stray" if how == "own" else "doubled"], "added": [added], "of": [face]}
+        return {"kinds": ["doubled"], "added": [added], "of": [face]}
 
     return way
 
@@ -299,12 +299,20 @@ def fin(it):
 
 # faces and loops that are turned
 
+def is_joined(it, group):
+    """Whether an edge joins faces of a group to others."""
+    others = {edge for face in it.faces() if face not in group for edge in it.edges(face)}
+    return any(others & set(it.edges(face)) for face in group)
+
+
 def turn(how):
     def way(it):
         faces = it.faces()
         if how == "some" and len(faces) < 4:
             return None
         turned = set({"one": it.some(faces, 1), "some": it.some(faces, max(2, len(faces) // 3)), "all": faces}[how])
+        if how != "all" and not is_joined(it, turned):
+            return None
         for shell, _ in it.shells():
             for pair in it.file.get(shell):
                 pair[1] ^= pair[0] in turned
@@ -357,6 +365,8 @@ def unsew(which, how):
             "all": lambda: [[face] for face in faces],
             "half": lambda: [half_of(it)],
         }[which]()
+        if not any(is_joined(it, group) for group in groups):
+            return None
         curve = it.rng.choice(["share", "copy", "respell", "flip"])
         for group in groups:
             copies = Copies(it.file, how, curve)
@@ -371,7 +381,8 @@ def unsew(which, how):
 def crack(it):
     """One use of an edge has an edge of its own, between the same vertices on the same curve."""
     _, face = it.rng.choice(it.listed())
-    edges = [edge for edge in it.edges(face) if it.edges(face).count(edge) == 1]
+    others = {edge for other in it.faces() if other != face for edge in it.edges(other)}
+    edges = [edge for edge in it.edges(face) if it.edges(face).count(edge) == 1 and edge in others]
     if not edges:
         return None
     edge = it.rng.choice(edges)

@@ -28,7 +28,7 @@ UNDONE = {
 }  # fmt: skip
 # What comes with a step as its consequence.
 ALONG = {"unsewn": {"renew edges"}, "parted": set(), "pinch": {"renew edges"}, "apart": {"renew edges"}, "touch": {"copy vertices", "renew edges", "part bodies"}}
-TOO_MUCH = "doubled", "stray", "wall", "fin"
+TOO_MUCH = "doubled", "wall", "fin"
 
 
 def faces_removed(remedies):
@@ -41,7 +41,9 @@ def undoes(kind, truth, remedies):
         gone, added, of = faces_removed(remedies), set(truth["added"]), set(truth.get("of", ()))
         is_same = gone == added or kind == "doubled" and len(gone) == len(added) and gone <= added | of
         return is_same or len(truth["kinds"]) > 1 and bool(gone & (added | of))
-    return any(UNDONE[kind] & remedy.names() for remedy in remedies)
+    # A vertex that two bodies have in common is no fault once they are parted.
+    steps = UNDONE[kind] | ({"part bodies"} if kind == "pinch" and "lumps" in truth["kinds"] else set())
+    return any(steps & remedy.names() for remedy in remedies)
 
 
 def is_right(truth, remedies):
