@@ -44,9 +44,9 @@ pub again_so : (f h : Contents) (n : ℕ) (x : Failing) (made : Again) → First
 again_so f h n x made first says is same left fares =
     let here : AreShellsOf (once f n) n made.shells = subst (λ (k : Contents). AreShellsOf k n made.shells) is fares in
     record {
-      once = record { first = first; twice = says; placed = shells_placed (once f n) n made.shells here };
+      twice = record { first = first; twice = says; placed = shells_placed (once f n) n made.shells here };
       file = same ∙ is;
-      dropped = left;
+      places = left;
       shells = here;
     }
 
@@ -62,4 +62,4 @@ still_false f h n x y is one once_is =
 -- what is owed of that file is owed of the one that was read
 pub again_owed : (f : Contents) (n : ℕ) (x : Failing) (made : Again) (g : Contents) → IsExtracted f n g → IsAgain f n x made → (a : Answer) (t : List ℕ)
     → OfPlaced n made.file (Some x) a t → OfMend n f a t
-again_owed f n x made g extracted is a t owed = again g extracted x is.once (subst (λ (h : Contents). OfPlaced n h (Some x) a t) is.file owed)
+again_owed f n x made g extracted is a t owed = again g extracted x is.twice (subst (λ (h : Contents). OfPlaced n h (Some x) a t) is.file owed)

@@ -37,9 +37,9 @@ IsStateOf f n (state.Placed x) = AreShellsOf f n x
 
 -- the file without what is named twice, what that is, and how the solid fares there
 pub record IsAgain (f : Contents) (n : ℕ) (x : Failing) (again : Again) : Type 0 where
-  pub once : IsOnce n f x
+  pub twice : IsOnce n f x
   pub file : again.file ≡ once f n
-  pub dropped : again.dropped ≡ dropped f n
+  pub places : again.dropped ≡ dropped f n
   pub shells : AreShellsOf (once f n) n again.shells
 
 -- of a solid of which this place is the first that is false

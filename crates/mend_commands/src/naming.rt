@@ -7,7 +7,8 @@ ghost use Rattle.solid_data.specs.Obligations.{FirstFalse};
 ghost use Rattle.iges_params.specs.Contents.{Contents};
 ghost use Rattle.solid_extract.specs.Extracted.{IsExtracted};
 ghost use Rattle.solid_extract.specs.Making.{IsExtractFault};
-ghost use Rattle.std.specs.Prelude.{◌≡◌, IfErr, IfNone, IfOk, IfSome, OnOk};
+ghost use Rattle.solid_data.specs.declared.verdict.Failing.{Failing as Failed};
+ghost use Rattle.std.specs.Prelude.{ℕ, ◌≡◌, IfErr, IfNone, IfOk, IfSome, OnOk};
 
 use crate::state::{Shells, State, state_of};
 use entry_references::ExtractReason;
@@ -80,6 +81,16 @@ fn is_extracted(alloc: Global, file: &File, no: u32) -> Result<(), ExtractFault>
     Ok(())
 }
 
+fn refused_by(fault: ExtractFault) -> Result<WithoutTwice, NoMemory>
+    ensures { (f : Contents) (n : ℕ) (x : Failed) → IsExtractFault f n fault
+        → IfOk result (IsWithoutTwice f n x) }
+{
+    match fault {
+        ExtractFault::Refused { entity, reason } => Ok(WithoutTwice::Refused { entity, reason }),
+        ExtractFault::NoMemory => Err(NoMemory),
+    }
+}
+
 /// What becomes of a solid of which this place is the first that fails.
 pub fn without_twice(
     alloc: Global,
@@ -92,10 +103,7 @@ pub fn without_twice(
 {
     match is_extracted(alloc, file, no) {
         Ok(()) => {}
-        Err(ExtractFault::Refused { entity, reason }) => {
-            return Ok(WithoutTwice::Refused { entity, reason });
-        }
-        Err(ExtractFault::NoMemory) => return Err(NoMemory),
+        Err(fault) => return refused_by(fault),
     }
     match again_of(alloc, file, no, failing)? {
         Some(again) => Ok(WithoutTwice::Again(again)),

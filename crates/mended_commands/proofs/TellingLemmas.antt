@@ -15,7 +15,7 @@ pub again_told : (f : Contents) (n : ℕ) (x : Failing) (made : Again) (g : Cont
     → OfToldPlaced n made.file (Some x) made.dropped a t → OfMended n f a t
 again_told f n x made g extracted is a t owed =
     let here : OfToldPlaced n (once f n) (Some x) made.dropped a t = subst (λ (h : Contents). OfToldPlaced n h (Some x) made.dropped a t) is.file owed in
-    again g extracted x is.once (subst (λ (ds : List Dropped). OfToldPlaced n (once f n) (Some x) ds a t) is.dropped here)
+    again g extracted x is.twice (subst (λ (ds : List Dropped). OfToldPlaced n (once f n) (Some x) ds a t) is.places here)
 
 pub told_some : (n : ℕ) (ds : List Dropped) (text : List ℕ) → 0 < length ds → text ≡ flat_map dropped_line ds → text ≡ closed_told n ds
 told_some n [] text some is = absurd (omega (arith, some))
