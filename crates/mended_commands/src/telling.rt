@@ -194,12 +194,7 @@ fn tell_misplaced(
 }
 
 // Of a solid whose records are right.
-fn tell_here(
-    alloc: Global,
-    file: &File,
-    shells: Shells,
-    asked: Asked,
-) -> Result<Reply, NoMemory>
+fn tell_here(alloc: Global, file: &File, shells: Shells, asked: Asked) -> Result<Reply, NoMemory>
     requires { AreShellsOf file.now asked.no shells }
     ensures { IfOk result (λ reply. OfToldPlaced asked.no file.now None [] reply.answer reply.text) }
 {
