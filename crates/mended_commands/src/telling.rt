@@ -74,20 +74,13 @@ fn told_mended(
     told(alloc, &new.file, text)
 }
 
-/// The solid that is asked for, and the remedies that are to be taken.
+/// What is asked for: a solid, and which remedies are to be taken; and the first place that names something twice, if the file is
+/// without that.
 #[derive(Clone, Copy)]
 pub struct Asked {
     pub no: u32,
     pub choice: Choice,
-}
-
-/// What a solid names twice, if it does.
-#[derive(Clone, Copy)]
-pub struct Twice<'a> {
-    /// The first place that does.
-    pub first: Option<Failing>,
-    /// The places that are left out.
-    pub dropped: &'a [Dropped],
+    pub twice: Option<Failing>,
 }
 
 // Of an extracted solid that fails by this rule on shells.
@@ -95,17 +88,17 @@ fn tell_failing(
     alloc: Global,
     file: &File,
     extraction: &Extraction,
-    twice: Twice<'_>,
+    dropped: &[Dropped],
     failing: Failing,
     asked: Asked,
 ) -> Result<Reply, NoMemory>
     requires fails { FailsBy asked.no file.now failing }
     requires extracted { IsExtractedAs file.now asked.no extraction.now.file extraction.now.no.0 }
-    ensures { IfOk result (λ reply. OfToldPlaced asked.no file.now twice.first twice.dropped.now reply.answer reply.text) }
+    ensures { IfOk result (λ reply. OfToldPlaced asked.no file.now asked.twice dropped.now reply.answer reply.text) }
 {
     match mending_of(alloc, extraction, asked.choice)? {
-        Mending::Mended(new) => told_mended(alloc, file, asked.no, twice.dropped, &new),
-        Mending::Unmended(why) => unmended(alloc, twice.first.unwrap_or(failing), why),
+        Mending::Mended(new) => told_mended(alloc, file, asked.no, dropped, &new),
+        Mending::Unmended(why) => unmended(alloc, asked.twice.unwrap_or(failing), why),
     }
 }
 
@@ -115,19 +108,19 @@ fn tell_by_shells(
     file: &File,
     extraction: &Extraction,
     shells: Shells,
-    twice: Twice<'_>,
+    dropped: &[Dropped],
     asked: Asked,
 ) -> Result<Reply, NoMemory>
     requires shells { AreShellsOf file.now asked.no shells }
     requires extracted { IsExtractedAs file.now asked.no extraction.now.file extraction.now.no.0 }
-    ensures { IfOk result (λ reply. OfToldPlaced asked.no file.now twice.first twice.dropped.now reply.answer reply.text) }
+    ensures { IfOk result (λ reply. OfToldPlaced asked.no file.now asked.twice dropped.now reply.answer reply.text) }
 {
     match shells {
         Shells::Closed => {
-            let text = closed_text(alloc, asked.no, twice.dropped)?;
+            let text = closed_text(alloc, asked.no, dropped)?;
             told(alloc, &extraction.file, text)
         }
-        Shells::Fails(failing) => tell_failing(alloc, file, extraction, twice, failing, asked),
+        Shells::Fails(failing) => tell_failing(alloc, file, extraction, dropped, failing, asked),
     }
 }
 
@@ -147,14 +140,14 @@ fn tell_placed(
     alloc: Global,
     file: &File,
     shells: Shells,
-    twice: Twice<'_>,
+    dropped: &[Dropped],
     asked: Asked,
 ) -> Result<Reply, NoMemory>
     requires { AreShellsOf file.now asked.no shells }
-    ensures { IfOk result (λ reply. OfToldPlaced asked.no file.now twice.first twice.dropped.now reply.answer reply.text) }
+    ensures { IfOk result (λ reply. OfToldPlaced asked.no file.now asked.twice dropped.now reply.answer reply.text) }
 {
     match extract_numbered(alloc, file, EntryNo(asked.no)) {
-        Ok(extraction) => tell_by_shells(alloc, file, &extraction, shells, twice, asked),
+        Ok(extraction) => tell_by_shells(alloc, file, &extraction, shells, dropped, asked),
         Err(fault) => not_extracted(alloc, fault),
     }
 }
@@ -163,54 +156,76 @@ fn tell_placed(
 fn tell_again(
     alloc: Global,
     again: &Again,
+    no: u32,
     failing: Failing,
-    asked: Asked,
+    choice: Choice,
 ) -> Result<Reply, NoMemory>
-    requires { AreShellsOf again.now.file asked.no again.now.shells }
-    ensures { IfOk result (λ reply. OfToldPlaced asked.no again.now.file (Some failing) again.now.dropped reply.answer reply.text) }
+    requires { AreShellsOf again.now.file no again.now.shells }
+    ensures { IfOk result (λ reply. OfToldPlaced no again.now.file (Some failing) again.now.dropped reply.answer reply.text) }
 {
-    let twice = Twice {
-        first: Some(failing),
-        dropped: again.dropped.as_slice(),
+    let asked = Asked {
+        no,
+        choice,
+        twice: Some(failing),
     };
-    tell_placed(alloc, &again.file, again.shells, twice, asked)
+    tell_placed(
+        alloc,
+        &again.file,
+        again.shells,
+        again.dropped.as_slice(),
+        asked,
+    )
 }
 
 // Of a solid of which a record fails.
 fn tell_misplaced(
     alloc: Global,
     file: &File,
+    no: u32,
     failing: Failing,
-    asked: Asked,
+    choice: Choice,
 ) -> Result<Reply, NoMemory>
-    requires { FirstFalse (places file.now asked.no) failing }
-    ensures { IfOk result (λ reply. OfMended asked.no file.now reply.answer reply.text) }
+    requires { FirstFalse (places file.now no) failing }
+    ensures { IfOk result (λ reply. OfMended no file.now reply.answer reply.text) }
 {
-    match without_twice(alloc, file, asked.no, failing)? {
+    match without_twice(alloc, file, no, failing)? {
         WithoutTwice::Refused { entity, reason } => refused(alloc, entity, reason),
         WithoutTwice::Fails => failed(alloc, failing),
-        WithoutTwice::Again(again) => tell_again(alloc, &again, failing, asked),
+        WithoutTwice::Again(again) => tell_again(alloc, &again, no, failing, choice),
     }
 }
 
 // Of a solid whose records are right.
+<<<<<<< HEAD
 fn tell_here(alloc: Global, file: &File, shells: Shells, asked: Asked) -> Result<Reply, NoMemory>
     requires { AreShellsOf file.now asked.no shells }
     ensures { IfOk result (λ reply. OfToldPlaced asked.no file.now None [] reply.answer reply.text) }
+=======
+fn tell_here(
+    alloc: Global,
+    file: &File,
+    no: u32,
+    shells: Shells,
+    choice: Choice,
+) -> Result<Reply, NoMemory>
+    requires { AreShellsOf file.now no shells }
+    ensures { IfOk result (λ reply. OfToldPlaced no file.now None [] reply.answer reply.text) }
+>>>>>>> 93f6794d29d31d29ca5189bbf29b82548a8ef513
 {
-    let twice = Twice {
-        first: None,
-        dropped: &[],
+    let asked = Asked {
+        no,
+        choice,
+        twice: None,
     };
-    tell_placed(alloc, file, shells, twice, asked)
+    tell_placed(alloc, file, shells, &[], asked)
 }
 
-fn tell(alloc: Global, file: &File, asked: Asked) -> Result<Reply, NoMemory>
-    ensures { IfOk result (λ reply. OfMended asked.no file.now reply.answer reply.text) }
+fn tell(alloc: Global, file: &File, no: u32, choice: Choice) -> Result<Reply, NoMemory>
+    ensures { IfOk result (λ reply. OfMended no file.now reply.answer reply.text) }
 {
-    match state_of(alloc, file, asked.no)? {
-        State::Misplaced(failing) => tell_misplaced(alloc, file, failing, asked),
-        State::Placed(shells) => tell_here(alloc, file, shells, asked),
+    match state_of(alloc, file, no)? {
+        State::Misplaced(failing) => tell_misplaced(alloc, file, no, failing, choice),
+        State::Placed(shells) => tell_here(alloc, file, no, shells, choice),
     }
 }
 
@@ -218,5 +233,5 @@ fn tell(alloc: Global, file: &File, asked: Asked) -> Result<Reply, NoMemory>
 pub fn mended_solid(alloc: Global, file: File, no: u32, choice: Choice) -> Result<Reply, NoMemory>
     ensures { IfOk result (λ reply. OfMended no file reply.answer reply.text) }
 {
-    tell(alloc, &file, Asked { no, choice })
+    tell(alloc, &file, no, choice)
 }

@@ -20,8 +20,8 @@ returns-in-Mended c =
 
 pub returns-in-Unmended : goal.returns-in-Unmended
 returns-in-Unmended c =
-    reply_owed (OfToldPlaced c.args.asked.no c.args.file.now c.args.twice.first c.args.twice.dropped.now) answer.No
+    reply_owed (OfToldPlaced c.args.asked.no c.args.file.now c.args.asked.twice c.args.dropped.now) answer.No
     (fail_line c.unwrap_or.result ++ unmended_line c.in-Unmended.why) c.unmended.result
-    (subst (λ (x : Failing). OfToldPlaced c.args.asked.no c.args.file.now c.args.twice.first c.args.twice.dropped.now answer.No
+    (subst (λ (x : Failing). OfToldPlaced c.args.asked.no c.args.file.now c.args.asked.twice c.args.dropped.now answer.No
     (fail_line x ++ unmended_line c.in-Unmended.why)) (sym c.unwrap_or.ensures)
     (unmended c.args.extraction.now.file c.requires.extracted.extracted c.args.failing c.requires.fails c.in-Unmended.why)) c.unmended.ensures
