@@ -196,11 +196,6 @@ fn tell_misplaced(
 }
 
 // Of a solid whose records are right.
-<<<<<<< HEAD
-fn tell_here(alloc: Global, file: &File, shells: Shells, asked: Asked) -> Result<Reply, NoMemory>
-    requires { AreShellsOf file.now asked.no shells }
-    ensures { IfOk result (λ reply. OfToldPlaced asked.no file.now None [] reply.answer reply.text) }
-=======
 fn tell_here(
     alloc: Global,
     file: &File,
@@ -210,7 +205,6 @@ fn tell_here(
 ) -> Result<Reply, NoMemory>
     requires { AreShellsOf file.now no shells }
     ensures { IfOk result (λ reply. OfToldPlaced no file.now None [] reply.answer reply.text) }
->>>>>>> 93f6794d29d31d29ca5189bbf29b82548a8ef513
 {
     let asked = Asked {
         no,
