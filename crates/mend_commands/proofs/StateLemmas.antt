@@ -1,6 +1,6 @@
 -- How a solid fares, by what its walk and its shells tell.
-use Rattle.std.specs.Prelude.{◌≡◌, ℕ, false, IsTrue, List, Some}
-use Rattle.std.proofs.Common.{◌∙◌, subst, sym}
+use Rattle.std.specs.Prelude.{◌≡◌, ℕ, List, Some}
+use Rattle.std.proofs.Common.{subst, sym}
 use Rattle.iges_params.specs.Contents.{Contents}
 use Rattle.solid_data.specs.Obligations.{AllHold, FirstFalse}
 use Rattle.solid_data.specs.SolidData.{SolidData}
@@ -11,10 +11,10 @@ use Rattle.shell_rules.specs.ShellObligations.{solid_obligations}
 use Rattle.shell_rules.proofs.ClosedLemmas.{closed_is_all_hold}
 use Rattle.brep_walk.specs.Places.{places}
 use Rattle.brep_walk.specs.SolidOf.{solid_of}
-use Rattle.named_once.specs.Once.{once, dropped}
+use Rattle.named_once.specs.Once.{once}
 use Rattle.solid_extract.specs.Extracted.{IsExtracted}
 use Rattle.command_replies.specs.declared.answer.Answer.{Answer}
-use Rattle.mend_commands.specs.Due.{IsOnce, is_twice, OfMend, again, OfPlaced}
+use Rattle.mend_commands.specs.Due.{IsOnce, OfMend, again, OfPlaced}
 use Rattle.mend_commands.specs.declared.naming.Again.{Again}
 use Rattle.mend_commands.specs.declared.state.Shells.{Shells}
 use Rattle.mend_commands.specs.declared.state.Shells.TheVariants as shells
@@ -30,31 +30,11 @@ pub state_so : (f : Contents) (n : ℕ) (s : SolidData) (x : State) → s ≡ so
 state_so f n s (state.Misplaced y) same all is = absurd is
 state_so f n s (state.Placed y) same all is = shells_so f n s y same all is
 
-pub shells_placed : (f : Contents) (n : ℕ) (x : Shells) → AreShellsOf f n x → AllHold (places f n)
-shells_placed f n shells.Closed is = is.placed
-shells_placed f n (shells.Fails y) is = is.placed
-
 -- how the solid fares in the file that was made
 pub again_shells : (f : Contents) (n : ℕ) (x : Failing) (made : Again) → IsAgain f n x made → AreShellsOf made.file n made.shells
 again_shells f n x made is = subst (λ (h : Contents). AreShellsOf h n made.shells) (sym is.file) is.shells
 
--- a file whose places hold, without what is named twice
-pub again_so : (f h : Contents) (n : ℕ) (x : Failing) (made : Again) → FirstFalse (places f n) x → IsTrue (is_twice x.rule) → h ≡ once f n
-    → made.file ≡ h → made.dropped ≡ dropped f n → AreShellsOf h n made.shells → IsAgain f n x made
-again_so f h n x made first says is same left fares =
-    let here : AreShellsOf (once f n) n made.shells = subst (λ (k : Contents). AreShellsOf k n made.shells) is fares in
-    record {
-      twice = record { first = first; twice = says; placed = shells_placed (once f n) n made.shells here };
-      file = same ∙ is;
-      places = left;
-      shells = here;
-    }
-
--- it isn't one of those where another rule fails first
-pub not_twice : (f : Contents) (n : ℕ) (x : Failing) → is_twice x.rule ≡ false → IsOnce n f x → ⊥
-not_twice f n x other is = let says = is.twice in cc
-
--- nor where a place is false then, too
+-- it isn't one whose records are right without what is named twice, where a place is false then, too
 pub still_false : (f h : Contents) (n : ℕ) (x y : Failing) → h ≡ once f n → FirstFalse (places h n) y → IsOnce n f x → ⊥
 still_false f h n x y is one once_is =
     FirstFalse-not_all (places (once f n) n) y (subst (λ (k : Contents). FirstFalse (places k n) y) is one) once_is.placed

@@ -7,4 +7,4 @@ pub returns-in_ok-text-in-Closed : goal.returns-in_ok-text-in-Closed
 returns-in_ok-text-in-Closed c =
     IfOk-weaker c.told.result _ _
     (λ reply owed. closed c.args.extraction.now.file c.requires.extracted.extracted (rw c.in-Closed.is at c.requires.shells)
-    (subst (λ (x : List ℕ). OfTold c.args.extraction.now.file x reply.answer reply.text) c.in_ok-text.ensures owed)) c.told.ensures
+    (subst (λ (x : List ℕ). OfTold c.args.extraction.now.file x reply.answer reply.text) c.in_ok-text-in-Closed.ensures owed)) c.told.ensures
