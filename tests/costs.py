@@ -10,7 +10,7 @@ SHAPES = (
     "solids o", "lines", "copies of", "faults on", "hints on", "far vertices", "gaps at", "failing", "dense", "open", "large faces", "rings", "poles with",
     "a face turned",
 )  # fmt: skip
-FEWEST = 106
+FEWEST = 107
 
 
 def checks(context):

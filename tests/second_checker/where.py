@@ -20,6 +20,10 @@ LIMIT = 20
 # Of faces at a vertex of APART.
 FACE_LIMIT = 5
 WORD_LIMIT, COORDINATE_LIMIT = 100, 32
+# So many gaps of a solid are all told at most.
+GAP_LIMIT = 10_000
+# What a loop's size counts beside its values.
+ENTRY_SIZE = 100
 
 
 def shown_bytes(text):
@@ -86,16 +90,16 @@ class Text:
         if more:
             self.lines.append(f"{indent}more {more}")
 
-    def paragraph(self, head, rule, items):
+    def paragraph(self, head, rule, items, always=None):
         self.lines += ["", head, *cut(DOC[rule])]
-        self.put_items(items)
+        self.put_items(items, always)
 
     def hint(self, words, items=()):
         self.lines += [f"hint {words}", *cut(DOC[words.split(" ")[0]])]
         self.put_items(items)
 
-    def put_items(self, items):
-        shown, more = self.shown(items)
+    def put_items(self, items, always=None):
+        shown, more = self.shown(items, always)
         for item in shown:
             self.lines.append(item.head)
             self.lines += ["  " + fact for fact in item.facts]
@@ -292,7 +296,7 @@ class View:
             items.append(text.item(f"vertex {self.vertex(vertex)}", facts, FACE_LIMIT))
         return items
 
-    def put(self, text):
+    def put(self, text, gap_limit):
         many = [len(self.of_edge[edge]) for edge in self.unpaired]
         after = {
             "PAIR": f" once {many.count(1)} same-way {many.count(2)} many {sum(count > 2 for count in many)}",
@@ -305,7 +309,7 @@ class View:
         for rule, count in self.counts().items():
             if count:
                 head = f"rule {rule} shell {self.place} faults {count}{after.get(rule, '')}"
-                text.paragraph(head, rule, items[rule](text))
+                text.paragraph(head, rule, items[rule](text), gap_limit if rule == "JOIN" else None)
 
 
 def surface_word(file, face):
@@ -658,8 +662,9 @@ def of_solid(text, file, number, solid, places):
     text.lines += [view.line() for view in shown]
     text.put_more(more)
     put_hints(text, file, solid, failing)
+    gap_limit = LIMIT if sum(len(view.gaps) for view in views) > GAP_LIMIT else None
     for view in shown:
-        view.put(text)
+        view.put(text, gap_limit)
     put_entities(text, file, {number, *text.named, *(view.shell.entity for view in shown)}, places)
     return 1 if failing else 0
 
@@ -684,7 +689,7 @@ def whole(text, file, number, places):
 
 
 class NamedSizes:
-    """How many values the loops have that an entry's records name, each as often as it is named; a record that doesn't fit names nothing."""
+    """The sizes of the loops that an entry's records name, each as often as it is named; a record that doesn't fit names nothing."""
 
     def __init__(self, file):
         self.file, self.sizes = file, {}
@@ -698,7 +703,7 @@ class NamedSizes:
         entry = self.file.named(number)
         values = [] if entry is None else entry.values
         if not kinds:
-            return len(values)
+            return len(values) + ENTRY_SIZE if values else 0
         told = FITTING[kinds[0]](values)
         if told is None:
             return 0

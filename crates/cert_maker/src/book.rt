@@ -7,6 +7,7 @@ ghost use Rattle.brep_walk.specs.SolidOf.{solid_of};
 ghost use Rattle.solid_data.specs.Obligations.{AllHold};
 ghost use Rattle.shell_rules.specs.ShellObligations.{solid_obligations};
 ghost use Rattle.cert_lines.specs.Written.{book_lines, text_of};
+ghost use Rattle.cert_lines.specs.declared.parts.Certificate.{Certificate as AnyCertificate};
 ghost use Rattle.cert_lines.specs.declared.version.Version.TheVariants.{Three as EditionThree};
 ghost use Rattle.cert_accept.specs.Accepted.{IsAccepted};
 ghost use Rattle.cert_maker.specs.Certified.{IsCertificate};
@@ -15,6 +16,7 @@ ghost use Rattle.cert_maker.specs.Book.{uses_of, IsMade, AllMade, IsCertificateO
 
 use crate::fault::MakeFault;
 use crate::making::certify;
+use crate::sharing::name_much;
 use brep_walk::{WalkFault, Walker};
 use cert_state::use_count;
 use iges_fields::{EntryNo, NoMemory};
@@ -98,6 +100,40 @@ fn solid_part(
     Ok((certificate, used))
 }
 
+// How many loop uses there are with those of a solid, if it can be certified.
+fn used_with(
+    alloc: Global,
+    walker: &mut Walker<'_>,
+    no: EntryNo,
+    used: u64,
+) -> Result<u64, BookFault>
+    requires few { used ≤ 6000000 }
+    ensures file { walker.new ≡ walker.old }
+    ensures part { OnOk result ((c : AnyCertificate) × IsCertificateOf walker.old no.0 c) }
+    ensures used { IfOk result (λ with. with ≡ used + uses_of walker.old no.0) }
+    ensures made { OnOk result (IsMade walker.old used no.0) }
+    ensures fault { IfErr result (IsSolidFault walker.old used no.0) }
+{
+    let (part, with) = solid_part(alloc, walker, no, used)?;
+    drop(part);
+    Ok(with)
+}
+
+// Certifies the solids of a file one after another, and keeps nothing.
+fn certify_in_turn(alloc: Global, file: &File, walker: &mut Walker<'_>) -> Result<(), BookFault>
+    requires { walker.old ≡ file.now }
+    ensures file { walker.new ≡ walker.old }
+    ensures fault { IfErr result (IsBookFault file.now) }
+{
+    let mut used = 0;
+    'entries: for i in 0..file.entry_count() {
+        if file.is_solid_at(i) {
+            used = used_with(alloc, walker, file.entry_no(i), used)?;
+        }
+    }
+    Ok(())
+}
+
 // The certificates of all solids of a file, by a walker of it.
 fn certify_each(
     alloc: Global,
@@ -127,6 +163,27 @@ fn certify_each(
     Ok(parts)
 }
 
+// The same. Where solids name the same loops again and again, they are first certified in turn: their certificates may need much
+// memory, and they may have too many uses together.
+fn certify_shared(
+    alloc: Global,
+    file: &File,
+    walker: &mut Walker<'_>,
+) -> Result<Certificates, BookFault>
+    requires { walker.old ≡ file.now }
+    ensures parts { IfOk result (AllZip (IsCertificateOf file.now) (solids_of file.now)) }
+    ensures some { IfOk result (λ parts. 0 < length parts) }
+    ensures book { IfOk result (λ parts. IsAccepted file.now
+        (text_of (book_lines parts)) EditionThree (solids_of file.now)) }
+    ensures made { OnOk result (AllMade file.now 0 (solids_of file.now)) }
+    ensures fault { IfErr result (IsBookFault file.now) }
+{
+    if name_much(alloc, file)? {
+        certify_in_turn(alloc, file, walker)?;
+    }
+    certify_each(alloc, file, walker)
+}
+
 /// The certificates of all solids of a file, of version 2, in directory order; or the first solid that can't be
 /// certified: one that isn't closed, or with which there are more than 6,000,000 loop uses. Their text as a book is
 /// accepted and names all solids of the file.
@@ -139,7 +196,7 @@ pub fn certify_all(alloc: Global, file: &File) -> Result<Certificates, BookFault
     ensures fault { IfErr result (IsBookFault file.now) }
 {
     let mut walker = Walker::new(alloc, file);
-    let parts = certify_each(alloc, file, &mut walker);
+    let parts = certify_shared(alloc, file, &mut walker);
     drop(walker);
     parts
 }

@@ -9,6 +9,7 @@ mod law;
 mod making;
 mod naming;
 mod pairs;
+mod sharing;
 mod shell_part;
 
 pub use book::{BookFault, certify_all};

@@ -18,7 +18,7 @@ use Rattle.brep_lists.specs.declared.entity_kind.EntityKind.TheVariants.{Solid a
 use Rattle.brep_lists.proofs.Decided.{decided}
 use Rattle.brep_lists.proofs.Views.{fits}
 use Rattle.brep_walk.specs.Places.{faces, loops, shells}
-use Rattle.named_sizes.specs.Sizes.{AreSizes, capped, face_size, items_if, loop_size, shell_size, solid_size}
+use Rattle.named_sizes.specs.Sizes.{AreSizes, capped, face_size, items_if, loop_size, record_size, shell_size, solid_size}
 
 bool_or : (b : Bool) → (b ≡ true → ⊥) → b ≡ false
 bool_or true never = absurd (never refl)
@@ -107,11 +107,11 @@ solid_of_none f z at = sym (ap (λ ws. sum_by (sized (shell_size f)) (items_if (
 
 pub loop_of_none : (f : Contents) (z : ℤ) → values_of f z ≡ [] → 0 ≡ loop_size f z
 unfolding loop_size
-loop_of_none f z at = sym (ap (λ (ws : List Value). length ws) at)
+loop_of_none f z at = sym (ap (λ (ws : List Value). record_size (length ws)) at)
 
-pub loop_is : (f : Contents) (z : ℤ) (vs : List Value) (n : ℕ) → values_of f z ≡ vs → n ≡ length vs → n ≡ loop_size f z
+pub loop_is : (f : Contents) (z : ℤ) (vs : List Value) (n : ℕ) → values_of f z ≡ vs → n ≡ length vs → record_size n ≡ loop_size f z
 unfolding loop_size
-loop_is f z vs n at is = is ∙ sym (ap (λ (ws : List Value). length ws) at)
+loop_is f z vs n at is = ap record_size is ∙ sym (ap (λ (ws : List Value). record_size (length ws)) at)
 
 -- ---- what is counted at most
 

@@ -4,11 +4,11 @@ ghost use Rattle.brep_lists.specs.OwnValues.{is_record_of};
 ghost use Rattle.brep_lists.specs.declared.entity_kind.EntityKind.TheVariants.{Solid as solid, Shell as shell, Face as face};
 ghost use Rattle.brep_walk.specs.Places.{faces as faces_named, loops as loops_named, shells as shells_named};
 ghost use Rattle.iges_params.specs.Named.{values_of};
-ghost use Rattle.named_sizes.specs.Sizes.{AreSizes, capped, face_size as size_of_face, items_if, loop_size as size_of_loop, shell_size as size_of_shell, solid_size as size_of_solid};
+ghost use Rattle.named_sizes.specs.Sizes.{AreSizes, capped, face_size as size_of_face, items_if, loop_size as size_of_loop, record_size as size_of_record, shell_size as size_of_shell, solid_size as size_of_solid};
 ghost use Rattle.std.specs.List.{sum_by};
 ghost use Rattle.std.specs.Prelude.{◌≡◌, ◌+◌, ◌<◌, ◌≤◌, Bool, ℤ, ℕ, ◌∷◌, [], IfSome, MatchOption};
 
-use crate::MOST;
+use crate::{ENTRY, MOST};
 use brep_loops::{FaceRecord, ShellRecord, SolidRecord};
 use iges_fields::{ItemList, Values};
 use iges_params::File;
@@ -34,13 +34,25 @@ fn values_at(file: &File, z: i64) -> Option<&Values>
     file.values(no)
 }
 
+// The size of a record of so many values.
+#[tactic(auto, unfolding(crate::specs::Sizes::capped))]
+fn record_size(len: usize) -> u64
+    ensures within { result ≤ MOST }
+    ensures is { result ≡ capped (size_of_record len) }
+{
+    if len == 0 {
+        return 0;
+    }
+    (len as u64).min(MOST - ENTRY) + ENTRY
+}
+
 #[tactic(auto, unfolding(crate::specs::Sizes::capped, crate::specs::Sizes::loop_size))]
 fn loop_size(file: &File, z: i64) -> u64
     ensures within { result ≤ MOST }
     ensures is { result ≡ capped (size_of_loop file.now z) }
 {
     match values_at(file, z) {
-        Some(values) => (values.len() as u64).min(MOST),
+        Some(values) => record_size(values.len()),
         None => 0,
     }
 }
@@ -57,7 +69,7 @@ fn loops_size(file: &File, record: &FaceRecord<'_>) -> u64
     total
 }
 
-/// The values of the loops of a face.
+/// The size of the loops of a face.
 pub fn face_size(file: &File, z: i64) -> u64
     ensures within { result ≤ MOST }
     ensures is { result ≡ capped (size_of_face file.now z) }
@@ -105,7 +117,7 @@ fn faces_size(file: &File, faces: &Sizes, record: &ShellRecord<'_>) -> u64
     total
 }
 
-/// The values of the loops of a shell's faces, where the sizes of all faces are known.
+/// The size of the loops of a shell's faces, where the sizes of all faces are known.
 pub fn shell_size(file: &File, faces: &Sizes, z: i64) -> u64
     requires { AreSizes (size_of_face file.now) faces.now }
     ensures within { result ≤ MOST }
@@ -146,7 +158,7 @@ fn shells_size(file: &File, faces: &Sizes, shells: &Sizes, record: &SolidRecord<
     total
 }
 
-/// The values of the loops of the faces of a solid's shells, where the sizes of all faces and shells are known.
+/// The size of the loops of the faces of a solid's shells, where the sizes of all faces and shells are known.
 pub fn solid_size(file: &File, faces: &Sizes, shells: &Sizes, z: i64) -> u64
     requires faces { AreSizes (size_of_face file.now) faces.now }
     requires shells { AreSizes (size_of_shell file.now) shells.now }

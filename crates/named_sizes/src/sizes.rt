@@ -50,8 +50,8 @@ fn each_size(
     Ok(sizes)
 }
 
-/// How many values the loops have that each of these solids names by its shells and their faces, each loop as often as it is
-/// named; of more than 4,294,967,295 that number. It goes once over the records of the file's faces and
+/// The size of the loops that each of these solids names by its shells and their faces, each loop as often as it is named: its
+/// values, and 100; of more than 4,294,967,295 that number. It goes once over the records of the file's faces and
 /// shells, however often they are named.
 pub fn solid_sizes(
     alloc: Global,

@@ -36,7 +36,7 @@ abbrev pub is_judged : Option Verdict → Bool
 is_judged None = false
 is_judged (Some v) = true
 
--- At each place the verdict on the solid at that place. A solid is judged if it and those judged before it name no more values of loops than the file has bytes.
+-- At each place the verdict on the solid at that place. A solid is judged if its size and those of the solids judged before it are together no more than the bytes of the file.
 pub record AreVerdicts (f : Contents) (limit : ℕ) (ns : List EntryNo) (vs : List (Option Verdict)) : Type 0 where
   pub judged : map is_judged vs ≡ judged_from limit 0 (map (size_of f) ns)
   pub verdict : (i : ℕ) (n : EntryNo) (v : Verdict) → slice_get ns i ≡ Some n → slice_get vs i ≡ Some (Some v) → IsVerdictOn f n.0 v

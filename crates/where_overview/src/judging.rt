@@ -19,7 +19,7 @@ use std::alloc::Global;
 use where_places::PlacedFile;
 use where_solids::verdict;
 
-/// Solids of a file, how many values of loops each names, and how many are named at most by those that are judged.
+/// Solids of a file, the size of each, and how large those are together at most that are judged.
 #[derive(Drop)]
 pub struct SizedSolids<'a> {
     pub file: &'a File,
@@ -183,8 +183,8 @@ fn judge_sized(
     verdicts
 }
 
-/// The verdict on each of these solids of a file. One isn't judged where it and those judged before it name more values of loops
-/// than the file has bytes.
+/// The verdict on each of these solids of a file. One isn't judged where its size and those of the solids judged before it are
+/// together more than the bytes of the file.
 pub fn verdicts(
     alloc: Global,
     placed: &PlacedFile,

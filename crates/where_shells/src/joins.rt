@@ -192,11 +192,11 @@ fn put_join_lines(
     gaps: &[Gap],
 ) -> Result<(), NoMemory>
     ensures text { OnOk result (page.new.out ≡ page.old.out
-        ++ join_lines view.now.listing view.now.file.now view.now.solid.now view.now.at.0 faces.now gaps.now) }
+        ++ join_lines view.now.gaps view.now.file.now view.now.solid.now view.now.at.0 faces.now gaps.now) }
     ensures named { OnOk result (page.new.named
-        ≡ page.old.named ++ map (gap_face faces.now) (shown view.now.listing gaps.now)) }
+        ≡ page.old.named ++ map (gap_face faces.now) (shown view.now.gaps gaps.now)) }
 {
-    let count = view.listing.count(gaps.len());
+    let count = view.gaps.count(gaps.len());
     put_head(&mut page.out, Rule::Unjoined, view.at, gaps.len())?;
     put_gaps(page, view, faces, &gaps[..count])?;
     put_more_items(&mut page.out, gaps.len() - count)
@@ -208,9 +208,9 @@ fn put_join_lines(
 pub fn put_join(page: &mut Page, view: &ShellView<'_>, gaps: &[Gap]) -> Result<(), NoMemory>
     requires { view.now.at.0 < length view.now.solid.now.shells }
     ensures text { OnOk result (page.new.out ≡ page.old.out
-        ++ join_text view.now.listing view.now.file.now view.now.solid.now view.now.at.0 gaps.now) }
+        ++ join_text view.now.gaps view.now.file.now view.now.solid.now view.now.at.0 gaps.now) }
     ensures named { OnOk result (page.new.named
-        ≡ page.old.named ++ join_named view.now.listing view.now.solid.now view.now.at.0 gaps.now) }
+        ≡ page.old.named ++ join_named view.now.gaps view.now.solid.now view.now.at.0 gaps.now) }
 {
     if gaps.is_empty() {
         return Ok(());

@@ -10,7 +10,8 @@ use solid_data::{ShellAt, Solid};
 use spelled_solid::SpelledSolid;
 use where_text::{EntryNumbers, Listing};
 
-/// A shell of a solid of a file, the solid's words, the shell's rows, the faces at each vertex of the solid, and how much is written of each list.
+/// A shell of a solid of a file, the solid's words, the shell's rows, the faces at each vertex of the solid, and how much is written of each
+/// list, and of the gaps.
 #[derive(Drop)]
 pub struct ShellView<'a> {
     pub file: &'a File,
@@ -20,6 +21,7 @@ pub struct ShellView<'a> {
     pub rows: &'a Rows,
     pub faces: &'a VertexFaces,
     pub listing: Listing,
+    pub gaps: Listing,
     ghost same: { spelled.now ≡ record { file = file.now; solid = solid.now } },
 }
 

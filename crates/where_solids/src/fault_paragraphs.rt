@@ -68,9 +68,9 @@ pub fn put_faults(
     requires faults { (h : AnyShell) → slice_get view.now.solid.now.shells view.now.at.0 ≡ Some h
         → AreFaults view.now.solid.now view.now.at.0 h faults.now }
     ensures text { OnOk result (page.new.out ≡ page.old.out
-        ++ fault_paragraphs view.now.listing view.now.file.now view.now.solid.now view.now.at.0 faults.now) }
+        ++ fault_paragraphs view.now.listing view.now.gaps view.now.file.now view.now.solid.now view.now.at.0 faults.now) }
     ensures named { OnOk result (page.new.named ≡ page.old.named
-        ++ fault_faces view.now.listing view.now.solid.now view.now.at.0 faults.now) }
+        ++ fault_faces view.now.listing view.now.gaps view.now.solid.now view.now.at.0 faults.now) }
 {
     let unpaired = faults.unpaired();
     put_join(page, view, faults.gaps())?;

@@ -2,6 +2,7 @@
 #![tactic(auto)]
 
 mod fault_paragraphs;
+mod gaps;
 mod hints;
 mod lines;
 mod record_texts;
@@ -13,3 +14,6 @@ pub use hints::put_no_solid;
 pub use lines::{put_count, put_failing};
 pub use telling::{Told, tell};
 pub use verdicts::verdict;
+
+/// The most gaps of a solid that are all written.
+pub const GAP_LIMIT: usize = 10_000;

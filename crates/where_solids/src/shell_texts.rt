@@ -7,9 +7,10 @@ ghost use Rattle.solid_faults.specs.Faults.{AreFaults};
 ghost use Rattle.std.specs.Prelude.{◌≡◌, ◌++◌, ◌∷◌, ◌<◌, IfOk, OnOk, Some, flat_map, length, slice_get};
 ghost use Rattle.solid_hints.specs.AllFaults.{AreAllFaults};
 ghost use Rattle.where_solids.specs.Lines.{line_at};
-ghost use Rattle.where_solids.specs.ShellTexts.{fault_faces, fault_paragraphs, named_at, paragraphs_at};
+ghost use Rattle.where_solids.specs.ShellTexts.{fault_faces, fault_paragraphs, gap_listing as listing_of_gaps, named_at, paragraphs_at};
 
 use crate::fault_paragraphs::put_faults;
+use crate::gaps::gap_listing;
 use crate::lines::put_shell_line;
 use edge_uses::rows;
 use iges_fields::{NoMemory, Out};
@@ -69,25 +70,33 @@ fn put_described(
     requires faults { (h : AnyShell) → slice_get view.now.solid.now.shells view.now.at.0 ≡ Some h
         → AreFaults view.now.solid.now view.now.at.0 h faults.now }
     ensures paragraphs { OnOk result (page.new.out ≡ page.old.out
-        ++ fault_paragraphs view.now.listing view.now.file.now view.now.solid.now view.now.at.0 faults.now) }
+        ++ fault_paragraphs view.now.listing view.now.gaps view.now.file.now view.now.solid.now view.now.at.0 faults.now) }
     ensures named { OnOk result (page.new.named ≡ page.old.named
-        ++ shell.now.entity ∷ fault_faces view.now.listing view.now.solid.now view.now.at.0 faults.now) }
+        ++ shell.now.entity ∷ fault_faces view.now.listing view.now.gaps view.now.solid.now view.now.at.0 faults.now) }
 {
     page.named.push(shell.entity)?;
     put_faults(alloc, page, view, faults)
+}
+
+// What serves for each shell of a solid: its words, the faces at each vertex, and how much is written of the gaps.
+#[derive(Drop)]
+struct Shared<'a> {
+    spelled: &'a SpelledSolid<'a>,
+    faces: &'a VertexFaces,
+    gaps: Listing,
 }
 
 fn put_shell(
     alloc: Global,
     page: &mut Page,
     view: &HintedSolid<'_>,
-    faces: &VertexFaces,
-    spelled: &SpelledSolid<'_>,
+    shared: &Shared<'_>,
     k: u32,
 ) -> Result<(), NoMemory>
     requires faults { AreAllFaults view.now.solid.now view.now.all.now }
-    requires spelled { spelled.now ≡ record { file = view.now.file.now; solid = view.now.solid.now } }
-    requires faces { faces.now ≡ touches_of view.now.solid.now }
+    requires spelled { shared.now.spelled.now ≡ record { file = view.now.file.now; solid = view.now.solid.now } }
+    requires faces { shared.now.faces.now ≡ touches_of view.now.solid.now }
+    requires gaps { shared.now.gaps ≡ listing_of_gaps view.now.listing view.now.all.now }
     ensures paragraphs { OnOk result (page.new.out ≡ page.old.out
         ++ paragraphs_at view.now.listing view.now.file.now view.now.solid.now view.now.all.now k) }
     ensures named { OnOk result (page.new.named ≡ page.old.named
@@ -104,11 +113,12 @@ fn put_shell(
     let described = ShellView {
         file: view.file,
         solid: view.solid,
-        spelled,
+        spelled: shared.spelled,
         at,
         rows: &rows,
-        faces,
+        faces: shared.faces,
         listing: view.listing,
+        gaps: shared.gaps,
     };
     let put = put_described(alloc, page, &described, shell, faults);
     drop(rows);
@@ -119,20 +129,20 @@ fn put_each(
     alloc: Global,
     page: &mut Page,
     view: &HintedSolid<'_>,
-    faces: &VertexFaces,
-    spelled: &SpelledSolid<'_>,
+    shared: &Shared<'_>,
     shells: &[u32],
 ) -> Result<(), NoMemory>
     requires faults { AreAllFaults view.now.solid.now view.now.all.now }
-    requires spelled { spelled.now ≡ record { file = view.now.file.now; solid = view.now.solid.now } }
-    requires faces { faces.now ≡ touches_of view.now.solid.now }
+    requires spelled { shared.now.spelled.now ≡ record { file = view.now.file.now; solid = view.now.solid.now } }
+    requires faces { shared.now.faces.now ≡ touches_of view.now.solid.now }
+    requires gaps { shared.now.gaps ≡ listing_of_gaps view.now.listing view.now.all.now }
     ensures paragraphs { OnOk result (page.new.out ≡ page.old.out
         ++ flat_map (paragraphs_at view.now.listing view.now.file.now view.now.solid.now view.now.all.now) shells.now) }
     ensures named { OnOk result (page.new.named ≡ page.old.named
         ++ flat_map (named_at view.now.listing view.now.solid.now view.now.all.now) shells.now) }
 {
     'shells: for i in 0..shells.len() {
-        put_shell(alloc, page, view, faces, spelled, shells[i])?;
+        put_shell(alloc, page, view, shared, shells[i])?;
     }
     Ok(())
 }
@@ -174,7 +184,12 @@ pub fn put_paragraphs(
         return Ok(());
     }
     let faces = faces_by_vertex(alloc, view.solid)?;
-    let put = put_each(alloc, page, view, &faces, spelled, shells);
+    let shared = Shared {
+        spelled,
+        faces: &faces,
+        gaps: gap_listing(view.listing, view.all.as_slice()),
+    };
+    let put = put_each(alloc, page, view, &shared, shells);
     drop(faces);
     put
 }
