@@ -15,12 +15,20 @@ fn is_text(text: &Option<Bytes>, due: &[u8]) -> bool {
 
 #[test]
 fn an_integer_is_written(rt: HostRuntime) {
-    same(&rt, &is_text(&written_integer(rt.alloc(), -7), b"-7"), &true);
+    same(
+        &rt,
+        &is_text(&written_integer(rt.alloc(), -7), b"-7"),
+        &true,
+    );
 }
 
 #[test]
 fn a_real_is_spelled_and_written(rt: HostRuntime) {
-    same(&rt, &is_text(&written_real(rt.alloc(), b"1.50D3"), b"1.50D3"), &true);
+    same(
+        &rt,
+        &is_text(&written_real(rt.alloc(), b"1.50D3"), b"1.50D3"),
+        &true,
+    );
 }
 
 #[test]
