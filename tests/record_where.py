@@ -16,7 +16,7 @@ from pages import EDITION
 from picture_tests import RECORDED, TOP, example
 from programs import chosen
 
-SAMPLE = re.compile(r"(?m)^(\$ \./igesolid where (.*)\n)((?:(?!\$ |```).*\n)*)")
+SAMPLE = re.compile(r"(?m)^(\$ \./igesolid where ([^|>\n]*)\n)((?:(?!\$ |```).*\n)*)")
 
 
 def write(path, text):
