@@ -5,7 +5,7 @@ typedef struct {
 } Row;
 
 #define VERSION "1.0"
-#define SOURCES "03a57f94f14fecfaad3feb28aa880a46ad8ca3ea81144b5c6cfc4c0a56868bc6"
+#define SOURCES "1c4e7d746104f41a7a3fe2d6ad523845beabdf3e893682b90e5b4c46cc1cf4a1"
 #define KIT "rattle-kit-13f logic dac8208d650f15bf"
 static const Row rows[] = {
     {"program", "igesolid", "all", "judges the solids of a file, and writes and checks certificates"},
