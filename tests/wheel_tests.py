@@ -13,6 +13,7 @@ import zipfile
 import zlib
 
 import answers
+from launcher import parts_of
 from libraries import EXAMPLES, HEADER, TOP, answer, examples, requests, shipped
 from spawned import SECONDS, Runner
 
@@ -146,6 +147,10 @@ def installed(folder, name, wheel, native, copy):
         wanted = copy.run("./igesolid", *words)
         got = subprocess.run([venv / "bin" / "igesolid", *words], cwd=TOP, env={"PATH": "/usr/bin:/bin"}, stdin=subprocess.DEVNULL, capture_output=True)
         yield f"{name}: igesolid {' '.join(words)}", (got.returncode, got.stdout) == wanted[:2]
+    pair = EXAMPLES / "no" / "fail_pair.igs"
+    page = subprocess.run([venv / "bin" / "igesolid", "page", pair, "1"], cwd=folder, env={"PATH": "/usr/bin:/bin"}, stdin=subprocess.DEVNULL, capture_output=True)
+    told = native.told["where", str(pair), "1", "all"][1]
+    yield f"{name}: igesolid page", page.returncode == 1 and parts_of(page.stdout) == [b"fail_pair.igs\x001", told, pair.read_bytes()]
 
 
 def commands():
