@@ -23,7 +23,7 @@ NAMED = re.compile(r"\bRattle\.(\w+)|(?<![\w:.])(\w+)::")
 FUNCTION = re.compile(r"(?m)^ *(?:pub(?:\(\w+\))? )?(?:const )?fn \w+")
 CHAIN, LINES, FUNCTIONS = 8, 1500, 100
 # What a crate lists and doesn't name: a change of its line proves it again, and all above, so it goes with the crate's next change.
-UNNAMED = {("record_numbers", "brep_lists"), ("changed_file", "brep_lists"), ("solid_mend", "iges_fields")}
+UNNAMED = set()
 # The longer chains: where's text and mend stand on remedies that were tried, which stand on the search; the laws of
 # reoriented files stand on those of extracted ones, and nothing on them. See docs/DECISIONS.md.
 LONGER = {"solid_hints": 9, "where_solids": 10, "where_overview": 11, "where_command": 12, "where_laws": 13, "solid_mend": 9, "mend_commands": 10, "mended_commands": 11, "repair_commands": 12, "reorient_laws": 9}

@@ -6,6 +6,7 @@ import random
 from lattices import lattice_text
 from programs import Program
 from second_checker import answer
+from second_checker.canonical import text_of
 from second_checker.reading import BadFile, File
 from surfaces import surface_text
 
@@ -13,6 +14,25 @@ TOP = pathlib.Path(__file__).resolve().parent.parent
 CHOICES = "", "", "1", "2", "3", "6"
 # Words of no form: N and R that aren't what they are to be.
 WORDS = (), ("0",), ("x",), ("12345678",), ("1", "0"), ("1", "7"), ("1", "01"), ("1", "x"), ("1", ""), ("1", "1", "1")
+
+
+# How often a file at random names a shell, a face or a loop again.
+IS_AGAIN = 0.25
+
+
+def named_again(rng, data):
+    """The file, in which a solid names one of its shells once more, a shell a face, or a face a loop."""
+    file = File(data)
+    of_kind = {kind: [number for number, entry in file.entries.items() if entry.kind == kind] for kind in (186, 514, 510, 508)}
+    for kind in rng.choices([186, 514, 514, 510], k=rng.choice([1, 1, 2, 3])):
+        values = file.entries[rng.choice(of_kind[kind])].values
+        # The place of the count, and what may be named.
+        place, named = {186: (2, 514), 514: (0, 510), 510: (1, 508)}[kind]
+        first, width = (3, 1) if kind == 510 else (place + 1, 2)
+        at = first + width * rng.randint(0, values[place] or 0)
+        values[at:at] = [rng.choice(of_kind[named]), 1][:width]
+        values[place] = (values[place] or 0) + 1
+    return text_of(file)
 
 
 class Mending:
@@ -48,8 +68,9 @@ def example_checks(runs):
 def random_checks(runs, cases):
     for case in cases:
         rng = random.Random(f"mend {case}")
-        made = rng.choice([lattice_text, lattice_text, lattice_text, surface_text])
-        yield from runs.checks(f"mend: case {case}", made(rng), choice=rng.choice(CHOICES))
+        data = rng.choice([lattice_text, lattice_text, lattice_text, surface_text])(rng)
+        data = named_again(rng, data) if rng.random() < IS_AGAIN else data
+        yield from runs.checks(f"mend: case {case}", data, choice=rng.choice(CHOICES))
 
 
 def words_checks(runs, usage):

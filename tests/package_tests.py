@@ -26,14 +26,14 @@ def fault_of(call, *given):
 """
 # Of each check a name, a text, and what it prints.
 BOTH = (
-    ("descriptors over 1,000 reads", """
+    ("descriptors over COUNT reads", """
 before, kept = descriptors(), []
 for n in range(COUNT):
     file = igesolid.read(cube, engine)
     kept.append(file.solids[0].verdict)
 print(descriptors() - before, len(kept) == COUNT)
 """, "0 True"),
-    ("descriptors of 1,000 files that are kept", """
+    ("descriptors of COUNT files that are kept", """
 resource.setrlimit(resource.RLIMIT_NOFILE, (40, 40))
 kept = [igesolid.read(cube, engine) for n in range(COUNT)]
 print(len(kept) == COUNT)
@@ -196,4 +196,4 @@ def checks(copy, folder, skipped):
             environment = {**os.environ, "PYTHONPATH": str(copy.top / "python")}
             done = subprocess.run(words, cwd=folder, env=environment, stdin=subprocess.DEVNULL, capture_output=True, text=True, timeout=SECONDS)
             told = done.stdout.strip() if done.returncode == 0 else done.stderr
-            yield f"{about}: {name}{'' if told == wanted else f': {told}'}", told == wanted
+            yield f"{about}: {name.replace('COUNT', str(count))}{'' if told == wanted else f': {told}'}", told == wanted

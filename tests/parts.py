@@ -96,7 +96,7 @@ def of_repair(checks):
 def of_pages(context):
     yield from pages.checks(context.new_folder(), TOP, *context.programs[:3], FORMS)
     yield from no_examples.checks(TOP, context.programs)
-    yield from gallery.checks(context.new_folder(), context.programs.where)
+    yield from gallery.checks(context.new_folder(), *context.programs[1:3])
     for module in (quoted, theorem, trusted, layers):
         yield from module.checks(TOP)
 

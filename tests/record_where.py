@@ -1,6 +1,6 @@
 #!/usr/bin/env python3
 """Records anew what tests and pages quote of `where`: the texts of tests/recorded, the stored run of the crate igesolid_where, the samples in README.md
-and docs/COMMANDS.md, the verdicts and hints in docs/GALLERY.md, and the checksum in the last row of docs/CHANGES.md. Prints the name of each
+and docs/COMMANDS.md, the verdicts in docs/GALLERY.md, and the checksum in the last row of docs/CHANGES.md. Prints the name of each
 file that changes.
 
   tests/record_where.py [PROGRAM]    by igesolid-where, or else by the one that tests/run takes"""
@@ -16,7 +16,7 @@ from pages import EDITION
 from picture_tests import RECORDED, TOP, example
 from programs import chosen
 
-SAMPLE = re.compile(r"(?m)^(\$ \./igesolid where (.*)\n)((?:(?!\$ |```).*\n)*)")
+SAMPLE = re.compile(r"(?m)^(\$ \./igesolid where ([^|>\n]*)\n)((?:(?!\$ |```).*\n)*)")
 
 
 def write(path, text):
@@ -47,12 +47,11 @@ def record_samples(where):
 
 
 def quoted(where, name, number):
-    """The verdict on a solid of the gallery, and its hints."""
+    """The verdict on a solid of the gallery."""
     with tempfile.NamedTemporaryFile(suffix=".igs") as file:
         file.write(gallery.content(gallery.file_of(name)))
         file.flush()
-        lines = told(where, file.name, number, "all").splitlines()
-    return ", ".join(f"`{line}`" for line in [lines[0], *(line for line in lines if line.startswith("hint "))])
+        return f"`{told(where, file.name, number).splitlines()[0]}`"
 
 
 def record_gallery(where):

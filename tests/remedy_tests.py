@@ -15,7 +15,7 @@ TOP = pathlib.Path(__file__).resolve().parent.parent
 sys.path.insert(0, str(TOP / "bench"))
 
 from broken.bases import bases_of  # noqa: E402
-from broken.faults import WAYS, plans  # noqa: E402
+from broken.faults import KINDS, WAYS, plans  # noqa: E402
 from broken.iges import File  # noqa: E402
 from broken.judge import Kept, false_facts  # noqa: E402
 from broken.measure import Built, judged  # noqa: E402
@@ -94,6 +94,7 @@ def judge_checks():
         change(mended)
         yield f"judge: {name}", bool(Kept(file, mended, 1).found(False))
     yield "judge: all ways are planned", len(WAYS) == 35
+    yield "judge: each way is of a kind", sorted(way for ways in KINDS.values() for way in ways) == sorted(WAYS)
 
 
 def checks(chosen, count=FILES, seed=SEED):

@@ -1,5 +1,6 @@
 """packaging/c/translate: each instruction that it knows, as C and as the module itself is run by node, on the same operands; that the module
 of dist/ has no other; and modules that it has to refuse."""
+import re
 import shutil
 import subprocess
 import sys
@@ -11,6 +12,8 @@ sys.path.insert(0, str(HEADER))
 from wasm_function import STEPS, Function  # noqa: E402
 from wasm_module import U64, Module  # noqa: E402
 
+# Some compilers warn of it.
+SET_TO_ITSELF = re.compile(r"\b(\w+) = \1;")
 STACK = 131072
 PLACE = 100000
 OPERANDS = 0, 1, 2, 3, 31, 32, 63, 127, 128, 255, 32768, 65535, 65537, 2**31 - 1, 2**31, 2**32 - 1, 2**32, 2**40 + 5, 2**63 - 1, 2**63, 2**64 - 2, 2**64 - 1
@@ -112,6 +115,7 @@ def of_memory():
 def of_control():
     yield [*A, *A, CONSTANT, 1, 0x7C, SET, 0, *A, 0x7D]
     yield [*A, *B, TEE, 0, 0x7D, *A, 0x7C]
+    yield [*A, *A, SET, 0, *B, TEE, 1, 0x7D, *A, 0x7C]
     yield [*A, 0x01, *B, 0x1A]
     yield [*A, *B, 0x10, 0]
     yield [*A, *B, 0x10, 0, 0x1A, *A]
@@ -210,6 +214,7 @@ def of_instructions(folder, compilers, skipped):
     made, data = bodies(), module_of(bodies())
     used = set().union(*(it.used for it in functions_of(data)))
     yield "translate: all instructions that it knows are tried", {*STEPS} - {0xFC} <= used and {(0xFC, 10), (0xFC, 11)} <= used
+    yield "translate: nothing is set to itself", SET_TO_ITSELF.search("".join(translated(data)[1])) is None
     own = shipped("igesolid.wasm")
     if own is not None:
         others = set().union(*(it.used for it in functions_of(own.read_bytes(), 7))) - used

@@ -14,7 +14,7 @@ from spawned import SECONDS
 
 EXE, DLL, IMPORTS = "igesolid-x86_64-windows.exe", "igesolid-x86_64-windows.dll", "libigesolid-x86_64-windows.dll.a"
 PREFIX = "x86_64-w64-mingw32-"
-MOST_BYTES = 1 << 20
+MOST_BYTES = 1_000_000
 EXPORTED = {"igesolid_run", "igesolid_where", "igesolid_repair", "igesolid_free"}
 # What every Windows has.
 SYSTEM = {"KERNEL32.dll", "msvcrt.dll"}

@@ -1,8 +1,8 @@
 """Changes of a shell that don't fit, one or more for each clause of `Fits` (crates shell_change, change_names, change_fits), and one that does.
 
 Each is the right change with one place made wrong, so it is refused for this alone. Here the second checker judges them. The proved checker judges
-the same in the program `wrong_changes`, which reads the solid from a file in its folder and the changes as lines of numbers, and names vertices and
-edges by their order in that file. `python3 tests/wrong_changes.py` writes these files, and what the program must print.
+the same in the program `wrong_changes`, which reads the solid from a file in its folder and the changes as rows of numbers, each a character, and
+names vertices and edges by their order in that file. `python3 tests/wrong_changes.py` writes these files, and what the program must print.
 """
 import copy
 import pathlib
@@ -21,8 +21,8 @@ FOLDER = pathlib.Path(__file__).resolve().parent.parent / "crates" / "wrong_chan
 PLACES_OF = [0, 1, 2, 0, 1, 3, 4, 4, 4, 5, 6, 7, 8, 9, 10, 11, 4, 9, 13, 5, 6, 7]
 # Of each edge its start and end, and of its curve the record and, of a line, its two points.
 EDGES = [
-    (0, 1, 10, 100), (1, 2, 11, 101), (2, 0, 12, 102), (4, 3, 13, 100), (4, 5, 11, 101), (3, 5, 14, 102), (6, 6, 20, None), (7, 7, 20, None),
-    (8, 8, 21, None), (10, 11, 30, 103), (12, 13, 31, 104), (13, 12, 32, 104), (14, 15, 33, None), (16, 16, 20, None), (17, 18, 11, 101), (20, 21, 30, 103),
+    (0, 1, 10, 0), (1, 2, 11, 1), (2, 0, 12, 2), (4, 3, 13, 0), (4, 5, 11, 1), (3, 5, 14, 2), (6, 6, 20, None), (7, 7, 20, None),
+    (8, 8, 21, None), (10, 11, 30, 3), (12, 13, 31, 4), (13, 12, 32, 4), (14, 15, 33, None), (16, 16, 20, None), (17, 18, 11, 1), (20, 21, 30, 3),
 ]  # fmt: skip
 # Of each shell its faces, each of one loop: edges with their flags, or a vertex alone.
 SHELLS = [
@@ -248,7 +248,7 @@ def solid_text():
 
 
 def maybe(value):
-    return [0] if value is None else [1, value]
+    return [0 if value is None else value + 1]
 
 
 def listed(items, of_item):
@@ -269,7 +269,7 @@ class Rows:
         return listed(self.vertices_named, lambda vertex: [PLACES_OF[vertex]]) + listed(curves, lambda it: [it.record, *maybe(it.line)])
 
     def change(self, change):
-        """A list is its length and its items, None is 0 and anything else 1 and itself, a name is whether it is new and its number."""
+        """A list is its length and its items, None is 0 and a number one more than it, a name is whether it is new and its number."""
         vertex, edge = (lambda number, places=places: places.get(number, number) for places in (self.vertices, self.edges))
         name = lambda it, old: [int(it.is_new), it.number if it.is_new else old(it.number)]
 
@@ -296,14 +296,14 @@ class Rows:
 
 
 def files():
-    """The files of the program by their paths: the solid, its geometry, the changes a line each, and what it must print."""
-    line = lambda numbers: " ".join(map(str, numbers)) + "\n"
+    """The files of the program by their paths: the solid; its geometry, and the changes, a line each; and what it must print."""
+    row = lambda numbers: "".join(chr(ord("0") + it) for it in numbers)
     rows = Rows()
     changes = [("the right change", rows.change(right())), *((f"{name} ({clause})", rows.change(change)) for name, clause, change in wrong_changes())]
     verdicts = [f"{'refused' if at else 'fits'}: {name}\n" for at, (name, _) in enumerate(changes)]
     yield FOLDER / "data" / "solid.igs", solid_text()
-    yield FOLDER / "data" / "geometry.txt", line(rows.geometry()).encode()
-    yield FOLDER / "data" / "changes.tsv", "".join(f"{name}\t{line(row)}" for name, row in changes).encode()
+    lines = [row(rows.geometry()), *(f"{name}\t{row(numbers)}" for name, numbers in changes)]
+    yield FOLDER / "data" / "changes.txt", "".join(f"{line}\n" for line in lines).encode()
     yield FOLDER / "stdout", "".join(verdicts).encode()
 
 

@@ -2,7 +2,8 @@
 import pathlib
 from typing import NamedTuple
 
-from .iges import SOLID, File
+from .iges import SOLID, VERTICES, File
+from .judge import value
 
 MOST_FACES = 130
 
@@ -13,10 +14,20 @@ class Base(NamedTuple):
     solid: int
     shells: int
     faces: int
+    # Parameters 13 to 15 of the global section: scale and units.
+    units: tuple
+    # The places of its vertices.
+    places: frozenset
 
 
 def faces_of(file, solid):
     return sum(len(file.get(shell)) for shell, _ in file.get(solid))
+
+
+def based(path, data, file, shells):
+    solid = file.solids()[0]
+    places = frozenset(tuple(map(value, item)) for entry in file.entries if entry.kind == VERTICES for item in entry.record)
+    return Base(path.stem, data, solid, shells, faces_of(file, solid), tuple(file.globals[10:13]), places)
 
 
 def base_of(path, run):
@@ -36,14 +47,13 @@ def base_of(path, run):
         return None
     alone = File(compact)
     solids = [entry.number for entry in alone.entries if entry.kind == SOLID]
-    return Base(path.stem, compact, solids[0], len(alone.get(solids[0])), faces_of(alone, solids[0])) if len(solids) == 1 else None
+    return based(path, compact, alone, len(alone.get(solids[0]))) if len(solids) == 1 else None
 
 
 def touching_base(path):
     """A file of several solids that touch, as it is."""
     data = path.read_bytes()
-    file = File(data)
-    return Base(path.stem, data, file.solids()[0], 1, faces_of(file, file.solids()[0]))
+    return based(path, data, File(data), 1)
 
 
 def bases_of(paths, run):

@@ -13,7 +13,7 @@ class Broken:
     """A base whose solid is being broken, a source of choices, and the closed solids of which one may be put beside it."""
 
     def __init__(self, base, rng, bases):
-        self.file, self.solid, self.rng = File(base.data), base.solid, rng
+        self.file, self.base, self.solid, self.rng = File(base.data), base, base.solid, rng
         self.others = [other for other in bases if other.name != base.name]
 
     def shells(self):
@@ -210,7 +210,7 @@ def doubled(how):
                 return None
         added = it.add_face(face, copy.deepcopy(loops))
         it.insert(shell, added, flag ^ (how == "reversed"))
-        return {"kinds": ["stray" if how == "own" else "doubled"], "added": [added], "of": [face]}
+        return {"kinds": ["doubled"], "added": [added], "of": [face]}
 
     return way
 
@@ -299,12 +299,20 @@ def fin(it):
 
 # faces and loops that are turned
 
+def is_joined(it, group):
+    """Whether an edge joins faces of a group to others."""
+    others = {edge for face in it.faces() if face not in group for edge in it.edges(face)}
+    return any(others & set(it.edges(face)) for face in group)
+
+
 def turn(how):
     def way(it):
         faces = it.faces()
         if how == "some" and len(faces) < 4:
             return None
         turned = set({"one": it.some(faces, 1), "some": it.some(faces, max(2, len(faces) // 3)), "all": faces}[how])
+        if how != "all" and not is_joined(it, turned):
+            return None
         for shell, _ in it.shells():
             for pair in it.file.get(shell):
                 pair[1] ^= pair[0] in turned
@@ -357,6 +365,8 @@ def unsew(which, how):
             "all": lambda: [[face] for face in faces],
             "half": lambda: [half_of(it)],
         }[which]()
+        if not any(is_joined(it, group) for group in groups):
+            return None
         curve = it.rng.choice(["share", "copy", "respell", "flip"])
         for group in groups:
             copies = Copies(it.file, how, curve)
@@ -371,7 +381,8 @@ def unsew(which, how):
 def crack(it):
     """One use of an edge has an edge of its own, between the same vertices on the same curve."""
     _, face = it.rng.choice(it.listed())
-    edges = [edge for edge in it.edges(face) if it.edges(face).count(edge) == 1]
+    others = {edge for other in it.faces() if other != face for edge in it.edges(other)}
+    edges = [edge for edge in it.edges(face) if it.edges(face).count(edge) == 1 and edge in others]
     if not edges:
         return None
     edge = it.rng.choice(edges)
@@ -414,11 +425,16 @@ def pinch(it):
     return None
 
 
+def is_another(other, own):
+    """Whether a base may stand beside another one: not as its copy, and in its unit, so that their volumes make a sum."""
+    return other.units == own.units and not other.places <= own.places and not other.name.startswith(TOUCHING)
+
+
 def lumps(is_open):
     """The faces of another closed solid in the outer shell, and where it is open a face of one of the two missing."""
 
     def way(it):
-        small = [base for base in it.others if base.faces <= 30 and base.shells == 1]
+        small = [base for base in it.others if base.faces <= 30 and base.shells == 1 and is_another(base, it.base)]
         if not small:
             return None
         other = it.rng.choice(small)
@@ -510,6 +526,24 @@ WAYS = {
     "unsewhalf": unsew("half", "same"), "unsewhalf_D0": unsew("half", "D0"), "unsewhalf_digit": unsew("half", "digit"),
     "crack": crack, "splitv": part_vertex, "pinch": pinch, "lumps": lumps(False), "lumps_open": lumps(True), "voidlump": void_as_lump,
     "voidtouch": touching_voids("vertex"), "voidtouch_e": touching_voids("edge"),
+}  # fmt: skip
+# The ways by what they do; bodies that touch are of files with names of their own.
+KINDS = {
+    "faces missing": ("del1", "del2", "del3", "delcap"),
+    "a face twice": ("dup_same", "dup_rev", "dup_own"),
+    "another face on its edges": ("disc",),
+    "walls, fins": ("wall1", "wall2", "fin"),
+    "faces turned": ("rev1", "revsome", "revall"),
+    "loops turned": ("revloop", "revloop_in"),
+    "faces unsewn": (
+        "unsew1", "unsew1_1.0", "unsew1_D0", "unsewsome", "unsewsome_E", "unsewall", "unsewall_1.0", "unsewhalf", "unsewhalf_D0", "crack",
+    ),
+    "unsewn by a digit": ("unsew1_digit", "unsewhalf_digit"),
+    "a vertex parted": ("splitv",),
+    "vertices pinched": ("pinch",),
+    "bodies in one shell": ("lumps", "voidlump"),
+    "bodies, one open": ("lumps_open",),
+    "voids that touch": ("voidtouch", "voidtouch_e"),
 }  # fmt: skip
 # Those of which two are done to a solid, one after the other, and how many such pairs each solid gets.
 PAIRED = (

@@ -14,6 +14,8 @@ def number(field_text):
 
 def words_of(text, parting, ending):
     """The words of a record or of a global; a text with its count is one word."""
+    if "H" not in text:
+        return [word.strip(" ") for word in text[: text.index(ending)].split(parting)]
     words, at = [], 0
     while True:
         while text[at] == " ":

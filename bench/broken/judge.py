@@ -1,4 +1,5 @@
 """Judges of remedies: whether the first steps are those that undo what was done, whether what is told of them is true, and what a mended file kept."""
+import functools
 import re
 from collections import Counter
 from fractions import Fraction
@@ -9,6 +10,7 @@ NUMBER = re.compile(r"([+-]?)(\d*)\.?(\d*)(?:[EDed]([+-]?\d+))?")
 LINE = 110
 
 
+@functools.lru_cache(100_000)
 def value(word):
     """A number's value, exactly; a text as it is; None where it is left out."""
     found = NUMBER.fullmatch(word)
@@ -26,7 +28,7 @@ UNDONE = {
 }  # fmt: skip
 # What comes with a step as its consequence.
 ALONG = {"unsewn": {"renew edges"}, "parted": set(), "pinch": {"renew edges"}, "apart": {"renew edges"}, "touch": {"copy vertices", "renew edges", "part bodies"}}
-TOO_MUCH = "doubled", "stray", "wall", "fin"
+TOO_MUCH = "doubled", "wall", "fin"
 
 
 def faces_removed(remedies):
@@ -39,7 +41,9 @@ def undoes(kind, truth, remedies):
         gone, added, of = faces_removed(remedies), set(truth["added"]), set(truth.get("of", ()))
         is_same = gone == added or kind == "doubled" and len(gone) == len(added) and gone <= added | of
         return is_same or len(truth["kinds"]) > 1 and bool(gone & (added | of))
-    return any(UNDONE[kind] & remedy.names() for remedy in remedies)
+    # A vertex that two bodies have in common is no fault once they are parted.
+    steps = UNDONE[kind] | ({"part bodies"} if kind == "pinch" and "lumps" in truth["kinds"] else set())
+    return any(steps & remedy.names() for remedy in remedies)
 
 
 def is_right(truth, remedies):

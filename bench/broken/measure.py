@@ -1,4 +1,5 @@
 """Measures what is said of broken solids, and what is written of them."""
+import functools
 import pathlib
 import subprocess
 import sys
@@ -58,7 +59,7 @@ class Judged:
     needs_face: bool
     counts: dict = field(default_factory=dict)
     faults: list = field(default_factory=list)
-    # What mend wrote without R, the solids to compare it with, and its sure ones' bytes.
+    # What mend wrote without R, and the solids to compare it with.
     mended: bytes = b""
     originals: tuple = ()
 
@@ -96,12 +97,14 @@ def judge_text(it, case, shells):
     it.counts["first right"], it.counts["among six"] = int(right[0]), int(any(right))
     file = File(case.data)
     false = false_facts(file, case.solid, shells)
-    it.counts["false facts"] = len(false)
+    it.counts["false facts"], it.counts["remedies told"] = len(false), sum(map(len, shells.values()))
     it.faults += [f"false: {words}" for words in false]
 
 
 def judge_mended(it, case, shells, programs):
-    written = 0
+    extracted = programs.run(case.data, "extract", case.solid)[1]
+    # What was found of each text that was written: several choices may write the same.
+    texts, written = {}, 0
     for choice in (None, *range(1, MOST_REMEDIES + 1)):
         status, text = programs.run(case.data, "mend", case.solid, *([] if choice is None else [choice]))
         if status != DONE:
@@ -110,22 +113,27 @@ def judge_mended(it, case, shells, programs):
             it.counts["mend"], it.mended = 1, text
         elif not written:
             it.counts["mend R"] = 1
+        if text not in texts:
+            texts[text] = list(faults_of(extracted, choice, text, shells, programs))
+            it.faults += [f"mend {choice or ''}: {words}" for words in texts[text]]
         written += 1
-        it.counts["closed"] = it.counts.get("closed", 0) + is_kept(it, case, choice, text, shells, programs)
+        it.counts["closed"] = it.counts.get("closed", 0) + (not texts[text])
     it.counts["written"] = written
 
 
-def is_kept(it, case, choice, text, shells, programs):
-    """Whether all solids of a mended file are closed, and its geometry is that of the file."""
+def faults_of(extracted, choice, text, shells, programs):
+    """A solid of a mended file that isn't closed, and what it changed beyond what may change."""
     status, told = programs.run(text, "certify", "all")
     if status != DONE:
-        it.faults.append(f"mend {choice or ''}: {told.decode('latin-1').strip()}")
-        return False
-    file = File(programs.run(case.data, "extract", case.solid)[1])
+        yield told.decode("latin-1").strip()
+        return
+    file = parsed(extracted)
     solids = [entry.number for entry in file.entries if entry.kind == SOLID]
     if len(solids) == 1:
         seams = [seam for remedy in chosen(shells, (choice or 1) - 1) for seam in remedy.items("sew seams")]
-        false = Kept(file, File(text), solids[0]).found(any(seam[1] == "curve" for seam in seams))
-        it.faults += [f"mend {choice or ''}: {words}" for words in false]
-        return not false
-    return True
+        yield from Kept(file, File(text), solids[0]).found(any(seam[1] == "curve" for seam in seams))
+
+
+@functools.lru_cache(1)
+def parsed(data):
+    return File(data)

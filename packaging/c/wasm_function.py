@@ -257,8 +257,8 @@ class Function:
         what = self.pop()
         if self.carried(depth) is not None:
             self.keep_where(lambda value: not value.is_atom)
-        to = self.jumped(depth, self.carried(depth))
-        self.lines.append(f"if ({what.text}) " + (to[0] if len(to) == 1 else f"{{ {' '.join(to)} }}"))
+        # Without braces gcc -Wall compares the columns of each two lines, which takes it a minute.
+        self.lines.append(f"if ({what.text}) {{ {' '.join(self.jumped(depth, self.carried(depth)))} }}")
 
     def jump_by_table(self, op, *depths):
         what = self.pop()
@@ -308,6 +308,9 @@ class Function:
 
     def set_local(self, op, k):
         value = self.pop()
+        # Some compilers warn of what is set to itself.
+        if value.text == f"l{k}":
+            return
         self.keep_where(lambda it: k in it.locals)
         self.lines.append(f"l{k} = {value.number};")
 

@@ -1,8 +1,12 @@
 """The text of `where FILE N`: its lines are read into rules, items and facts (docs/WHERE.md), and a line of another shape is refused."""
+import re
 from dataclasses import dataclass, field
 from typing import Dict, Generic, Iterable, Iterator, List, Optional, Tuple, TypeVar
 
 from .where_lines import FACTS, HEADS, ITEMS, SENTENCES, UNSAID, NotUnderstood, Shape, read_line
+
+# A line of `mended`: the item of an entity's record that is left out.
+DROPPED = re.compile(r"(?m)^dropped (\d+) item (\d+)\n")
 
 
 @dataclass
@@ -269,7 +273,7 @@ def _parts_of(text: str) -> Parts:
 
 
 class Mended(str):
-    """The text of `mended`: what `mend` changes in a solid, as the remedies that it takes, one for each shell that fails."""
+    """The text of `mended`: what `mend` changes in a solid, as what is left out, and the remedies that it takes, one for each shell that fails."""
 
     _remedies: Optional[List[Hint]] = None
 
@@ -279,10 +283,15 @@ class Mended(str):
         return self.startswith("closed ")
 
     @property
+    def dropped(self) -> List[Tuple[int, int]]:
+        """What is left out, since it names something again: each an entity, and the item of its record."""
+        return [(int(entity), int(item)) for entity, item in DROPPED.findall(self)]
+
+    @property
     def remedies(self) -> List[Hint]:
         if self._remedies is None:
-            found = list(paragraphs(lines_in(self)))
-            if not found or found[0].word not in ("closed", "hint"):
+            found = list(paragraphs(lines_in(DROPPED.sub("", self))))
+            if found and found[0].word not in ("closed", "hint") or not (found or self.dropped):
                 raise NotUnderstood("the text of igesolid-repair mended tells no remedy")
-            self._remedies = _put_all(Parts(found[0]), found).hints
+            self._remedies = _put_all(Parts(found[0]), found).hints if found else []
         return self._remedies

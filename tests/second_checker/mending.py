@@ -7,6 +7,7 @@ from .change_fits import shell_passes
 from .changed_file import changed
 from .extraction import renumbered
 from .geometry import Geometry
+from .naming import NamedOnce
 from .remedies import tried_remedies
 from .remedy_text import put_steps
 from .walking import Fail, walked
@@ -82,20 +83,37 @@ class Mending:
         return used, file
 
 
+def right_file(file, number):
+    """The file in which the solid's records are right, and the places that are left out for it, of those that name something twice."""
+    try:
+        walked(file, number)
+        return file, []
+    except Fail as fail:
+        if fail.rule != "ONCE":
+            raise
+        first = fail
+    once = NamedOnce(file, number)
+    try:
+        walked(once.file, number)
+    except Fail:
+        raise first from None
+    return once.file, once.dropped
+
+
 @functools.lru_cache(maxsize=4)
 def mending_of(file, number):
-    """The extracted file of a solid; and where shells fail, what mends it."""
-    alone, names = renumbered(file, number)
-    # What fails is told of the file that was read.
-    walked(file, number)
+    """The file whose records are right, with the places that are left out; the extracted file; and where shells fail, what mends it."""
+    renumbered(file, number)
+    right, dropped = right_file(file, number)
+    alone, names = renumbered(right, number)
     if is_closed(alone, names[number]):
-        return alone, None
-    return alone, Mending(alone, walked(alone, names[number]))
+        return right, dropped, alone, None
+    return right, dropped, alone, Mending(alone, walked(alone, names[number]))
 
 
 def outcome(file, number, choice):
     """What is written, and the numbers and remedies that were taken for it; Stuck where nothing is written."""
-    alone, mending = mending_of(file, number)
+    _, _, alone, mending = mending_of(file, number)
     if mending is None:
         return alone, []
     used, mended_file = mending.mended(choice)
@@ -129,9 +147,11 @@ def mended(file, number, choice, written):
         status, _ = written(mended_file)
         if status != DONE:
             return status, b""
-        text, solid = Text(LIMIT), walked(file, number)
+        right, dropped, _, _ = mending_of(file, number)
+        text, solid = Text(LIMIT), walked(right, number)
+        text.lines += [f"dropped {entity} item {item}" for entity, item in dropped]
         for rank, remedy in remedies:
-            view = View(file, solid, remedy.change.shell + 1, [])
+            view = View(right, solid, remedy.change.shell + 1, [])
             text.lines.append(f"hint remedy {rank} shell {view.place}")
             put_steps(text, view, remedy.change)
         lines = text.lines or [f"closed {number}"]

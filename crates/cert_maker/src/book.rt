@@ -120,11 +120,7 @@ fn used_with(
 }
 
 // Certifies the solids of a file one after another, and keeps nothing.
-fn certify_in_turn(
-    alloc: Global,
-    file: &File,
-    walker: &mut Walker<'_>,
-) -> Result<(), BookFault>
+fn certify_in_turn(alloc: Global, file: &File, walker: &mut Walker<'_>) -> Result<(), BookFault>
     requires { walker.old ≡ file.now }
     ensures file { walker.new ≡ walker.old }
     ensures fault { IfErr result (IsBookFault file.now) }

@@ -9,8 +9,8 @@ mod law;
 mod making;
 mod naming;
 mod pairs;
-mod shell_part;
 mod sharing;
+mod shell_part;
 
 pub use book::{BookFault, certify_all};
 pub use deciding::verdict;

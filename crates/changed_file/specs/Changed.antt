@@ -16,6 +16,10 @@ use Rattle.changed_file.specs.Emptied.{emptied}
 abbrev pub kept_record : List (Option (List Value)) → ℕ × Record → Record
 kept_record slots p = (p.1.0, unwrap_or (slice_index_or slots p.0 None) p.1.1)
 
+-- the file in which entries have these values, by their places, where there are any
+unfoldable pub with_slots : Contents → List (Option (List Value)) → Contents
+with_slots f slots = record f { entries = map (kept_record slots) (enumerate_from 0 f.entries) }
+
 -- the fields of the entry that a new one is like
 abbrev pub like_record : Option Record → List Value → List Record
 like_record None values = []

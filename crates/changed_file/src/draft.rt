@@ -18,7 +18,7 @@ pub struct NewEntry {
 }
 
 /// New values of entries.
-pub(crate) type Slots = ItemList<Option<Values>>;
+pub type Slots = ItemList<Option<Values>>;
 
 /// What changes make of a file's records.
 #[derive(Drop)]
@@ -35,7 +35,8 @@ pub struct Draft {
     pub loops: ItemList<i64>,
 }
 
-fn blank_slots(alloc: Global, count: usize) -> Result<Slots, NoMemory>
+/// No new values for so many entries.
+pub fn blank_slots(alloc: Global, count: usize) -> Result<Slots, NoMemory>
     ensures { IfOk result (λ slots. slots ≡ replicate count None) }
 {
     let mut slots = ItemList::with_room(alloc, count)?;
@@ -70,7 +71,7 @@ pub(crate) fn next_number(file: &File, added: &ItemList<NewEntry>) -> Result<u32
 }
 
 /// Gives an entry these values.
-pub(crate) fn put_values(slots: &mut Slots, no: EntryNo, values: Values) -> Result<(), ChangeFault>
+pub fn put_values(slots: &mut Slots, no: EntryNo, values: Values) -> Result<(), ChangeFault>
     ensures { OnOk result (slots.new ≡ with_values slots.old no.0 values) }
 {
     let place = (no.0 / 2) as usize;

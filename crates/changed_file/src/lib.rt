@@ -15,4 +15,6 @@ mod new_entries;
 mod rewriting;
 
 pub use changed_records::ChangeFault;
+pub use draft::{Slots, blank_slots, put_values};
 pub use making::changed;
+pub use rewriting::with_slots;

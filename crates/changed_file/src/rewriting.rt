@@ -1,6 +1,6 @@
 //! The file with new values and new entries.
 
-ghost use Rattle.changed_file.specs.Changed.{kept_record, new_record, rewritten};
+ghost use Rattle.changed_file.specs.Changed.{kept_record, new_record, rewritten, with_slots};
 ghost use Rattle.iges_directory.specs.Bounds.{IsBounded};
 ghost use Rattle.iges_params.specs.Contents.{value_count};
 ghost use Rattle.std.specs.List.{enumerate_from};
@@ -103,6 +103,17 @@ fn put_old(
         count = push_within(new, count, entry, values)?;
     }
     Ok(count)
+}
+
+/// The file in which entries have these values, by their places, where there are any. It is refused where the file would have too
+/// many values.
+#[tactic(auto, unfolding(crate::specs::Changed::with_slots))]
+pub fn with_slots(alloc: Global, file: &File, slots: &[Option<Values>]) -> Result<File, ChangeFault>
+    ensures { IfOk result (λ new. new ≡ with_slots file.now slots.now) }
+{
+    let mut new = begun(alloc, file)?;
+    put_old(alloc, &mut new, file, slots)?;
+    Ok(new)
 }
 
 fn put_new(

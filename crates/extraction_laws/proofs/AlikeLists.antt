@@ -5,11 +5,7 @@ use Rattle.std.proofs.Common.{refl, sym, subst, inl, inr}
 use Rattle.solid_data.specs.Obligations.{Obligation, AllHold, FirstFalse, of_each}
 use Rattle.solid_data.specs.declared.verdict.Failing.{Failing}
 use Rattle.solid_data.proofs.Members.{Has}
-use Rattle.extraction_laws.specs.Alike.{FailAlike}
-
--- what is said of one obligation and of another
-abbrev pub OneAlike : (Failing → Failing → Type 0) → Obligation → Obligation → Type 0
-OneAlike Q p q = Q p.failing q.failing × (p.holds ↔ q.holds)
+use Rattle.extraction_laws.specs.Alike.{AllAlike, FailAlike, OneAlike}
 
 -- All of the one list hold exactly where all of the other do, and else Q relates the first false ones.
 pub record HaveOneVerdict (Q : Failing → Failing → Type 0) (ps qs : List Obligation) : Type 0 where
@@ -58,22 +54,36 @@ append_alike Q [] ms (q ∷ qs) ns h f = absurd h
 append_alike Q (p ∷ ps) ms [] ns h f = absurd h
 append_alike Q (p ∷ ps) ms (q ∷ qs) ns h f = (h.0, h.1, λ here. append_alike Q ps ms qs ns (h.2 here) (λ all. f (here, all)))
 
+-- alike item by item
+pub fails_alike : (Q : Failing → Failing → Type 0) (ps qs : List Obligation) → AllAlike Q ps qs → FailAlike Q ps qs
+fails_alike Q [] [] z = tt
+fails_alike Q [] (q ∷ qs) z = absurd z
+fails_alike Q (p ∷ ps) [] z = absurd z
+fails_alike Q (p ∷ ps) (q ∷ qs) z = (z.0.0, z.0.1, λ here. fails_alike Q ps qs z.1)
+
+pub append_all : (Q : Failing → Failing → Type 0) (ps ms qs ns : List Obligation) → AllAlike Q ps qs → AllAlike Q ms ns → AllAlike Q (ps ++ ms) (qs ++ ns)
+append_all Q [] ms [] ns z w = w
+append_all Q [] ms (q ∷ qs) ns z w = absurd z
+append_all Q (p ∷ ps) ms [] ns z w = absurd z
+append_all Q (p ∷ ps) ms (q ∷ qs) ns z w = (z.0, append_all Q ps ms qs ns z.1 w)
+
 pub map_alike : {A B : Type 0} (Q : Failing → Failing → Type 0) (Z : A → B → Type 0) (f : A → Obligation) (g : B → Obligation) (xs : List A) (ys : List B)
-    → AllZip Z xs ys → ((x : A) (y : B) → Z x y → OneAlike Q (f x) (g y)) → FailAlike Q (map f xs) (map g ys)
+    → AllZip Z xs ys → ((x : A) (y : B) → Z x y → OneAlike Q (f x) (g y)) → AllAlike Q (map f xs) (map g ys)
 map_alike Q Z f g [] [] z h = tt
 map_alike Q Z f g [] (y ∷ ys) z h = absurd z
 map_alike Q Z f g (x ∷ xs) [] z h = absurd z
-map_alike Q Z f g (x ∷ xs) (y ∷ ys) z h = let k = h x y z.0 in (k.0, k.1, λ here. map_alike Q Z f g xs ys z.1 h)
+map_alike Q Z f g (x ∷ xs) (y ∷ ys) z h = (h x y z.0, map_alike Q Z f g xs ys z.1 h)
 
 -- the obligations of one list, by two readings
 pub map_same_alike : {A : Type 0} (Q : Failing → Failing → Type 0) (f g : A → Obligation) (xs : List A) → ((x : A) → Has xs x → OneAlike Q (f x) (g x))
-    → FailAlike Q (map f xs) (map g xs)
+    → AllAlike Q (map f xs) (map g xs)
 map_same_alike Q f g [] h = tt
-map_same_alike Q f g (x ∷ xs) h = let k = h x (inl refl) in (k.0, k.1, λ here. map_same_alike Q f g xs (λ y m. h y (inr m)))
+map_same_alike Q f g (x ∷ xs) h = (h x (inl refl), map_same_alike Q f g xs (λ y m. h y (inr m)))
 
 pub of_each_alike : {A B : Type 0} (Q : Failing → Failing → Type 0) (Z : A → B → Type 0) (f : A → List Obligation) (g : B → List Obligation) (xs : List A)
-    (ys : List B) → AllZip Z xs ys → ((x : A) (y : B) → Z x y → FailAlike Q (f x) (g y)) → FailAlike Q (of_each f xs) (of_each g ys)
+    (ys : List B) → AllZip Z xs ys → ((x : A) (y : B) → Z x y → AllAlike Q (f x) (g y)) → AllAlike Q (of_each f xs) (of_each g ys)
 of_each_alike Q Z f g [] [] z h = tt
 of_each_alike Q Z f g [] (y ∷ ys) z h = absurd z
 of_each_alike Q Z f g (x ∷ xs) [] z h = absurd z
-of_each_alike Q Z f g (x ∷ xs) (y ∷ ys) z h = append_alike Q (f x) (of_each f xs) (g y) (of_each g ys) (h x y z.0) (λ all. of_each_alike Q Z f g xs ys z.1 h)
+of_each_alike Q Z f g (x ∷ xs) (y ∷ ys) z h =
+    append_all Q (f x) (of_each f xs) (g y) (of_each g ys) (h x y z.0) (of_each_alike Q Z f g xs ys z.1 h)

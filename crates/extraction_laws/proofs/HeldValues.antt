@@ -17,6 +17,7 @@ use Rattle.brep_lists.specs.Record.{groups, edge_read, tuples_read}
 use Rattle.brep_lists.specs.declared.entity_kind.EntityKind.TheVariants.{Loop as «loop», EdgeList as edges, VertexList as vertices}
 use Rattle.brep_lists.specs.OwnValues.{own_count}
 use Rattle.brep_lists.specs.declared.edge_list.EdgeTuple.{EdgeTuple}
+use Rattle.brep_lists.proofs.Stride.{length_groups, vertex_read}
 use Rattle.entry_references.specs.Refs.{Record}
 use Rattle.solid_data.specs.Obligations.{entry_number}
 use Rattle.solid_data.proofs.Members.{All-at, All-from, all_append, all_flat_map}
@@ -74,10 +75,6 @@ integer_at vs i h = integer_in (value_or_default vs i) (value_read vs i h)
 natural_fits : (z : ℤ) → IsInteger z → IsInteger (pos (natural z))
 natural_fits (pos n) h = h
 natural_fits (negsuc n) h = refl
-
-groups_length : (size n : ℕ) (vs : List Value) → length (groups size n vs) ≡ n
-groups_length size zero vs = refl
-groups_length size (suc n) vs = let on : length (groups size n (drop size vs)) ≡ n = groups_length size n (drop size vs) in omega (arith, on)
 
 -- ---- loops: only indices change
 
@@ -182,9 +179,6 @@ edges_held : (n : ℕ) (vs : List Value) → AreValues vs → AllByRecursion Edg
 edges_held zero vs h = tt
 edges_held (suc n) vs h = (edge_fits (take 5 vs) (list_all-take is_value 5 vs h), edges_held n (drop 5 vs) (list_all-drop is_value 5 vs h))
 
-abbrev vertex_read : List Value → Value × Value × Value
-vertex_read vs = (value_or_default vs 0, value_or_default vs 1, value_or_default vs 2)
-
 vertices_held : (n : ℕ) (vs : List Value) → AreValues vs → AllByRecursion VertexFits (map vertex_read (groups 3 n vs))
 vertices_held zero vs h = tt
 vertices_held (suc n) vs h =
@@ -229,7 +223,7 @@ module _ (g : Contents) where
         length-map (used_from (is_used_edge g e) 1 (items_of edges vs)) (reindexed_edge g),
         used_few (is_used_edge g e) 1 (items_of edges vs),
         length-map (groups 5 (count_at vs 0) (drop 1 vs)) edge_read,
-        groups_length 5 (count_at vs 0) (drop 1 vs),
+        length_groups 5 (count_at vs 0) (drop 1 vs),
       ) in
       list_held (kept_edges g e vs) (due edges (kept_edges g e vs)) (own_count edges vs) vs (
         count_fits vs (length (kept_edges g e vs)) few h,
@@ -244,7 +238,7 @@ module _ (g : Contents) where
         arith,
         used_few (is_used_vertex g v) 1 (items_of vertices vs),
         length-map (groups 3 (count_at vs 0) (drop 1 vs)) vertex_read,
-        groups_length 3
+        length_groups 3
             (count_at vs 0) (drop 1 vs),
       ) in
       list_held (kept_vertices g v vs) (due vertices (kept_vertices g v vs)) (own_count vertices vs) vs (

@@ -22,9 +22,10 @@ use Rattle.brep_walk.specs.Places.{told, shells, faces, loops, tuples, numbers, 
 use Rattle.brep_walk.specs.Places.{item_places, edge_places, used_places, tuple_at, tuple_places, loop_at, loop_places, face_at, face_places, shell_at}
 use Rattle.brep_walk.specs.Places.{shell_places, places}
 use Rattle.solid_extract.specs.Kept.{renamed_pair, renamed_curve, renamed_tuple, renamed_edge}
-use Rattle.extraction_laws.specs.Alike.{FailAlike}
+use Rattle.list_compact.proofs.StillHold.{numbers_all}
+use Rattle.extraction_laws.specs.Alike.{FailAlike, OneAlike}
 use Rattle.extraction_laws.specs.Relabelled.{renumbered, AreNamedAlike}
-use Rattle.extraction_laws.proofs.AlikeLists.{OneAlike, append_alike}
+use Rattle.extraction_laws.proofs.AlikeLists.{append_alike}
 use Rattle.extraction_laws.proofs.Renames.{IsEntity, IsPointer, IsNew, Renames, names_same, kind_same, geometry_same, is_entity, tells, number_new}
 use Rattle.extraction_laws.proofs.Renames.{pointers_apart}
 use Rattle.extraction_laws.proofs.RenamedPlaces.{renumbered_named}
@@ -97,10 +98,6 @@ flat_known Known change F G rename same (x ∷ xs) known =
 pub numbers_renamed : (g : ℤ → ℤ) (items : List (ℤ × Bool)) → numbers (map (renamed_pair g) items) ≡ map g (numbers items)
 numbers_renamed g [] = refl
 numbers_renamed g (i ∷ items) = ap (λ zs. g i.0 ∷ zs) (numbers_renamed g items)
-
-pub numbers_all : (P : ℤ → Type 0) (items : List (ℤ × Bool)) → AllByRecursion (λ (i : ℤ × Bool). P i.0) items → AllByRecursion P (numbers items)
-numbers_all P [] h = tt
-numbers_all P (i ∷ items) h = (h.0, numbers_all P items h.1)
 
 module _ (f q : Contents) (K : ℕ → Type 0) (new : ℕ → ℕ) (g : ℤ → ℤ) (h : Renames f q K new g) where
   -- ---- what entities tell in both files

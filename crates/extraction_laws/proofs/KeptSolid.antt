@@ -17,11 +17,12 @@ use Rattle.brep_numbering.specs.Keys.{Keys}
 use Rattle.brep_walk.specs.SolidOf.{edge_key, vertex_key, all_tuples, edge_named, ends_named, vertices_named, edge_keys, vertex_keys, use_by, loop_by, face_by}
 use Rattle.brep_walk.specs.SolidOf.{shell_by, numbered_by, edge_by, keys_of, solid_of}
 use Rattle.solid_extract.specs.Kept.{renamed_pair, renamed_tuple, renamed_edge}
+use Rattle.list_compact.proofs.StillHold.{numbers_all}
 use Rattle.extraction_laws.specs.Relabelled.{Names, renumbered, IsRelabelledLoop, IsRelabelledFace, IsRelabelledShell, IsRelabelledEdge, IsRelabelled}
 use Rattle.extraction_laws.proofs.Zips.{zip_append}
 use Rattle.extraction_laws.proofs.Renames.{IsEntity, IsNew, Renames, number_new, becomes_entity}
 use Rattle.extraction_laws.proofs.RenamedLists.{all_distinct, distinct_renamed, place_renamed, same_number, map_known, zip_known}
-use Rattle.extraction_laws.proofs.KeptPlaces.{KnownUse, KnownTuple, KnownLoop, KnownFace, KnownShell, KnownSolid, flat_known, numbers_all, numbers_renamed}
+use Rattle.extraction_laws.proofs.KeptPlaces.{KnownUse, KnownTuple, KnownLoop, KnownFace, KnownShell, KnownSolid, flat_known, numbers_renamed}
 use Rattle.extraction_laws.proofs.KeptPlaces.{tuples_new, loops_new, faces_new, shells_new, edge_new, loops_known, faces_known, all_faces_known, solid_known}
 
 -- keys under new numbers

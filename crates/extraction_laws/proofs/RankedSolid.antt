@@ -14,6 +14,7 @@ use Rattle.solid_data.specs.declared.solid.EdgeKey.{EdgeKey}
 use Rattle.solid_data.specs.declared.solid.VertexKey.{VertexKey}
 use Rattle.solid_data.specs.declared.solid.LoopUse.TheVariants.{EdgeUse, VertexUse}
 use Rattle.solid_data.proofs.Members.{All-at, all_flat_map}
+use Rattle.solid_data.proofs.ObligationLemmas.{AllByRecursion-weaker}
 use Rattle.entry_references.proofs.Marks.{same_test}
 use Rattle.brep_walk.specs.Places.{shells, faces, loops, tuples, edge_at, numbers}
 use Rattle.brep_numbering.specs.Keys.{Keys}
@@ -46,10 +47,6 @@ zip_each : {A C D : Type 0} (Known : A → Type 0) (Q : C → D → Type 0) (u :
     → AllByRecursion Known xs → AllZip Q (map u xs) (map v xs)
 zip_each Known Q u v same [] all = tt
 zip_each Known Q u v same (x ∷ xs) all = (same x all.0, zip_each Known Q u v same xs all.1)
-
-all_weaker : {A : Type 0} (P Q : A → Type 0) (xs : List A) → ((x : A) → P x → Q x) → AllByRecursion P xs → AllByRecursion Q xs
-all_weaker P Q [] f all = tt
-all_weaker P Q (x ∷ xs) f all = (f x all.0, all_weaker P Q xs f all.1)
 
 -- ---- what the records tell, by keys
 
@@ -201,10 +198,10 @@ module _ (g : Contents) where
         ap (λ is. flat_map (tuples d) (flat_map (loops d) (flat_map (λ s. numbers (faces d s)) (numbers is)))) known.same
         ∙ (ap (λ zs. flat_map (tuples d) (flat_map (loops d) zs))
         (flat_same (λ s. numbers (faces g s)) (λ s. numbers (faces d s)) (numbers (shells g n))
-        (all_weaker (SameShell g) (λ s. numbers (faces d s) ≡ numbers (faces g s)) (numbers (shells g n)) (λ s k. ap numbers k.same) shells_all))
+        (AllByRecursion-weaker (SameShell g) (λ s. numbers (faces d s) ≡ numbers (faces g s)) (numbers (shells g n)) (λ s k. ap numbers k.same) shells_all))
         ∙ (ap (λ zs. flat_map (tuples d) zs)
         (flat_same (loops g) (loops d) (flat_map (λ s. numbers (faces g s)) (numbers (shells g n)))
-        (all_weaker (SameFace g) (λ c. loops d c ≡ loops g c) (flat_map (λ s. numbers (faces g s)) (numbers (shells g n))) (λ c k. k.same) faces_all))
+        (AllByRecursion-weaker (SameFace g) (λ c. loops d c ≡ loops g c) (flat_map (λ s. numbers (faces g s)) (numbers (shells g n))) (λ c k. k.same) faces_all))
         ∙ flat_renamed (SameLoop g) (tuples g) (tuples d) (reindexed_tuple g) (λ l k. k.same)
         (flat_map (loops g) (flat_map (λ s. numbers (faces g s)) (numbers (shells g n)))) loops_all))
 

@@ -29,10 +29,10 @@ use Rattle.edge_uses.specs.Around.{IsReached, IsLinked}
 use Rattle.shell_rules.specs.ShellObligations.{at_edge, at_vertex, pair_obligations, reach_obligations}
 use Rattle.shell_rules.specs.ShellObligations.{link_obligations, apart_obligations, shell_obligations, solid_obligations}
 use Rattle.solid_extract.proofs.Copies.{zip_length}
-use Rattle.extraction_laws.specs.Alike.{FailAlike}
+use Rattle.extraction_laws.specs.Alike.{AllAlike, FailAlike, OneAlike}
 use Rattle.extraction_laws.specs.Relabelled.{Names, IsRelabelledLoop, IsRelabelledFace, IsRelabelledShell, IsRelabelledEdge, IsRelabelled, AreNamed}
 use Rattle.extraction_laws.specs.Relabelled.{AreNamedAlike}
-use Rattle.extraction_laws.proofs.AlikeLists.{OneAlike, append_alike, map_alike, map_same_alike, of_each_alike}
+use Rattle.extraction_laws.proofs.AlikeLists.{append_all, fails_alike, map_alike, map_same_alike, of_each_alike}
 use Rattle.extraction_laws.proofs.Zips.{OptionZip, zip_get, zip_map, zip_flat_map, Numbered, zip_enumerate, zip_take, zip_same}
 
 -- ---- lists of numbers
@@ -125,9 +125,9 @@ module _ (N : Names) (s t : SolidData) (h : IsRelabelled N s t) where
       at (EdgeUse edge along) = of_edge (slice_get s.edges edge.0) (slice_get t.edges edge.0) (edge_zip edge.0)
       at (VertexUse vertex) = refl
 
-  loop_alike : (l m : Loop) → IsRelabelledLoop N l m → FailAlike (AreNamedAlike N) (loop_obligations s l) (loop_obligations t m)
+  loop_alike : (l m : Loop) → IsRelabelledLoop N l m → AllAlike (AreNamedAlike N) (loop_obligations s l) (loop_obligations t m)
   loop_alike l m k =
-      subst (λ us. FailAlike (AreNamedAlike N) (loop_obligations s l) (map (λ (u : ℕ × ℕ × ℕ). obligation Unjoined m.entity.0 u.0 (u.1 ≡ u.2)) us)) same
+      subst (λ us. AllAlike (AreNamedAlike N) (loop_obligations s l) (map (λ (u : ℕ × ℕ × ℕ). obligation Unjoined m.entity.0 u.0 (u.1 ≡ u.2)) us)) same
       (map_same_alike (AreNamedAlike N) (λ (u : ℕ × ℕ × ℕ). obligation Unjoined l.entity.0 u.0 (u.1 ≡ u.2))
       (λ (u : ℕ × ℕ × ℕ). obligation Unjoined m.entity.0 u.0 (u.1 ≡ u.2))
       (steps s l.uses) (λ u there. (record { rule = refl; named = (k.entity, refl) }, (λ e. e, λ e. e))))
@@ -241,20 +241,20 @@ module _ (N : Names) (s t : SolidData) (h : IsRelabelled N s t) where
   unfolding shell_rows
   vertex_there a v m = occurring_there s.vertices (shell_vertices s a) v m
 
-  join_alike : (a b : Shell) → IsRelabelledShell N a b → FailAlike (AreNamedAlike N) (join_obligations s a) (join_obligations t b)
+  join_alike : (a b : Shell) → IsRelabelledShell N a b → AllAlike (AreNamedAlike N) (join_obligations s a) (join_obligations t b)
   join_alike a b k =
       of_each_alike (AreNamedAlike N) (IsRelabelledPlaced N) (λ (p : PlacedLoop). loop_obligations s p.loop) (λ (p : PlacedLoop). loop_obligations t p.loop)
       (placed_loops a) (placed_loops b) (placed N a b k)
       (λ p q m. loop_alike p.loop q.loop m.loop)
 
-  pair_alike : (a : Shell) → FailAlike (AreNamedAlike N) (pair_obligations s (shell_rows s a)) (pair_obligations t (shell_rows s a))
+  pair_alike : (a : Shell) → AllAlike (AreNamedAlike N) (pair_obligations s (shell_rows s a)) (pair_obligations t (shell_rows s a))
   pair_alike a =
       map_same_alike (AreNamedAlike N) (λ e. at_edge Unpaired (edge_name (slice_get s.edges e)) (IsPaired (shell_rows s a) e))
       (λ e. at_edge Unpaired (edge_name (slice_get t.edges e)) (IsPaired (shell_rows s a) e)) (shell_rows s a).edges
       (λ e m. let x = edge_there a e m in edge_alike (IsPaired (shell_rows s a) e) (slice_get s.edges e) x.0 x.1 (slice_get t.edges e) (edge_zip e))
 
   reach_alike : (a b : Shell) → IsRelabelledShell N a b
-      → FailAlike (AreNamedAlike N) (reach_obligations a (shell_rows s a)) (reach_obligations b (shell_rows s a))
+      → AllAlike (AreNamedAlike N) (reach_obligations a (shell_rows s a)) (reach_obligations b (shell_rows s a))
   reach_alike a b k =
       map_alike (AreNamedAlike N) (Numbered (IsRelabelledFace N)) (λ (f : ℕ × FaceUse). obligation Unreached f.1.entity.0 0 (IsReached (shell_rows s a) f.0))
       (λ (f : ℕ × FaceUse). obligation Unreached f.1.entity.0 0 (IsReached (shell_rows s a) f.0))
@@ -264,7 +264,7 @@ module _ (N : Names) (s t : SolidData) (h : IsRelabelled N s t) where
         (λ c. subst (IsReached (shell_rows s a)) m.0 c, λ c. subst (IsReached (shell_rows s a)) (sym m.0) c),
       ))
 
-  link_alike : (a : Shell) → FailAlike (AreNamedAlike N) (link_obligations s (shell_rows s a)) (link_obligations t (shell_rows s a))
+  link_alike : (a : Shell) → AllAlike (AreNamedAlike N) (link_obligations s (shell_rows s a)) (link_obligations t (shell_rows s a))
   link_alike a =
       map_same_alike (AreNamedAlike N) (λ v. at_vertex Unlinked (vertex_name (slice_get s.vertices v)) (IsLinked (shell_rows s a) v))
       (λ v. at_vertex Unlinked (vertex_name (slice_get t.vertices v)) (IsLinked (shell_rows s a) v)) (shell_rows s a).vertices
@@ -281,38 +281,41 @@ module _ (N : Names) (s t : SolidData) (h : IsRelabelled N s t) where
     λ apart there. apart (subst (λ vs. Contains vs v) (before_same i ∙ ap (λ n. flat_map (shell_vertices t) (take n t.shells)) e) there),
   )
 
-  apart_alike : (i j : ℕ) → i ≡ j → (a : Shell) → FailAlike (AreNamedAlike N) (apart_obligations s i (shell_rows s a)) (apart_obligations t j (shell_rows s a))
+  apart_alike : (i j : ℕ) → i ≡ j → (a : Shell) → AllAlike (AreNamedAlike N) (apart_obligations s i (shell_rows s a)) (apart_obligations t j (shell_rows s a))
   apart_alike i j e a =
       map_same_alike (AreNamedAlike N) (λ v. at_vertex Shared (vertex_name (slice_get s.vertices v)) (IsApart s i v))
       (λ v. at_vertex Shared (vertex_name (slice_get t.vertices v)) (IsApart t j v)) (shell_rows s a).vertices
       (λ v m. let x = vertex_there a v m in vertex_alike Shared (λ a b h. h) (IsApart s i v) (IsApart t j v) (apart_same i j e v) (slice_get s.vertices v) x.0
       x.1 (slice_get t.vertices v) (vertex_zip v))
 
-  shell_alike : (x y : ℕ × Shell) → Numbered (IsRelabelledShell N) x y → FailAlike (AreNamedAlike N) (shell_obligations s x) (shell_obligations t y)
+  shell_alike : (x y : ℕ × Shell) → Numbered (IsRelabelledShell N) x y → AllAlike (AreNamedAlike N) (shell_obligations s x) (shell_obligations t y)
   unfolding shell_obligations
   shell_alike x y k =
-      subst (λ d. FailAlike (AreNamedAlike N) (shell_obligations s x)
+      subst (λ d. AllAlike (AreNamedAlike N) (shell_obligations s x)
       (join_obligations t y.1 ++ pair_obligations t d ++ reach_obligations y.1 d ++ link_obligations t d ++ apart_obligations t y.0 d))
       (shell_rows_same x.1 y.1 k.1)
-      (append_alike (AreNamedAlike N) (join_obligations s x.1 ++ pair_obligations s d ++ reach_obligations x.1 d ++ link_obligations s d)
+      (append_all (AreNamedAlike N) (join_obligations s x.1 ++ pair_obligations s d ++ reach_obligations x.1 d ++ link_obligations s d)
       (apart_obligations s x.0 d) (join_obligations t y.1 ++ pair_obligations t d ++ reach_obligations y.1 d ++ link_obligations t d)
       (apart_obligations t y.0 d)
-      (append_alike (AreNamedAlike N) (join_obligations s x.1 ++ pair_obligations s d ++ reach_obligations x.1 d) (link_obligations s d)
+      (append_all (AreNamedAlike N) (join_obligations s x.1 ++ pair_obligations s d ++ reach_obligations x.1 d) (link_obligations s d)
       (join_obligations t y.1 ++ pair_obligations t d ++ reach_obligations y.1 d) (link_obligations t d)
-      (append_alike (AreNamedAlike N) (join_obligations s x.1 ++ pair_obligations s d) (reach_obligations x.1 d)
+      (append_all (AreNamedAlike N) (join_obligations s x.1 ++ pair_obligations s d) (reach_obligations x.1 d)
       (join_obligations t y.1 ++ pair_obligations t d) (reach_obligations y.1 d)
-      (append_alike (AreNamedAlike N) (join_obligations s x.1) (pair_obligations s d) (join_obligations t y.1) (pair_obligations t d) (join_alike x.1 y.1 k.1)
-      (λ all. pair_alike x.1))
-      (λ all. reach_alike x.1 y.1 k.1))
-      (λ all. link_alike x.1))
-      (λ all. apart_alike x.0 y.0 k.0 x.1))
+      (append_all (AreNamedAlike N) (join_obligations s x.1) (pair_obligations s d) (join_obligations t y.1) (pair_obligations t d) (join_alike x.1 y.1 k.1)
+      (pair_alike x.1))
+      (reach_alike x.1 y.1 k.1))
+      (link_alike x.1))
+      (apart_alike x.0 y.0 k.0 x.1))
     where
       d : ShellRows
       d = shell_rows s x.1
 
-pub solids_alike : (N : Names) (s t : SolidData) → IsRelabelled N s t → FailAlike (AreNamedAlike N) (solid_obligations s) (solid_obligations t)
+pub solids_all_alike : (N : Names) (s t : SolidData) → IsRelabelled N s t → AllAlike (AreNamedAlike N) (solid_obligations s) (solid_obligations t)
 unfolding solid_obligations
-solids_alike N s t h =
+solids_all_alike N s t h =
     of_each_alike (AreNamedAlike N) (Numbered (IsRelabelledShell N)) (shell_obligations s) (shell_obligations t) (enumerate_from 0 s.shells)
     (enumerate_from 0 t.shells)
     (zip_enumerate (IsRelabelledShell N) 0 s.shells t.shells h.shells) (shell_alike N s t h)
+
+pub solids_alike : (N : Names) (s t : SolidData) → IsRelabelled N s t → FailAlike (AreNamedAlike N) (solid_obligations s) (solid_obligations t)
+solids_alike N s t h = fails_alike (AreNamedAlike N) (solid_obligations s) (solid_obligations t) (solids_all_alike N s t h)

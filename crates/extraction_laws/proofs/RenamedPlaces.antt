@@ -14,7 +14,7 @@ use Rattle.extraction_laws.specs.Relabelled.{renumbered, AreNamed, AreNamedAlike
 use Rattle.extraction_laws.specs.Renamed.{Renaming, new_names, renamed_place, under_new_name, RenamedFailAlike, RenamedKeepsVerdict, IsOneToOne}
 use Rattle.extraction_laws.specs.Renamed.{RenamedTellsPlace}
 use Rattle.extraction_laws.proofs.AlikeLists.{HaveOneVerdict, one_verdict}
-use Rattle.extraction_laws.proofs.RelabelledSolids.{solids_alike}
+use Rattle.extraction_laws.proofs.RelabelledSolids.{solids_alike, solids_all_alike}
 
 pub failing_is : (x y : Failing) → x.rule ≡ y.rule → x.entity.0 ≡ y.entity.0 → x.place ≡ y.place → x ≡ y
 failing_is x y r e p =
@@ -130,7 +130,7 @@ module _ (r : Renaming) where
 -- ---- the laws
 
 pub renamed_alike : RenamedFailAlike
-renamed_alike r s t h = solids_alike (new_names r) s t h
+renamed_alike r s t h = solids_all_alike (new_names r) s t h
 
 pub renamed_verdict : RenamedKeepsVerdict
 renamed_verdict r s t h = keeps_as (AreNamedAlike (new_names r)) (under_new_name r) (is_renamed r) (solid_obligations s) (solid_obligations t)

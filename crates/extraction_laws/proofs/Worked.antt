@@ -9,7 +9,7 @@ use Rattle.solid_data.specs.declared.verdict.Failing.{Failing}
 use Rattle.solid_data.specs.declared.verdict.Rule.{Rule}
 use Rattle.solid_data.specs.declared.verdict.Rule.TheVariants.{Twice, Unjoined, Unpaired, Unlinked}
 use Rattle.solid_data.specs.declared.verdict.Verdict.TheVariants.{Fails}
-use Rattle.extraction_laws.specs.Alike.{FailAlike}
+use Rattle.extraction_laws.specs.Alike.{AllAlike, FailAlike}
 use Rattle.extraction_laws.specs.Relabelled.{Names, IsRelabelled, AreNamedAlike}
 use Rattle.extraction_laws.specs.Renamed.{Renaming, new_names, under_new_name}
 use Rattle.extraction_laws.specs.KeptVerdict.{renamed_verdict}
@@ -39,6 +39,11 @@ other_place h = let place : ℕ = 1 in let e : place ≡ 2 = ap (λ (k : EdgeKey
 behind_false : FailAlike (AreNamedAlike same) (obligation Unpaired 7 1 ⊥ ∷ obligation Unlinked 5 1 ⊤ ∷ []) (obligation Unpaired 7 1 ⊥ ∷ [])
 unfolding same
 behind_false = (record { rule = refl; named = refl }, (λ h. h, λ h. h), λ h. absurd h)
+
+-- but where all are, it is
+behind_too : AllAlike (AreNamedAlike same) (obligation Unpaired 7 1 ⊥ ∷ obligation Unlinked 5 1 ⊤ ∷ []) (obligation Unpaired 7 1 ⊥ ∷ obligation Unlinked 5 1 ⊥ ∷ [])
+    → ⊥
+behind_too h = h.1.0.1.0 tt
 
 -- a ball of one face whose loop is one vertex
 ball : ℕ → ℕ → ℕ → ℕ → ℕ → ℕ → SolidData

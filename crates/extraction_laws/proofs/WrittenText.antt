@@ -51,7 +51,7 @@ extracted_is_writable f new n w x =
     }
 
 -- a file of a text is the only one
-only_file : (text : List ℕ) (f : Contents) → IsFile text f → IsOnly (IsFile text) f
+pub only_file : (text : List ℕ) (f : Contents) → IsFile text f → IsOnly (IsFile text) f
 only_file text f is = by_reading (one_reading text)
   where
     by_reading : HasOneReading text → IsOnly (IsFile text) f

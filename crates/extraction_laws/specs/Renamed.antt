@@ -8,7 +8,7 @@ use Rattle.solid_data.specs.declared.verdict.Failing.{Failing}
 use Rattle.solid_data.specs.declared.verdict.Rule.{Rule}
 use Rattle.solid_data.specs.declared.verdict.Rule.TheVariants.{Unpaired, Unlinked, Shared}
 use Rattle.shell_rules.specs.ShellObligations.{solid_obligations}
-use Rattle.extraction_laws.specs.Alike.{FailAlike, KeepsVerdictAs}
+use Rattle.extraction_laws.specs.Alike.{AllAlike, KeepsVerdictAs}
 use Rattle.extraction_laws.specs.Relabelled.{Names, IsRelabelled, AreNamedAlike}
 
 -- a new number for each entity, and a new list and index for each edge and vertex
@@ -21,10 +21,10 @@ pub record Renaming : Type 0 where
 abbrev pub new_names : Renaming → Names
 new_names r = record { entity = λ a b. b ≡ r.entity a; edge = λ a b. b ≡ r.edge a; vertex = λ a b. b ≡ r.vertex a }
 
--- They fail alike item by item.
+-- Item by item their obligations are false at the same loops, edges, faces and vertices.
 abbrev pub RenamedFailAlike : Type 0
 RenamedFailAlike = (r : Renaming) (s t : SolidData) → IsRelabelled (new_names r) s t
-    → FailAlike (AreNamedAlike (new_names r)) (solid_obligations s) (solid_obligations t)
+    → AllAlike (AreNamedAlike (new_names r)) (solid_obligations s) (solid_obligations t)
 
 -- what the rule names at this place of this entity, an edge, a vertex or the place itself, under its new name
 abbrev pub renamed_place : Renaming → Rule → ℕ → ℕ → ℕ × ℕ

@@ -1,12 +1,11 @@
 -- Of each shell there is something to find: its parts and its fans can be told.
 use Rattle.std.specs.Prelude.{◌≡◌, ◌<◌, ℕ, zero, suc, List, [], ◌∷◌, length, map, Option, Some, None, slice_get}
 use Rattle.std.specs.List.{AllByRecursion}
-use Rattle.std.proofs.Common.{refl, sym, ap, subst, arith, inl, inr}
+use Rattle.std.proofs.Common.{refl, sym, subst, arith, inl, inr}
 use Rattle.std.proofs.lemmas.Option.{slice_get_within}
 use Rattle.solid_data.specs.Chain.{Steps, LeadsTo}
 use Rattle.solid_data.specs.Numbering.{IsNumberedSolid}
 use Rattle.solid_data.specs.SolidData.{SolidData}
-use Rattle.solid_data.specs.declared.solid.EdgeId.{EdgeId}
 use Rattle.solid_data.specs.declared.solid.Shell.{Shell}
 use Rattle.solid_data.proofs.ChainsDecided.{leads_decided}
 use Rattle.solid_data.proofs.Decisions.{Decided, decided_alike, decided_below, decided_bounded, decided_found, decided_same, decided_three}
@@ -20,6 +19,7 @@ use Rattle.edge_uses.specs.declared.row.Row.{Row}
 use Rattle.edge_uses.proofs.Made.{rows_whole}
 use Rattle.edge_uses.proofs.Turns.{mates_involute, turns_permute}
 use Rattle.shell_rules.specs.ShellObligations.{pair_obligations}
+use Rattle.shell_rules.proofs.Decided.{edge_id_decided}
 use Rattle.solid_faults.specs.declared.edge.Unpaired.{Unpaired}
 use Rattle.solid_faults.specs.declared.gap.Gap.{Gap}
 use Rattle.solid_faults.specs.Edges.{shared_of, unpaired_failing, unpaired_of}
@@ -38,12 +38,6 @@ use Rattle.fault_laws.proofs.Leasts.{leasts_of}
 
 -- ---- parts
 
-edge_decided : (a b : EdgeId) → Decided (a ≡ b)
-edge_decided a b = decided_alike (λ e. same e) (λ e. ap (λ (x : EdgeId). x.0) e) (decided_same a.0 b.0)
-  where
-    same : a.0 ≡ b.0 → a ≡ b
-    same e = ap (λ n. record { 0 = n }) e
-
 abbrev SharedBy : ℕ → ℕ → Row → Row → Type 0
 SharedBy a b row other = (row.edge ≡ other.edge) × (row.at.face.0 ≡ a) × (other.at.face.0 ≡ b)
 
@@ -54,7 +48,7 @@ at_decided : (d : ShellRows) (a b r q : ℕ) → Decided (SharedAt d a b r q)
 at_decided d a b r q =
     decided_found (slice_get d.rows r) (λ row. (other : Row) × (slice_get d.rows q ≡ Some other) × SharedBy a b row other)
     (λ row. decided_found (slice_get d.rows q) (SharedBy a b row)
-    (λ other. decided_three (edge_decided row.edge other.edge) (decided_same row.at.face.0 a) (decided_same other.at.face.0 b)))
+    (λ other. decided_three (edge_id_decided row.edge other.edge) (decided_same row.at.face.0 a) (decided_same other.at.face.0 b)))
 
 abbrev SharedFrom : ShellRows → ℕ → ℕ → ℕ → Type 0
 SharedFrom d a b r = (q : ℕ) × (q < length d.rows) × SharedAt d a b r q

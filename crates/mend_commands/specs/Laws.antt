@@ -10,12 +10,24 @@ use Rattle.solid_data.specs.declared.verdict.Failing.{Failing}
 use Rattle.solid_mend.specs.Mended.{AreClosed}
 use Rattle.shell_change.specs.declared.change.Change.{Change}
 use Rattle.command_replies.specs.declared.answer.Answer.{Answer}
-use Rattle.mend_commands.specs.Due.{FailsBy, IsMendedAs, OfMend}
+use Rattle.file_replies.specs.Written.{OfWritten}
+use Rattle.named_once.specs.Once.{once}
+use Rattle.solid_extract.specs.Extracted.{IsExtracted}
+use Rattle.solid_verdict.specs.Closed.{IsClosed}
+use Rattle.mend_commands.specs.Due.{FailsBy, IsMendedAs, IsOnce, OfMend}
 
--- Where it isn't one that fails by a rule on shells, one answer is owed, and one text.
+-- No rule on shells fails, also where the solid names something twice and that is left out.
+pub record FailsByNone (n : ℕ) (f : Contents) : Type 0 where
+  pub here : (x : Failing) → ¬ FailsBy n f x
+  pub again : (x y : Failing) → IsOnce n f x → ¬ FailsBy n (once f n) y
+
+-- Then one answer is owed, and one text.
 abbrev pub OneMendAnswer : Type 0
-OneMendAnswer = (n : ℕ) (f : Contents) (a b : Answer) (t u : List ℕ) → ((x : Failing) → ¬ FailsBy n f x) → OfMend n f a t → OfMend n f b u
-    → (a ≡ b) × (t ≡ u)
+OneMendAnswer = (n : ℕ) (f : Contents) (a b : Answer) (t u : List ℕ) → FailsByNone n f → OfMend n f a t → OfMend n f b u → (a ≡ b) × (t ≡ u)
+
+-- A closed solid is written as `extract` writes it, if that makes a file.
+abbrev pub ClosedIsExtracted : Type 0
+ClosedIsExtracted = (n : ℕ) (f g : Contents) (a : Answer) (t : List ℕ) → IsClosed f n → IsExtracted f n g → OfMend n f a t → OfWritten g a t
 
 -- Some answer is owed.
 abbrev pub SomeMendAnswer : Type 0

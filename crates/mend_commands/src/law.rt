@@ -1,6 +1,6 @@
-ghost use Rattle.mend_commands.specs.Laws.{MendedReadsBack, OneMendAnswer, OneMended, SomeMendAnswer};
+ghost use Rattle.mend_commands.specs.Laws.{ClosedIsExtracted, MendedReadsBack, OneMendAnswer, OneMended, SomeMendAnswer};
 
-/// Of a solid that doesn't fail by a rule on shells one answer is owed, and one text.
+/// Of a solid that fails by no rule on shells, also without what it names twice, one answer is owed, and one text.
 pub fn one_mend_answer()
     ensures { OneMendAnswer }
 {}
@@ -8,6 +8,11 @@ pub fn one_mend_answer()
 /// In a file within its limits some answer is owed of mending any solid.
 pub fn some_mend_answer()
     ensures { SomeMendAnswer }
+{}
+
+/// A closed solid is written as `extract` writes it.
+pub fn closed_is_extracted()
+    ensures { ClosedIsExtracted }
 {}
 
 /// For given changes one file is made.

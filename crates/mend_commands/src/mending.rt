@@ -2,14 +2,18 @@ ghost use Rattle.brep_walk.specs.SolidOf.{solid_of};
 ghost use Rattle.file_replies.specs.Written.{OfWritten};
 ghost use Rattle.iges_params.specs.Contents.{Contents};
 ghost use Rattle.iges_write.specs.Writable.{IsWritable};
-ghost use Rattle.mend_commands.specs.Due.{FailsBy, OfMend};
-ghost use Rattle.mend_commands.specs.State.{IsStateOf};
+ghost use Rattle.mend_commands.specs.Due.{FailsBy, OfMend, OfPlaced};
+ghost use Rattle.mend_commands.specs.State.{AreShellsOf, IsWithoutTwice};
+ghost use Rattle.brep_walk.specs.Places.{places};
+ghost use Rattle.solid_data.specs.Obligations.{FirstFalse};
+ghost use Rattle.solid_data.specs.declared.verdict.Failing.{Failing as Failed};
 ghost use Rattle.solid_extract.specs.Extracted.{IsExtractedAs};
 ghost use Rattle.solid_extract.specs.Making.{IsExtractFault};
 ghost use Rattle.solid_mend.specs.Mended.{IsMendingOf};
-ghost use Rattle.std.specs.Prelude.{◌≡◌, ℕ, IfOk};
+ghost use Rattle.std.specs.Prelude.{◌≡◌, ℕ, IfOk, Option, unwrap_or};
 
-use crate::state::{State, state_of};
+use crate::naming::{WithoutTwice, without_twice};
+use crate::state::{Shells, State, state_of};
 use crate::telling::unmended;
 use crate::writable::recall_writable;
 use brep_walk::{WalkFault, walk};
@@ -53,15 +57,15 @@ fn mended(alloc: Global, new: Mended) -> Result<Reply, NoMemory>
     written(alloc, new.file)
 }
 
-// The reply for an extracted solid that fails by this rule.
+// The reply for an extracted solid that fails by a rule on shells, where this failing is told.
 fn mend_extracted(
     alloc: Global,
     extraction: Extraction,
-    failing: Failing,
+    told: Failing,
     choice: Choice,
 ) -> Result<Reply, NoMemory>
-    ensures { (f : Contents) (n : ℕ) → FailsBy n f failing → IsExtractedAs f n extraction.file extraction.no.0
-        → IfOk result (λ reply. OfMend n f reply.answer reply.text) }
+    ensures { (f : Contents) (n : ℕ) (x : Failed) (twice : Option Failed) → FailsBy n f x → told ≡ unwrap_or twice x
+        → IsExtractedAs f n extraction.file extraction.no.0 → IfOk result (λ reply. OfPlaced n f twice reply.answer reply.text) }
 {
     match mending_of(alloc, &extraction, choice)? {
         Mending::Mended(new) => {
@@ -70,35 +74,34 @@ fn mend_extracted(
         }
         Mending::Unmended(why) => {
             drop(extraction);
-            unmended(alloc, failing, why)
+            unmended(alloc, told, why)
         }
     }
 }
 
 // The reply for a solid that was extracted.
-fn by_state(
+fn by_shells(
     alloc: Global,
     extraction: Extraction,
-    state: State,
+    shells: Shells,
+    twice: Option<Failing>,
     choice: Choice,
 ) -> Result<Reply, NoMemory>
-    ensures { (f : Contents) (n : ℕ) → IsStateOf f n state → IsExtractedAs f n extraction.file extraction.no.0
-        → IfOk result (λ reply. OfMend n f reply.answer reply.text) }
+    ensures { (f : Contents) (n : ℕ) → AreShellsOf f n shells → IsExtractedAs f n extraction.file extraction.no.0
+        → IfOk result (λ reply. OfPlaced n f twice reply.answer reply.text) }
 {
-    match state {
-        State::Closed => written(alloc, extraction.file),
-        State::Misplaced(failing) => {
-            drop(extraction);
-            failed(alloc, failing)
+    match shells {
+        Shells::Closed => written(alloc, extraction.file),
+        Shells::Fails(failing) => {
+            mend_extracted(alloc, extraction, twice.unwrap_or(failing), choice)
         }
-        State::Fails(failing) => mend_extracted(alloc, extraction, failing, choice),
     }
 }
 
 // The reply for a solid that isn't extracted.
 fn not_extracted(alloc: Global, fault: ExtractFault) -> Result<Reply, NoMemory>
-    ensures { (f : Contents) (n : ℕ) → IsExtractFault f n fault
-        → IfOk result (λ reply. OfMend n f reply.answer reply.text) }
+    ensures { (f : Contents) (n : ℕ) (twice : Option Failed) → IsExtractFault f n fault
+        → IfOk result (λ reply. OfPlaced n f twice reply.answer reply.text) }
 {
     match fault {
         ExtractFault::Refused { entity, reason } => refused(alloc, entity, reason),
@@ -106,14 +109,69 @@ fn not_extracted(alloc: Global, fault: ExtractFault) -> Result<Reply, NoMemory>
     }
 }
 
+// The reply for a solid whose records are right, in the file without what it named twice, if it did.
+fn mend_placed(
+    alloc: Global,
+    file: File,
+    no: u32,
+    shells: Shells,
+    twice: Option<Failing>,
+    choice: Choice,
+) -> Result<Reply, NoMemory>
+    ensures { AreShellsOf file no shells
+        → IfOk result (λ reply. OfPlaced no file twice reply.answer reply.text) }
+{
+    match into_extract_numbered(alloc, file, EntryNo(no)) {
+        Ok(extraction) => by_shells(alloc, extraction, shells, twice, choice),
+        Err(fault) => not_extracted(alloc, fault),
+    }
+}
+
+// The reply for a solid of which a record fails.
+fn by_naming(
+    alloc: Global,
+    found: WithoutTwice,
+    no: u32,
+    failing: Failing,
+    choice: Choice,
+) -> Result<Reply, NoMemory>
+    ensures { (f : Contents) → FirstFalse (places f no) failing → IsWithoutTwice f no failing found
+        → IfOk result (λ reply. OfMend no f reply.answer reply.text) }
+{
+    match found {
+        WithoutTwice::Refused { entity, reason } => refused(alloc, entity, reason),
+        WithoutTwice::Fails => failed(alloc, failing),
+        WithoutTwice::Again(again) => {
+            mend_placed(alloc, again.file, no, again.shells, Some(failing), choice)
+        }
+    }
+}
+
+fn mend_misplaced(
+    alloc: Global,
+    file: File,
+    no: u32,
+    failing: Failing,
+    choice: Choice,
+) -> Result<Reply, NoMemory>
+    requires { FirstFalse (places file no) failing }
+    ensures { IfOk result (λ reply. OfMend no file reply.answer reply.text) }
+{
+    let found = without_twice(alloc, &file, no, failing);
+    drop(file);
+    match found {
+        Ok(found) => by_naming(alloc, found, no, failing, choice),
+        Err(fault) => Err(fault),
+    }
+}
+
 /// The file in which a solid of a file is closed, made of the file that `extract` gives by changes of topology records alone; or
-/// why there is none.
+/// why there is none. Where a record fails only since the solid names something twice, the file without that is mended.
 pub fn mend_solid(alloc: Global, file: File, no: u32, choice: Choice) -> Result<Reply, NoMemory>
     ensures { IfOk result (λ reply. OfMend no file reply.answer reply.text) }
 {
-    let state = state_of(alloc, &file, no)?;
-    match into_extract_numbered(alloc, file, EntryNo(no)) {
-        Ok(extraction) => by_state(alloc, extraction, state, choice),
-        Err(fault) => not_extracted(alloc, fault),
+    match state_of(alloc, &file, no)? {
+        State::Misplaced(failing) => mend_misplaced(alloc, file, no, failing, choice),
+        State::Placed(shells) => mend_placed(alloc, file, no, shells, None, choice),
     }
 }

@@ -10,22 +10,28 @@ use iges_params::File;
 use solid_data::{Failing, Solid};
 use std::alloc::Global;
 
+/// How the shells of a solid fare whose records are right.
+#[derive(Clone, Copy)]
+pub enum Shells {
+    Closed,
+    /// One fails: the first rule that does.
+    Fails(Failing),
+}
+
 /// How a solid fares.
 #[derive(Clone, Copy)]
 pub enum State {
-    Closed,
     /// A record fails: the first place that does.
     Misplaced(Failing),
-    /// A shell fails: the first rule that does.
-    Fails(Failing),
+    Placed(Shells),
 }
 
 fn shell_state(alloc: Global, solid: &Solid) -> Result<State, NoMemory>
     ensures { IfOk result (IsShellState solid.now) }
 {
     match certify(alloc, solid) {
-        Ok(_) => Ok(State::Closed),
-        Err(MakeFault::Fails(failing)) => Ok(State::Fails(failing)),
+        Ok(_) => Ok(State::Placed(Shells::Closed)),
+        Err(MakeFault::Fails(failing)) => Ok(State::Placed(Shells::Fails(failing))),
         Err(MakeFault::NoMemory) => Err(NoMemory),
     }
 }

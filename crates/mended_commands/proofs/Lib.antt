@@ -1,1 +1,2 @@
 pub mod SomeTold
+pub mod TellingLemmas

@@ -1,29 +1,42 @@
 ghost use Rattle.iges_params.specs.Contents.{Contents};
 ghost use Rattle.iges_write.specs.Writable.{IsWritable};
 ghost use Rattle.mend_commands.specs.Due.{FailsBy};
-ghost use Rattle.mend_commands.specs.State.{IsStateOf};
+ghost use Rattle.mend_commands.specs.State.{AreShellsOf};
+ghost use Rattle.brep_walk.specs.Places.{places};
+ghost use Rattle.named_once.specs.declared.places.Dropped.{Dropped as Place};
+ghost use Rattle.solid_data.specs.Obligations.{FirstFalse};
+ghost use Rattle.solid_data.specs.declared.verdict.Failing.{Failing as Failed};
 ghost use Rattle.brep_walk.specs.SolidOf.{solid_of};
-ghost use Rattle.mended_commands.specs.Due.{OfMended, OfTold, closed_line, remedies_told as all_told};
+ghost use Rattle.mended_commands.specs.Due.{OfMended, OfTold, OfToldPlaced, closed_told, dropped_line, remedies_told as all_told};
 ghost use Rattle.solid_extract.specs.Extracted.{IsExtractedAs};
 ghost use Rattle.solid_extract.specs.Making.{IsExtractFault};
-ghost use Rattle.std.specs.Prelude.{◌≡◌, ℕ, IfOk};
+ghost use Rattle.std.specs.Prelude.{◌≡◌, ◌++◌, [], ℕ, IfOk, List, None, Option, Some, flat_map};
 
-use crate::remedies::remedies_told;
+use crate::remedies::{changes_told, put_dropped};
 use command_replies::{Answer, Reply, failed, too_large};
 use file_replies::refused;
 use iges_base::{Bytes, EntryNo, FILE_LIMIT, NoMemory, Out, write_number};
 use iges_params::File;
 use iges_write::{WriteFileFault, write_file};
-use mend_commands::{Choice, State, mending_of, recall_writable, state_of, unmended};
+use mend_commands::{
+    Again, Choice, Shells, State, WithoutTwice, mending_of, recall_writable, state_of, unmended,
+    without_twice,
+};
+use named_once::Dropped;
 use solid_data::Failing;
 use solid_extract::{ExtractFault, Extraction, extract_numbered};
 use solid_mend::{Mended, Mending};
 use std::alloc::Global;
 
-fn closed_text(alloc: Global, no: u32) -> Result<Bytes, NoMemory>
-    ensures { IfOk result (λ text. text ≡ closed_line no) }
+// What is told of a closed solid.
+fn closed_text(alloc: Global, no: u32, dropped: &[Dropped]) -> Result<Bytes, NoMemory>
+    ensures { IfOk result (λ text. text ≡ closed_told no dropped.now) }
 {
     let mut out = Out::new(alloc);
+    if dropped.len() > 0 {
+        put_dropped(&mut out, dropped)?;
+        return Ok(out.into_bytes());
+    }
     out.put(b"closed ")?;
     write_number(&mut out, u64::from(no))?;
     out.put(b"\n")?;
@@ -44,59 +57,77 @@ fn told(alloc: Global, file: &File, text: Bytes) -> Result<Reply, NoMemory>
     }
 }
 
-fn told_mended(alloc: Global, file: &File, no: u32, new: &Mended) -> Result<Reply, NoMemory>
-    ensures writable { IsWritable new.now.file }
-    ensures reply { IfOk result (λ reply. OfTold new.now.file (all_told file.now (solid_of file.now no) new.now.numbers.items new.now.changes) reply.answer reply.text) }
-{
-    recall_writable(&new.file);
-    let changes = new.changes.as_slice();
-    let text = remedies_told(alloc, file, no, new.numbers.as_slice(), changes)?;
-    told(alloc, &new.file, text)
-}
-
-// Of an extracted solid that fails by this rule.
-fn tell_failing(
+fn told_mended(
     alloc: Global,
     file: &File,
     no: u32,
-    extraction: &Extraction,
-    failing: Failing,
-    choice: Choice,
+    dropped: &[Dropped],
+    new: &Mended,
 ) -> Result<Reply, NoMemory>
-    requires fails { FailsBy no file.now failing }
-    requires extracted { IsExtractedAs file.now no extraction.now.file extraction.now.no.0 }
-    ensures { IfOk result (λ reply. OfMended no file.now reply.answer reply.text) }
+    ensures writable { IsWritable new.now.file }
+    ensures reply { IfOk result (λ reply. OfTold new.now.file (flat_map dropped_line dropped.now
+        ++ all_told file.now (solid_of file.now no) new.now.numbers.items new.now.changes) reply.answer reply.text) }
 {
-    match mending_of(alloc, extraction, choice)? {
-        Mending::Mended(new) => told_mended(alloc, file, no, &new),
-        Mending::Unmended(why) => unmended(alloc, failing, why),
+    recall_writable(&new.file);
+    let changes = new.changes.as_slice();
+    let text = changes_told(alloc, file, no, dropped, new.numbers.as_slice(), changes)?;
+    told(alloc, &new.file, text)
+}
+
+/// What is asked for: a solid, and which remedies are to be taken; and the first place that names something twice, if the file is
+/// without that.
+#[derive(Clone, Copy)]
+pub struct Asked {
+    pub no: u32,
+    pub choice: Choice,
+    pub twice: Option<Failing>,
+}
+
+// Of an extracted solid that fails by this rule on shells.
+fn tell_failing(
+    alloc: Global,
+    file: &File,
+    extraction: &Extraction,
+    dropped: &[Dropped],
+    failing: Failing,
+    asked: Asked,
+) -> Result<Reply, NoMemory>
+    requires fails { FailsBy asked.no file.now failing }
+    requires extracted { IsExtractedAs file.now asked.no extraction.now.file extraction.now.no.0 }
+    ensures { IfOk result (λ reply. OfToldPlaced asked.no file.now asked.twice dropped.now reply.answer reply.text) }
+{
+    match mending_of(alloc, extraction, asked.choice)? {
+        Mending::Mended(new) => told_mended(alloc, file, asked.no, dropped, &new),
+        Mending::Unmended(why) => unmended(alloc, asked.twice.unwrap_or(failing), why),
     }
 }
 
 // Of a solid that was extracted.
-fn tell_by_state(
+fn tell_by_shells(
     alloc: Global,
     file: &File,
-    no: u32,
     extraction: &Extraction,
-    state: State,
-    choice: Choice,
+    shells: Shells,
+    dropped: &[Dropped],
+    asked: Asked,
 ) -> Result<Reply, NoMemory>
-    requires state { IsStateOf file.now no state }
-    requires extracted { IsExtractedAs file.now no extraction.now.file extraction.now.no.0 }
-    ensures { IfOk result (λ reply. OfMended no file.now reply.answer reply.text) }
+    requires shells { AreShellsOf file.now asked.no shells }
+    requires extracted { IsExtractedAs file.now asked.no extraction.now.file extraction.now.no.0 }
+    ensures { IfOk result (λ reply. OfToldPlaced asked.no file.now asked.twice dropped.now reply.answer reply.text) }
 {
-    match state {
-        State::Closed => told(alloc, &extraction.file, closed_text(alloc, no)?),
-        State::Misplaced(failing) => failed(alloc, failing),
-        State::Fails(failing) => tell_failing(alloc, file, no, extraction, failing, choice),
+    match shells {
+        Shells::Closed => {
+            let text = closed_text(alloc, asked.no, dropped)?;
+            told(alloc, &extraction.file, text)
+        }
+        Shells::Fails(failing) => tell_failing(alloc, file, extraction, dropped, failing, asked),
     }
 }
 
 // Of a solid that isn't extracted.
 fn not_extracted(alloc: Global, fault: ExtractFault) -> Result<Reply, NoMemory>
-    ensures { (f : Contents) (n : ℕ) → IsExtractFault f n fault
-        → IfOk result (λ reply. OfMended n f reply.answer reply.text) }
+    ensures { (f : Contents) (n : ℕ) (twice : Option Failed) (ds : List Place) → IsExtractFault f n fault
+        → IfOk result (λ reply. OfToldPlaced n f twice ds reply.answer reply.text) }
 {
     match fault {
         ExtractFault::Refused { entity, reason } => refused(alloc, entity, reason),
@@ -104,13 +135,91 @@ fn not_extracted(alloc: Global, fault: ExtractFault) -> Result<Reply, NoMemory>
     }
 }
 
+// Of a solid whose records are right, in the file without what it named twice, if it did.
+fn tell_placed(
+    alloc: Global,
+    file: &File,
+    shells: Shells,
+    dropped: &[Dropped],
+    asked: Asked,
+) -> Result<Reply, NoMemory>
+    requires { AreShellsOf file.now asked.no shells }
+    ensures { IfOk result (λ reply. OfToldPlaced asked.no file.now asked.twice dropped.now reply.answer reply.text) }
+{
+    match extract_numbered(alloc, file, EntryNo(asked.no)) {
+        Ok(extraction) => tell_by_shells(alloc, file, &extraction, shells, dropped, asked),
+        Err(fault) => not_extracted(alloc, fault),
+    }
+}
+
+// Of a file without what a solid names twice, this place being the first.
+fn tell_again(
+    alloc: Global,
+    again: &Again,
+    no: u32,
+    failing: Failing,
+    choice: Choice,
+) -> Result<Reply, NoMemory>
+    requires { AreShellsOf again.now.file no again.now.shells }
+    ensures { IfOk result (λ reply. OfToldPlaced no again.now.file (Some failing) again.now.dropped reply.answer reply.text) }
+{
+    let asked = Asked {
+        no,
+        choice,
+        twice: Some(failing),
+    };
+    tell_placed(
+        alloc,
+        &again.file,
+        again.shells,
+        again.dropped.as_slice(),
+        asked,
+    )
+}
+
+// Of a solid of which a record fails.
+fn tell_misplaced(
+    alloc: Global,
+    file: &File,
+    no: u32,
+    failing: Failing,
+    choice: Choice,
+) -> Result<Reply, NoMemory>
+    requires { FirstFalse (places file.now no) failing }
+    ensures { IfOk result (λ reply. OfMended no file.now reply.answer reply.text) }
+{
+    match without_twice(alloc, file, no, failing)? {
+        WithoutTwice::Refused { entity, reason } => refused(alloc, entity, reason),
+        WithoutTwice::Fails => failed(alloc, failing),
+        WithoutTwice::Again(again) => tell_again(alloc, &again, no, failing, choice),
+    }
+}
+
+// Of a solid whose records are right.
+fn tell_here(
+    alloc: Global,
+    file: &File,
+    no: u32,
+    shells: Shells,
+    choice: Choice,
+) -> Result<Reply, NoMemory>
+    requires { AreShellsOf file.now no shells }
+    ensures { IfOk result (λ reply. OfToldPlaced no file.now None [] reply.answer reply.text) }
+{
+    let asked = Asked {
+        no,
+        choice,
+        twice: None,
+    };
+    tell_placed(alloc, file, shells, &[], asked)
+}
+
 fn tell(alloc: Global, file: &File, no: u32, choice: Choice) -> Result<Reply, NoMemory>
     ensures { IfOk result (λ reply. OfMended no file.now reply.answer reply.text) }
 {
-    let state = state_of(alloc, file, no)?;
-    match extract_numbered(alloc, file, EntryNo(no)) {
-        Ok(extraction) => tell_by_state(alloc, file, no, &extraction, state, choice),
-        Err(fault) => not_extracted(alloc, fault),
+    match state_of(alloc, file, no)? {
+        State::Misplaced(failing) => tell_misplaced(alloc, file, no, failing, choice),
+        State::Placed(shells) => tell_here(alloc, file, no, shells, choice),
     }
 }
 

@@ -7,8 +7,8 @@ use Rattle.solid_data.proofs.ObligationLemmas.{FirstFalse-append_front, FirstFal
 use Rattle.record_paths.specs.declared.path.Path.{Path}
 use Rattle.record_paths.specs.Paths.{Sited, all_owed, AreSame}
 use Rattle.record_paths.specs.Searched.{Bears}
+use Rattle.record_paths.proofs.Bearing.{false_either}
 use Rattle.record_laws.specs.Lying.{LiesOn, ComesBefore}
-use Rattle.record_laws.proofs.Splits.{split}
 
 -- one bears the name, and all before it hold
 abbrev pub Reached : Failing → List Obligation → Type 0
@@ -42,7 +42,7 @@ pub before_split : (a b : List Obligation) (y x : Failing) → ComesBefore y x (
 before_split [] b y x h = inr (inr (tt, h))
 before_split (o ∷ a) b y x h =
     ⊎_elim
-    (λ e. ⊎_elim (λ q. inl (h.0, inl (e.0, q))) (λ q. inr (inl ((h.0, q.0), inl e.0, q.1))) (split a b x e.1))
+    (λ e. ⊎_elim (λ q. inl (h.0, inl (e.0, q))) (λ q. inr (inl ((h.0, q.0), inl e.0, q.1))) (false_either a b x e.1))
     (λ r. ⊎_elim (λ q. inl (h.0, inr q))
     (λ q. inr (⊎_elim (λ c. inl ((h.0, c.0), inr c.1, c.2)) (λ c. inr ((h.0, c.0), c.1)) q))
     (before_split a b y x r))

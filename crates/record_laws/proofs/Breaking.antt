@@ -30,12 +30,13 @@ use Rattle.record_values.specs.Told.{told_in}
 use Rattle.record_values.proofs.BadValues.{by_number, by_entity}
 use Rattle.record_values.proofs.Misfits.{misfits_are_first}
 use Rattle.where_records.specs.RecordText.{judged}
+use Rattle.record_paths.proofs.Bearing.{false_either}
 use Rattle.record_laws.specs.Breaks.{BreaksBy}
 use Rattle.record_laws.proofs.NamedKinds.{a_vertex_list, an_entry, an_index, at_kind, bad_curve, named_there, no_entry, no_index, no_vertex_list}
 use Rattle.record_laws.proofs.NamedKinds.{record_there, told_here}
 use Rattle.record_laws.proofs.Sites.{edge_curve, edge_end, edge_end_index, edge_start, edge_start_index, face_item, loop_tuple, shell_item, solid_item}
 use Rattle.record_laws.proofs.Sites.{tuple_curve, tuple_index, tuple_list}
-use Rattle.record_laws.proofs.Splits.{at_item, fail, split}
+use Rattle.record_laws.proofs.Splits.{at_item, fail}
 
 abbrev Three : Contents → ℤ → Type 0
 Three f z = NamesKind shell f z ⊎ (NamesKind face f z ⊎ NamesKind «loop» f z)
@@ -108,7 +109,7 @@ named_level f entity item k number known more x s twice three h =
     (λ a. inl (subst (Broken f) (sym a.1) (breaks_by f (fail rule.Twice (entry_number entity) item) _ twice (subst (Three f) (sym s.there) (three nk)))))
     (λ b. inr (nk, b.1))
     rest.1)
-    (split (record_places f entity item k number) (obligation rule.Twice (entry_number entity) item (¬ Contains known number) ∷ more) x h)
+    (false_either (record_places f entity item k number) (obligation rule.Twice (entry_number entity) item (¬ Contains known number) ∷ more) x h)
 
 -- ---- an index
 
@@ -127,7 +128,7 @@ item_false f entity item k number index count x s bad h =
     ⊎_elim
     (λ front. record_false f entity item k number x s front)
     (λ rest. ⊎_elim (λ a. subst (Broken f) (sym a.1) (bad a.0)) (λ b. absurd b.1) rest.1)
-    (split (record_places f entity item k number) (obligation rule.BadIndex (entry_number entity) item (IsIndex index count) ∷ []) x h)
+    (false_either (record_places f entity item k number) (obligation rule.BadIndex (entry_number entity) item (IsIndex index count) ∷ []) x h)
 
 vertices_counted : (f : Contents) (z : ℤ) → item_count f z ≡ length (told vertices f z)
 vertices_counted f z = sym (items_length vertex_read 3 (count_at (values_of f z) 0) (drop 1 (values_of f z)))
@@ -211,12 +212,12 @@ one_edge f m i x (Some t) nk hr there h =
     g)
     (λ s. item_false f (pos m) (suc i) vertices t.start_list t.start_index (length (told vertices f t.start_list)) x (start_site f m i t nk hr there)
     (start_index f m i t nk hr there) s.1)
-    (split geometry start x front))
+    (false_either geometry start x front))
     (λ rest.
     let held = AllHold-append_right geometry start rest.0 in
     item_false f (pos m) (suc i) vertices t.end_list t.end_index (length (told vertices f t.end_list)) x (end_site f m i t nk hr there held.1.0)
     (end_index f m i t nk hr there held.1.1.1.0) rest.1)
-    (split (geometry ++ start) end x h)
+    (false_either (geometry ++ start) end x h)
 
 edge_false : (f : Contents) (e index : ℤ) (count : ℕ) (x : Failing) → NamesKind edges f e → HasRecordOf edges f e → IsIndex index count
     → FirstFalse (edge_places f e (entry_number index) (edge_at f e (entry_number index))) x → Broken f x
@@ -288,7 +289,7 @@ used_false f m i t x false nk hr there e h =
     (subst (λ b. Site f m (suc i) (list_kind b) t.«list») e (tuple_site f m i t nk hr there))
     (tuple_index_false f m i t count nk hr there (edges_counted f t.«list»)) front)
     (λ rest. edge_false f t.«list» t.index count x rest.0.1.0 rest.0.1.1.0 rest.0.1.1.1.0 rest.1)
-    (split place (edge_places f t.«list» (entry_number t.index) (edge_at f t.«list» (entry_number t.index))) x h)
+    (false_either place (edge_places f t.«list» (entry_number t.index) (edge_at f t.«list» (entry_number t.index))) x h)
 
 tuple_false : (f : Contents) (m i : ℕ) (t : LoopTuple) (x : Failing) → NamesKind «loop» f (pos m) → HasRecordOf «loop» f (pos m)
     → slice_get (tuples f (pos m)) i ≡ Some t → FirstFalse (tuple_at f (pos m) (suc i) t) x → Broken f x
@@ -296,7 +297,7 @@ tuple_false f m i t x nk hr there h =
     ⊎_elim
     (λ front. used_false f m i t x t.is_vertex nk hr there refl front)
     (λ rest. ⊎_elim (λ a. subst (Broken f) (sym a.1) (curves_false f m i t nk hr there a.0)) (λ b. absurd b.1) rest.1)
-    (split (used_places f (pos m) (suc i) t.«list» t.index t.is_vertex)
+    (false_either (used_places f (pos m) (suc i) t.«list» t.index t.is_vertex)
     (obligation rule.BadGeometry m (suc i) (All (λ (c : Bool × ℤ). NamesGeometry f c.1) t.curves) ∷ []) x h)
 
 tuples_false : (f : Contents) (l : ℤ) (x : Failing) → NamesKind «loop» f l → HasRecordOf «loop» f l
@@ -333,7 +334,7 @@ loop_false f m i known l x nk there h =
     (named_level f (pos m) (suc i) «loop» l known [] x (loop_site f m i l nk there)
     (bad_at f m face rule.Twice (suc i) nk (not_number rule.Twice m i) ∙ loop_place i None) (λ n. inr (inr n)) front))
     (λ rest. let held = AllHold-append_left place once rest.0 in tuples_false f l x held.1.0 held.1.1.0 rest.1)
-    (split (place ++ once) (after_each (tuple_places f l) [] (tuples f l)) x h)
+    (false_either (place ++ once) (after_each (tuple_places f l) [] (tuples f l)) x h)
 
 loops_false : (f : Contents) (c : ℤ) (used : List ℤ) (x : Failing) → NamesKind face f c → FirstFalse (after_each (loop_places f c used) [] (loops f c)) x
     → Broken f x
@@ -370,7 +371,7 @@ face_false f m i known c x nk there h =
     (named_level f (pos m) (suc i) face c.0 known surface x (face_site f m i c nk there) (bad_at f m shell rule.Twice (suc i) nk (not_number rule.Twice m i))
     (λ n. inr (inl n)) front))
     (λ rest. let held = AllHold-append_left place once rest.0 in loops_false f c.0 (flat_map (loops f) known) x held.1.0 rest.1)
-    (split (place ++ once) (after_each (loop_places f c.0 (flat_map (loops f) known)) [] (loops f c.0)) x h)
+    (false_either (place ++ once) (after_each (loop_places f c.0 (flat_map (loops f) known)) [] (loops f c.0)) x h)
 
 faces_false : (f : Contents) (s : ℤ) (used : List ℤ) (x : Failing) → NamesKind shell f s → FirstFalse (after_each (face_places f s used) [] (faces f s)) x
     → Broken f x
@@ -403,7 +404,7 @@ shell_false f n i known s x nk there h =
     (named_level f (pos n) (suc i) shell s.0 known [] x (shell_site f n i s nk there) (bad_at f n solid rule.Twice (suc i) nk (not_number rule.Twice n i))
     (λ m. inl m) front))
     (λ rest. let held = AllHold-append_left place once rest.0 in faces_false f s.0 used x held.1.0 rest.1)
-    (split (place ++ once) (after_each (face_places f s.0 used) [] (faces f s.0)) x h)
+    (false_either (place ++ once) (after_each (face_places f s.0 used) [] (faces f s.0)) x h)
 
 shells_false : (f : Contents) (n : ℕ) (x : Failing) → NamesKind solid f (pos n) → FirstFalse (after_each (shell_places f (pos n)) [] (shells f (pos n))) x
     → Broken f x
@@ -430,4 +431,4 @@ values_broken f n x h =
     ⊎_elim
     (λ front. record_false f (pos n) 0 solid (pos n) x (asked f n) front)
     (λ rest. shells_false f n x rest.0.1.0 rest.1)
-    (split (record_places f (pos n) 0 solid (pos n)) (after_each (shell_places f (pos n)) [] (shells f (pos n))) x h)
+    (false_either (record_places f (pos n) 0 solid (pos n)) (after_each (shell_places f (pos n)) [] (shells f (pos n))) x h)

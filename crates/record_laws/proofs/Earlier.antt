@@ -19,7 +19,7 @@ use Rattle.solid_data.specs.Obligations.{Obligation, AllHold, FirstFalse, obliga
 use Rattle.solid_data.specs.declared.verdict.Rule.{Rule}
 use Rattle.solid_data.specs.declared.verdict.Rule.TheVariants as rule
 use Rattle.solid_data.specs.declared.verdict.Failing.{Failing}
-use Rattle.solid_data.proofs.Members.{Has, Has-from_Contains}
+use Rattle.solid_data.proofs.Members.{Has, Has-from_Contains, has_append, has_left, has_right}
 use Rattle.solid_data.proofs.ObligationLemmas.{AllHold-append_left, AllHold-append_right}
 use Rattle.record_values.specs.declared.bad_values.BadValue.{BadValue}
 use Rattle.record_values.specs.BadValue.{bad_value}
@@ -27,7 +27,7 @@ use Rattle.record_values.specs.Naming.{Names, names, shells_in, shells_told, fac
 use Rattle.record_values.specs.Naming.{names_in_solid}
 use Rattle.record_values.specs.Naming.{first_of, first_naming}
 use Rattle.record_paths.specs.Searched.{Bears}
-use Rattle.record_paths.proofs.Bearing.{bears_left, bears_right, first_bears}
+use Rattle.record_paths.proofs.Bearing.{false_either, bears_left, bears_right, first_bears}
 use Rattle.where_records.specs.RecordText.{judged}
 use Rattle.record_laws.specs.Lying.{ComesBefore}
 use Rattle.record_laws.specs.Breaks.{once_at, number_at, IsEarlier, Breaks, BreaksBy, BadValuesBreak}
@@ -37,21 +37,9 @@ use Rattle.record_laws.proofs.Leading.{seam, next}
 use Rattle.record_laws.proofs.NamedKinds.{told_here}
 use Rattle.record_laws.proofs.NamedOnce.{all_faces, numbers_push, faces_push, record_none, geometry_none, tuples_none, places_once}
 use Rattle.record_laws.proofs.Sites.{solid_item, shell_item, face_item}
-use Rattle.record_laws.proofs.Splits.{fail, split}
+use Rattle.record_laws.proofs.Splits.{fail}
 
 -- ---- lists of names
-
-has_left : {A : Type 0} (xs ys : List A) (y : A) → Has xs y → Has (xs ++ ys) y
-has_left [] ys y h = absurd h
-has_left (x ∷ xs) ys y h = ⊎_elim inl (λ r. inr (has_left xs ys y r)) h
-
-has_right : {A : Type 0} (xs ys : List A) (y : A) → Has ys y → Has (xs ++ ys) y
-has_right [] ys y h = h
-has_right (x ∷ xs) ys y h = inr (has_right xs ys y h)
-
-has_either : {A : Type 0} (xs ys : List A) (y : A) → Has (xs ++ ys) y → Has xs y ⊎ Has ys y
-has_either [] ys y h = inr h
-has_either (x ∷ xs) ys y h = ⊎_elim (λ e. inl (inl e)) (λ r. ⊎_elim (λ q. inl (inr q)) inr (has_either xs ys y r)) h
 
 -- one of the names has this number
 abbrev Listed : List Names → ℤ → Type 0
@@ -94,7 +82,7 @@ in_push xs y z h =
 in_flat : {A : Type 0} (g : A → List ℤ) (xs : List A) (z : ℤ) → Has (flat_map g xs) z → (x : A) × Has xs x × Has (g x) z
 in_flat g [] z h = absurd h
 in_flat g (x ∷ xs) z h =
-    ⊎_elim (λ q. (x, inl refl, q)) (λ q. let r = in_flat g xs z q in (r.0, inr r.1, r.2)) (has_either (g x) (flat_map g xs) z h)
+    ⊎_elim (λ q. (x, inl refl, q)) (λ q. let r = in_flat g xs z q in (r.0, inr r.1, r.2)) (has_append (g x) (flat_map g xs) z h)
 
 in_numbers : (xs : List (ℤ × Bool)) (z : ℤ) → Has (numbers xs) z → (x : ℤ × Bool) × Has xs x × (x.0 ≡ z)
 in_numbers [] z h = absurd h
@@ -185,7 +173,7 @@ module _ (f : Contents) (x : Failing) (tw : x.rule ≡ rule.Twice) where
     stands = λ all m h. ⊎_elim
         (λ q. let s = front.stands (AllHold-append_left a b all) m q in (bears_left a b (once_at m.naming) s.0, s.1))
         (λ q. let s = (rest (AllHold-append_left a b all)).stands (AllHold-append_right a b all) m q in (bears_right a b (once_at m.naming) s.0, s.1))
-        (has_either na nb m h);
+        (has_append na nb m h);
     found = λ h. ⊎_elim
         (λ q. let c = front.found q in
         record {
@@ -203,11 +191,11 @@ module _ (f : Contents) (x : Failing) (tw : x.rule ≡ rule.Twice) where
           before = λ m k. ⊎_elim
               (λ i. let s = front.stands q.0 m i in (obligation_across a b (once_at m.naming) x q.0 s.0 q.1, s.1))
               (λ i. let p = c.before m i in (obligation_rest a b (once_at m.naming) x q.0 p.0, p.1))
-              (has_either na c.early m k);
+              (has_append na c.early m k);
           again = λ none absent. c.again (λ p. link q.0 p none (λ m k. absent m (has_left na c.early m k)))
               (λ m k. absent m (has_right na c.early m k));
         })
-        (split a b x h);
+        (false_either a b x h);
   }
 
   told_after : {A : Type 0} (k : List A → A → List Obligation) (g : ℕ × A → List Names) (O : List A → Type 0) (all : List A)
@@ -248,7 +236,7 @@ module _ (f : Contents) (x : Failing) (tw : x.rule ≡ rule.Twice) where
               again = λ none absent. a.0 (λ c. none (subst (λ w. Contains known w) (sym same) c));
             })
             (λ b. absurd (others (first_bears more x b.1))) q.1)
-            (split own rest x h);
+            (false_either own rest x h);
       }
 
   -- ---- the loops of a face
@@ -440,7 +428,7 @@ module _ (f : Contents) (x : Failing) (tw : x.rule ≡ rule.Twice) where
       let rest = after_each (shell_places f (pos n)) [] (shells f (pos n)) in
       ⊎_elim (λ q. absurd (record_none f x tw (pos n) 0 solid (pos n) (first_bears own x q)))
       (λ q. by_names rest (λ y k. obligation_rest own rest y x q.0 k) ((told_shells n q.0.1.0 q.0.1.1.0).found q.1))
-      (split own rest x h)
+      (false_either own rest x h)
     where
       by_names : (rest : List Obligation) → ((y : Failing) → ComesBefore y x rest → ComesBefore y x (places f n))
           → IsFound rest (names_in_solid f (pos n)) (OuterShells [])

@@ -19,9 +19,9 @@ use Rattle.solid_data.proofs.ObligationLemmas.{AllHold-append_left, AllHold-appe
 use Rattle.record_values.specs.BadValue.{entry_at, kind_in}
 use Rattle.record_paths.specs.Paths.{naming_places, face_naming}
 use Rattle.record_paths.specs.Searched.{Bears}
-use Rattle.record_paths.proofs.Bearing.{bears_either}
+use Rattle.record_paths.proofs.Bearing.{false_either, bears_either}
 use Rattle.record_laws.proofs.NamedKinds.{at_kind}
-use Rattle.record_laws.proofs.Splits.{fail, split}
+use Rattle.record_laws.proofs.Splits.{fail}
 
 abbrev pub IsAt : ℕ → ℕ → Failing → Type 0
 IsAt e item x = (x.entity.0 ≡ e) × (x.place ≡ item)
@@ -210,7 +210,7 @@ module _ (f : Contents) (x : Failing) where
   item_false ent item k z index count h =
       ⊎_elim (λ front. record_false ent item k z front)
       (λ rest. ⊎_elim (λ a. inl (at_name x rule.BadIndex (entry_number ent) item a.1)) (λ b. absurd b.1) rest.1)
-      (split (record_places f ent item k z) (obligation rule.BadIndex (entry_number ent) item (IsIndex index count) ∷ []) x h)
+      (false_either (record_places f ent item k z) (obligation rule.BadIndex (entry_number ent) item (IsIndex index count) ∷ []) x h)
 
   edge_false : (ent : ℤ) (item : ℕ) (o : Option EdgeTuple) → FirstFalse (edge_places f ent item o) x → IsAt (entry_number ent) item x ⊎ (¬ Named)
   edge_false ent item None h = absurd h
@@ -222,8 +222,8 @@ module _ (f : Contents) (x : Failing) where
       (λ r. ⊎_elim
       (λ s. item_false ent item vertices t.start_list t.start_index (length (told vertices f t.start_list)) s)
       (λ s. item_false ent item vertices t.end_list t.end_index (length (told vertices f t.end_list)) s.1)
-      (split start end x r.1))
-      (split geometry (start ++ end) x h)
+      (false_either start end x r.1))
+      (false_either geometry (start ++ end) x h)
 
   used_false : (l : ℤ) (item : ℕ) (v index : ℤ) (b : Bool) → FirstFalse (used_places f l item v index b) x → IsAt (entry_number l) item x ⊎ (¬ Named)
   used_false l item v index true h = item_false l item vertices v index (length (told vertices f v)) h
@@ -231,7 +231,7 @@ module _ (f : Contents) (x : Failing) where
       let place = item_places f l item edges v index (length (told edges f v)) in
       ⊎_elim (λ front. item_false l item edges v index (length (told edges f v)) front)
       (λ rest. inr (late_false v rest.0.1.0 (low_index index (length (told edges f v)) rest.0.1.1.1.0) rest.1))
-      (split place (edge_places f v (entry_number index) (edge_at f v (entry_number index))) x h)
+      (false_either place (edge_places f v (entry_number index) (edge_at f v (entry_number index))) x h)
     where
       late_false : (v : ℤ) → NamesKind edges f v → 1 ≤ entry_number index
           → FirstFalse (edge_places f v (entry_number index) (edge_at f v (entry_number index))) x → ¬ Named
@@ -258,7 +258,7 @@ module _ (f : Contents) (x : Failing) where
       (λ s. s)
       (⊎_elim (λ front. used_false (pos m) (suc i) t.«list» t.index t.is_vertex front)
       (λ rest. ⊎_elim (λ a. inl (at_name x rule.BadGeometry m (suc i) a.1)) (λ b. absurd b.1) rest.1)
-      (split (used_places f (pos m) (suc i) t.«list» t.index t.is_vertex)
+      (false_either (used_places f (pos m) (suc i) t.«list» t.index t.is_vertex)
       (obligation rule.BadGeometry m (suc i) (All (λ (c : Bool × ℤ). NamesGeometry f c.1) t.curves) ∷ []) x h))
     where
       own : IsAt m (suc i) x → ¬ Named
@@ -290,7 +290,7 @@ module _ (f : Contents) (x : Failing) where
       (λ front. inr (⊎_elim (λ at s. FirstFalse-not_all own x front (item.back (settled_at m (suc i) at s))) (λ s. s)
       (record_false (pos m) (suc i) k z front)))
       (λ rest. ⊎_elim (λ a. inl (ap (λ (y : Failing). y.rule) a.1)) (λ b. absurd b.1) rest.1)
-      (split own once x h)
+      (false_either own once x h)
 
   shell_item : (m i : ℕ) (p : ℤ × Bool) → NamesKind solid f (pos m) → slice_get (shells f (pos m)) i ≡ Some p → IsItem m i shell p.0
   shell_item m i p nk there =
@@ -365,4 +365,4 @@ module _ (f : Contents) (x : Failing) where
       (λ a. inr (λ s. a.0 (surface_of p.0 rest.0.1.0
       (whole_is face p.0 rest.0.1.0 (settled_at (entry_number p.0) 0 (at_name x rule.BadGeometry (entry_number p.0) 0 a.1) s)))))
       (λ b. absurd b.1) rest.1)
-      (split own surface x h)
+      (false_either own surface x h)

@@ -1,18 +1,14 @@
 -- In which part of a list of obligations the first false one stands.
 use Rattle.std.specs.Prelude.{◌≡◌, ℕ, suc, ◌+◌, List, [], ◌∷◌, ◌++◌, ◌⊎◌, length, Some, slice_get}
-use Rattle.std.proofs.Common.{refl, arith, inl, inr, ⊎_elim, length-append}
+use Rattle.std.proofs.Common.{refl, arith, ⊎_elim, length-append}
 use Rattle.solid_data.specs.declared.verdict.Rule.{Rule}
 use Rattle.solid_data.specs.declared.verdict.Failing.{Failing}
-use Rattle.solid_data.specs.Obligations.{Obligation, AllHold, FirstFalse, after_each}
+use Rattle.solid_data.specs.Obligations.{Obligation, FirstFalse, after_each}
+use Rattle.record_paths.proofs.Bearing.{false_either}
 
 -- what is named where a rule fails at an item of an entity
 abbrev pub fail : Rule → ℕ → ℕ → Failing
 fail r e item = record { rule = r; entity = record { 0 = e }; place = item }
-
-pub split : (os ps : List Obligation) (x : Failing) → FirstFalse (os ++ ps) x → FirstFalse os x ⊎ (AllHold os × FirstFalse ps x)
-split [] ps x h = inr (tt, h)
-split (o ∷ os) ps x h =
-    ⊎_elim (λ bad. inl (inl bad)) (λ rest. ⊎_elim (λ left. inl (inr (rest.0, left))) (λ right. inr ((rest.0, right.0), right.1)) (split os ps x rest.1)) h
 
 -- the item of a list whose obligations have it, and those before
 pub record IsAtItem {A : Type 0} (g : List A → A → List Obligation) (xs : List A) (start : ℕ) (x : Failing) : Type 0 where
@@ -49,4 +45,4 @@ at_item {A} g before (y ∷ ys) x h =
       there = r.there;
       false_here = r.false_here;
     })
-    (split (g before y) (after_each g (before ++ y ∷ []) ys) x h)
+    (false_either (g before y) (after_each g (before ++ y ∷ []) ys) x h)

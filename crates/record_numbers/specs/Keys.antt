@@ -1,4 +1,4 @@
--- Private: numbers by keys.
+-- Numbers by keys.
 use Rattle.std.specs.Prelude.{◌≡◌, ℕ, ◌<◌, List, length, Option, Some}
 use Rattle.std.specs.BTreeMap.{BTreeMap, get_by, btree_map_len}
 use Rattle.std.specs.Cmp.Lexicographic.{slice_cmp}

@@ -1,6 +1,6 @@
 //! Entries in an order in which what is named comes first.
 
-use crate::told::{Part, told_of};
+use crate::told::{Part, record_at, told_of};
 use iges_base::NoMemory;
 use iges_params::File;
 use std::alloc::Global;
@@ -30,6 +30,14 @@ fn see(seen: &mut [bool], number: i64) -> bool {
     }
 }
 
+// Whether an entry names nothing, as an arc (IGES 5.3, 4.3) or a line (4.13) without a matrix.
+fn names_nothing(file: &File, number: i64) -> bool {
+    match record_at(file, number) {
+        Some(found) => matches!(found.entry.kind, 100 | 110) && found.entry.matrix == 0,
+        None => true,
+    }
+}
+
 fn push_named(visits: &mut Vec<Visit>, parts: &[Part<'_>]) -> Result<(), NoMemory> {
     'parts: for part in parts {
         if let Part::Pointer(Some(number)) = part {
@@ -45,6 +53,9 @@ impl Search {
             return Ok(());
         }
         self.visits.push(Visit::Leave(number))?;
+        if names_nothing(file, number) {
+            return Ok(());
+        }
         if let Some(told) = told_of(alloc, file, number)? {
             push_named(&mut self.visits, told.parts.as_slice())?;
         }

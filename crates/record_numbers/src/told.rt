@@ -201,7 +201,8 @@ fn told_by<'a>(
     })
 }
 
-fn record_at(file: &File, number: i64) -> Option<Record<'_>>
+/// The record that a number names; None where it names none.
+pub fn record_at(file: &File, number: i64) -> Option<Record<'_>>
     ensures { MatchOption result (named file.now number ≡ None)
         (λ r. (named file.now number ≡ Some (r.entry.now, r.values.now)) × IsBounded r.entry.now × (length r.values.now ≤ FILE_LIMIT)) }
 {

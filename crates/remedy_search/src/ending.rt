@@ -1,9 +1,7 @@
 //! What may still be done to a shell once it is sewn and faces are removed.
 
 use crate::found::{Found, add_trial};
-use iges_base::NoMemory;
-use shell_trial::{Facts, NONE, Table, Trial, copy_of, short, table_of};
-use std::alloc::Global;
+use shell_trial::{Facts, Memory, NONE, Table, Trial, copy_of, short, table_of};
 use trial_seams::Sewn;
 use trial_steps::{By, fill, has_same_way, part, split_edges, split_vertices, turn, turn_uses};
 
@@ -17,79 +15,111 @@ fn is_crowded(table: &Table) -> bool {
     false
 }
 
-// Turns what runs the wrong way. Whether each loop joins then, and the rows of each edge with two run opposite.
-fn straighten(alloc: Global, facts: &Facts, trial: &mut Trial) -> Result<bool, NoMemory> {
-    turn(alloc, facts, trial)?;
-    let table = table_of(alloc, facts, trial)?;
+// The rows of a shell, if each loop joins and the rows of each edge with two run opposite.
+fn straight(table: Table) -> Option<Table> {
+    if table.gaps.is_empty() && !has_same_way(&table) {
+        Some(table)
+    } else {
+        None
+    }
+}
+
+// Turns what runs the wrong way. The rows, if each loop joins then, and the rows of each edge with two run opposite.
+fn straighten(memory: &mut Memory, facts: &Facts, trial: &mut Trial) -> Option<Table> {
+    let table = turn(memory, facts, trial);
     if table.gaps.is_empty() {
-        return Ok(!has_same_way(&table));
+        return straight(table);
     }
-    if !turn_uses(alloc, facts, trial, &table)? {
-        return Ok(false);
+    if !turn_uses(memory, facts, trial, &table) {
+        return None;
     }
-    turn(alloc, facts, trial)?;
-    let table = table_of(alloc, facts, trial)?;
-    Ok(table.gaps.is_empty() && !has_same_way(&table))
+    straight(turn(memory, facts, trial))
+}
+
+// Parts a shell, if it isn't parted yet. The rows then.
+fn parted(memory: &mut Memory, facts: &Facts, trial: &mut Trial, table: Table) -> Table {
+    if trial.piece_count < 2 && part(memory, facts, trial, &table, By::All) {
+        return table_of(memory, facts, trial);
+    }
+    table
+}
+
+// Splits the vertices of a shell. The rows then.
+fn split(memory: &mut Memory, facts: &Facts, trial: &mut Trial, table: Table) -> Table {
+    if split_vertices(memory, facts, trial, &table) {
+        return table_of(memory, facts, trial);
+    }
+    table
 }
 
 // Parts a shell, splits its vertices and fills its rims; if it passes, it is a remedy.
 fn finish(
-    alloc: Global,
+    memory: &mut Memory,
     facts: &Facts,
     sewn: &Sewn,
     trial: &mut Trial,
+    table: Table,
     found: &mut Found,
-) -> Result<(), NoMemory> {
-    if trial.piece_count < 2 {
-        let table = table_of(alloc, facts, trial)?;
-        let _parted = part(alloc, facts, trial, &table, By::All)?;
+) {
+    let table = parted(memory, facts, trial, table);
+    let table = split(memory, facts, trial, table);
+    if fill(memory, facts, trial, &table) {
+        add_trial(memory, facts, sewn, trial, found);
     }
-    split_vertices(alloc, facts, trial)?;
-    if fill(alloc, facts, trial)? {
-        add_trial(alloc, facts, sewn, trial, found)?;
-    }
-    Ok(())
 }
 
-// Makes crowded edges edges of two rows, in one of three ways. Whether that way does something.
+// Makes crowded edges edges of two rows, in one of three ways. The rows then, if that way does something.
 fn thin(
-    alloc: Global,
+    memory: &mut Memory,
     facts: &Facts,
     trial: &mut Trial,
     table: &Table,
     way: u32,
-) -> Result<bool, NoMemory> {
+) -> Option<Table> {
     if way == 0 {
-        return part(alloc, facts, trial, table, By::Mates);
+        if !part(memory, facts, trial, table, By::Mates) {
+            return None;
+        }
+        return Some(table_of(memory, facts, trial));
     }
-    if !split_edges(alloc, facts, trial, table, way.saturating_sub(1))? {
-        return Ok(false);
+    if !split_edges(memory, facts, trial, table, way.saturating_sub(1)) {
+        return None;
     }
-    turn(alloc, facts, trial)?;
-    Ok(true)
+    Some(turn(memory, facts, trial))
+}
+
+fn try_way(
+    memory: &mut Memory,
+    facts: &Facts,
+    sewn: &Sewn,
+    trial: &mut Trial,
+    way: (u32, &Table),
+    found: &mut Found,
+) {
+    let (way, table) = way;
+    if let Some(thinned) = thin(memory, facts, trial, table, way) {
+        finish(memory, facts, sewn, trial, thinned, found);
+    }
 }
 
 /// Tries what may still be done to a shell, and adds the remedies that there are.
 pub(crate) fn try_ways(
-    alloc: Global,
+    memory: &mut Memory,
     facts: &Facts,
     sewn: &Sewn,
     trial: &mut Trial,
     found: &mut Found,
-) -> Result<(), NoMemory> {
+) {
     found.count_trial();
-    if !straighten(alloc, facts, trial)? {
-        return Ok(());
-    }
-    let table = table_of(alloc, facts, trial)?;
+    let Some(table) = straighten(memory, facts, trial) else {
+        return;
+    };
     if !is_crowded(&table) {
-        return finish(alloc, facts, sewn, trial, found);
+        finish(memory, facts, sewn, trial, table, found);
+        return;
     }
     'ways: for way in 0..3 {
-        let mut other = copy_of(alloc, trial)?;
-        if thin(alloc, facts, &mut other, &table, way)? {
-            finish(alloc, facts, sewn, &mut other, found)?;
-        }
+        let mut other = copy_of(memory, trial);
+        try_way(memory, facts, sewn, &mut other, (way, &table), found);
     }
-    Ok(())
 }

@@ -1,10 +1,8 @@
 //! The remedies that were found, the cheapest first.
 
-use iges_base::NoMemory;
 use shell_change::Remedy;
-use shell_trial::{Facts, Trial, is_set, item_at, set, short, unset};
+use shell_trial::{Facts, Memory, Trial, at, is_set, set, short};
 use solid_data::ShellAt;
-use std::alloc::Global;
 use trial_changes::{are_alike, change_of, removed_alike};
 use trial_seams::Sewn;
 
@@ -21,20 +19,17 @@ pub(crate) struct Found {
     pub(crate) remedies: Vec<Remedy>,
     // Of each how it splits crowded edges.
     splits: Vec<u32>,
-    // Of each face the first one that is like it.
-    like: Vec<u32>,
     trials: u32,
     // Whether the shell passes as it is, but for vertices of earlier shells.
     closed: bool,
 }
 
 impl Found {
-    pub(crate) fn new(alloc: Global, shell: ShellAt, like: Vec<u32>) -> Found {
+    pub(crate) fn new(memory: &Memory, shell: ShellAt) -> Found {
         Found {
             shell,
-            remedies: Vec::new(alloc),
-            splits: Vec::new(alloc),
-            like,
+            remedies: memory.list(),
+            splits: memory.list(),
             trials: 0,
             closed: false,
         }
@@ -51,36 +46,40 @@ impl Found {
 }
 
 fn shares_some(facts: &Facts) -> bool {
-    'vertices: for i in 0..facts.vertices.len() {
-        if facts.vertices[i].shared {
+    'vertices: for vertex in facts.vertices.as_slice() {
+        if vertex.shared {
             return true;
         }
     }
     false
 }
 
-// The place of a remedy that does the same; None if there is none.
-fn same_at(found: &Found, remedy: &Remedy, split: u32) -> Option<usize> {
-    'remedies: for i in 0..found.remedies.len() {
-        let same = item_at(&found.splits, short(i), 0) == split;
-        if same && are_alike(&found.remedies[i].change, &remedy.change) {
-            return Some(i);
+// The place of a remedy that does the same, and its cost; None if there is none.
+fn same_at(remedies: &[Remedy], splits: &[u32], remedy: &Remedy, split: u32) -> Option<(u32, u32)> {
+    let mut i = 0u32;
+    'remedies: for other in remedies {
+        if at(splits, i) == split && are_alike(&other.change, &remedy.change) {
+            return Some((i, other.cost));
         }
+        i = i.saturating_add(1);
     }
     None
 }
 
 // The place before the first remedy that costs more.
-fn place_for(found: &Found, cost: u32) -> usize {
-    'remedies: for i in 0..found.remedies.len() {
-        if found.remedies[i].cost > cost {
-            return i;
+fn place_for(remedies: &[Remedy], cost: u32) -> usize {
+    let mut place = 0usize;
+    'remedies: for other in remedies {
+        if other.cost > cost {
+            return place;
         }
+        place = place.saturating_add(1);
     }
-    found.remedies.len()
+    place
 }
 
-fn leave_out(found: &mut Found, i: usize) {
+fn leave_out(found: &mut Found, i: u32) {
+    let i = i as usize;
     if i < found.remedies.len() && i < found.splits.len() {
         let _remedy = found.remedies.remove(i);
         let _split = found.splits.remove(i);
@@ -89,79 +88,84 @@ fn leave_out(found: &mut Found, i: usize) {
 
 // Whether a remedy that does the same stays, since it costs no more; one that costs more goes.
 fn has_as_good(found: &mut Found, remedy: &Remedy, split: u32) -> bool {
-    let Some(i) = same_at(found, remedy, split) else {
-        return false;
-    };
-    if i < found.remedies.len() && found.remedies[i].cost <= remedy.cost {
-        return true;
+    match same_at(&found.remedies, &found.splits, remedy, split) {
+        None => false,
+        Some((i, cost)) => {
+            if cost > remedy.cost {
+                leave_out(found, i);
+            }
+            cost <= remedy.cost
+        }
     }
-    leave_out(found, i);
-    false
 }
 
-fn add(found: &mut Found, remedy: Remedy, split: u32) -> Result<(), NoMemory> {
-    if has_as_good(found, &remedy, split) {
-        return Ok(());
+fn insert<T: Drop>(memory: &mut Memory, list: &mut Vec<T>, place: usize, item: T) {
+    if place <= list.len() && list.insert(place, item).is_err() {
+        memory.run_out();
     }
-    let place = place_for(found, remedy.cost);
-    if place <= found.splits.len() && place <= found.remedies.len() {
-        found.remedies.insert(place, remedy)?;
-        found.splits.insert(place, split)?;
-    }
+}
+
+fn add(memory: &mut Memory, found: &mut Found, remedy: Remedy, split: u32) {
+    let place = place_for(&found.remedies, remedy.cost);
+    insert(memory, &mut found.remedies, place, remedy);
+    insert(memory, &mut found.splits, place, split);
     found.remedies.truncate(MOST_TOLD);
     found.splits.truncate(MOST_TOLD);
-    Ok(())
 }
 
 /// Puts a trial after which the shell passes among the remedies.
 pub(crate) fn add_trial(
-    alloc: Global,
+    memory: &mut Memory,
     facts: &Facts,
     sewn: &Sewn,
     trial: &Trial,
     found: &mut Found,
-) -> Result<(), NoMemory> {
+) {
     if trial.cost == 0 {
         found.closed = true;
         if !shares_some(facts) {
-            return Ok(());
+            return;
         }
     }
-    let Some(change) = change_of(alloc, facts, sewn, trial, found.shell)? else {
-        return Ok(());
+    let Some(change) = change_of(memory, facts, sewn, trial, found.shell) else {
+        return;
     };
     let remedy = Remedy {
         change,
         cost: trial.cost.max(1),
         sure: trial.sure,
     };
-    add(found, remedy, trial.split)
+    if !has_as_good(found, &remedy, trial.split) {
+        add(memory, found, remedy, trial.split);
+    }
 }
 
 // Whether another remedy of the same cost removes other faces.
-fn has_rival(alloc: Global, found: &Found, own: &Remedy) -> Result<bool, NoMemory> {
-    let mut rival = false;
-    'remedies: for i in 0..found.remedies.len() {
-        let other = &found.remedies[i];
-        if other.cost == own.cost {
-            let alike = removed_alike(alloc, &own.change, &other.change, &found.like)?;
-            rival = rival || !alike;
+fn has_rival(memory: &mut Memory, remedies: &[Remedy], own: &Remedy, like: &[u32]) -> bool {
+    'remedies: for other in remedies {
+        if other.cost == own.cost && !removed_alike(memory, &own.change, &other.change, like) {
+            return true;
         }
     }
-    Ok(rival)
+    false
+}
+
+fn rivals(memory: &mut Memory, remedies: &[Remedy], like: &[u32]) -> Vec<bool> {
+    let mut out = memory.unset(short(remedies.len()));
+    let mut i = 0u32;
+    'remedies: for own in remedies {
+        set(&mut out, i, has_rival(memory, remedies, own, like));
+        i = i.saturating_add(1);
+    }
+    out
 }
 
 /// Lets only those remedies be sure of which no other of the same cost removes other faces.
-pub(crate) fn settle(alloc: Global, found: &mut Found) -> Result<(), NoMemory> {
-    let count = short(found.remedies.len());
-    let mut rivals = unset(alloc, count)?;
-    'rivals: for i in 0..found.remedies.len() {
-        let rival = has_rival(alloc, found, &found.remedies[i])?;
-        set(&mut rivals, short(i), rival);
+pub(crate) fn settle(memory: &mut Memory, remedies: &mut [Remedy], like: &[u32]) {
+    let rivals = rivals(memory, remedies, like);
+    'settle: for i in 0..remedies.len() {
+        if is_set(&rivals, short(i)) {
+            remedies[i].sure = false;
+        }
     }
-    'settle: for i in 0..found.remedies.len() {
-        let sure = found.remedies[i].sure && !is_set(&rivals, short(i));
-        found.remedies[i].sure = sure;
-    }
-    Ok(())
 }

@@ -4,37 +4,30 @@ use crate::ending::try_ways;
 use crate::found::{Found, settle};
 use iges_base::NoMemory;
 use shell_change::{Known, Remedy};
-use shell_trial::{Facts, Trial, copy_of, facts_of, first_trial, table_of};
+use shell_trial::{Facts, Memory, Trial, copy_of, facts_of, first_trial, table_of};
 use solid_data::{ShellAt, Solid};
 use std::alloc::Global;
 use trial_removals::{copies, like_faces, removals, remove};
 use trial_seams::{SeamCounts, Sewn, sew};
 
 // Tries a sewn shell, as it is and with each set of faces removed that may be too many.
-fn try_removals(
-    alloc: Global,
-    facts: &Facts,
-    sewn: &Sewn,
-    trial: &Trial,
-    found: &mut Found,
-) -> Result<(), NoMemory> {
-    let mut plain = copy_of(alloc, trial)?;
-    try_ways(alloc, facts, sewn, &mut plain, found)?;
+fn try_removals(memory: &mut Memory, facts: &Facts, sewn: &Sewn, trial: &Trial, found: &mut Found) {
+    let mut plain = copy_of(memory, trial);
+    try_ways(memory, facts, sewn, &mut plain, found);
     if found.is_over() {
-        return Ok(());
+        return;
     }
-    let table = table_of(alloc, facts, trial)?;
-    let removals = removals(alloc, facts, trial, &table)?;
+    let table = table_of(memory, facts, trial);
+    let removals = removals(memory, facts, trial, &table);
     'removals: for i in 0..removals.len() {
         if found.is_over() {
             break 'removals;
         }
-        let mut other = copy_of(alloc, trial)?;
+        let mut other = copy_of(memory, trial);
         remove(&mut other, &removals[i]);
         other.sure = false;
-        try_ways(alloc, facts, sewn, &mut other, found)?;
+        try_ways(memory, facts, sewn, &mut other, found);
     }
-    Ok(())
 }
 
 fn is_among(seen: &[SeamCounts], counts: SeamCounts) -> bool {
@@ -47,45 +40,54 @@ fn is_among(seen: &[SeamCounts], counts: SeamCounts) -> bool {
 }
 
 // Tries a shell unsewn, and sewn at each level that sews other numbers than those before.
-fn try_levels(
-    alloc: Global,
-    facts: &Facts,
-    trial: &Trial,
-    found: &mut Found,
-) -> Result<(), NoMemory> {
-    let mut seen = Vec::new(alloc);
+fn try_levels(memory: &mut Memory, facts: &Facts, trial: &Trial, found: &mut Found) {
+    let mut seen = memory.list();
     'levels: for level in 0..5 {
         if found.is_over() {
             break 'levels;
         }
-        let mut other = copy_of(alloc, trial)?;
-        let sewn = sew(alloc, facts, &mut other, level)?;
+        let mut other = copy_of(memory, trial);
+        let sewn = sew(memory, facts, &mut other, level);
         if !is_among(&seen, sewn.counts) {
-            seen.push(sewn.counts)?;
-            try_removals(alloc, facts, &sewn, &other, found)?;
+            memory.add(&mut seen, sewn.counts);
+            try_removals(memory, facts, &sewn, &other, found);
         }
     }
-    Ok(())
 }
 
 // Tries a shell as it is, and without the faces that are there twice.
-fn try_all(alloc: Global, facts: &Facts, like: &[u32], found: &mut Found) -> Result<(), NoMemory> {
-    let trial = first_trial(alloc, facts)?;
-    try_levels(alloc, facts, &trial, found)?;
+fn try_all(memory: &mut Memory, facts: &Facts, like: &[u32], found: &mut Found) {
+    let trial = first_trial(memory, facts);
+    try_levels(memory, facts, &trial, found);
     if found.is_over() {
-        return Ok(());
+        return;
     }
-    let table = table_of(alloc, facts, &trial)?;
-    let copies = copies(alloc, facts, &table, like)?;
+    let table = table_of(memory, facts, &trial);
+    let copies = copies(memory, facts, &table, like);
     'copies: for i in 0..copies.len() {
         if found.is_over() {
             break 'copies;
         }
-        let mut other = copy_of(alloc, &trial)?;
+        let mut other = copy_of(memory, &trial);
         remove(&mut other, &copies[i]);
-        try_levels(alloc, facts, &other, found)?;
+        try_levels(memory, facts, &other, found);
     }
-    Ok(())
+}
+
+fn remedies_of(
+    memory: &mut Memory,
+    solid: &Solid,
+    known: &Known,
+    shell: ShellAt,
+    below: usize,
+) -> Vec<Remedy> {
+    let mut found = Found::new(memory, shell);
+    if let Some(facts) = facts_of(memory, solid, known, shell, below) {
+        let like = like_faces(memory, &facts);
+        try_all(memory, &facts, &like, &mut found);
+        settle(memory, &mut found.remedies, &like);
+    }
+    found.remedies
 }
 
 /// The remedies of a shell that were found, at most six, the first one first. They are only proposed: whether a change fits and
@@ -97,12 +99,10 @@ pub fn search(
     shell: ShellAt,
     below: usize,
 ) -> Result<Vec<Remedy>, NoMemory> {
-    let Some(facts) = facts_of(alloc, solid, known, shell, below)? else {
-        return Ok(Vec::new(alloc));
-    };
-    let like = like_faces(alloc, &facts)?;
-    let mut found = Found::new(alloc, shell, Vec::from_slice(alloc, &like)?);
-    try_all(alloc, &facts, &like, &mut found)?;
-    settle(alloc, &mut found)?;
-    Ok(found.remedies)
+    let mut memory = Memory::new(alloc);
+    let remedies = remedies_of(&mut memory, solid, known, shell, below);
+    if memory.has_run_out() {
+        return Err(NoMemory);
+    }
+    Ok(remedies)
 }

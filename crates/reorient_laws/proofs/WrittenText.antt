@@ -2,14 +2,11 @@
 use Rattle.std.specs.Prelude.{◌≡◌, ℕ, ◌+◌, ◌*◌, Bool, true, false, ℤ, pos, List, [], ◌∷◌, map, if◌then◌else◌}
 use Rattle.std.specs.List.{AllByRecursion, enumerate_from, list_all}
 use Rattle.std.specs.Ordering.{int_eq}
-use Rattle.std.proofs.Common.{refl, sym, ◌∙◌, subst, inl, inr}
+use Rattle.std.proofs.Common.{refl, sym, subst}
 use Rattle.std.proofs.lemmas.Bool.{and_parts, and_from}
 use Rattle.iges_fields.specs.InLine.{is_value}
 use Rattle.iges_fields.specs.declared.value.Value.{Value}
 use Rattle.iges_params.specs.Contents.{Contents}
-use Rattle.iges_params.specs.IsFile.{IsFile}
-use Rattle.iges_params.specs.Refusal.{IsOnly, HasOneReading}
-use Rattle.iges_params.proofs.FileExact.{one_reading}
 use Rattle.iges_write.specs.Writable.{IsHeld, IsWritable}
 use Rattle.iges_write.proofs.FileBack.{reads_back}
 use Rattle.iges_write.proofs.Made.{can_be_made}
@@ -18,7 +15,7 @@ use Rattle.brep_lists.specs.declared.entity_kind.EntityKind.TheVariants.{Shell a
 use Rattle.brep_walk.specs.Places.{shells, numbers}
 use Rattle.entry_references.specs.Refs.{Record}
 use Rattle.solid_extract.specs.Extracted.{new_number}
-use Rattle.extraction_laws.proofs.WrittenText.{extracted_is_writable}
+use Rattle.extraction_laws.proofs.WrittenText.{extracted_is_writable, only_file}
 use Rattle.solid_reorient.specs.Reflagged.{flag_value, pairs_with, values_with, flags_for, reflagged_values, reflagged_record, reflagged}
 use Rattle.solid_reorient.proofs.Kept.{made_with}
 use Rattle.reorient_laws.specs.Written.{ReorientedIsWritable, WrittenIsReoriented}
@@ -70,14 +67,6 @@ writable_with g n flags w = record {
 pub reoriented_writable : ReorientedIsWritable
 reoriented_writable f new n w r =
     subst IsWritable (sym r.is) (writable_with r.«between» (new_number r.extracted.kept n) r.flags (extracted_is_writable f r.«between» n w r.extracted))
-
--- a file of a text is the only one
-only_file : (text : List ℕ) (f : Contents) → IsFile text f → IsOnly (IsFile text) f
-only_file text f is = by_reading (one_reading text)
-  where
-    by_reading : HasOneReading text → IsOnly (IsFile text) f
-    by_reading (inl one) = (is, λ other h. one.1.1 other h ∙ sym (one.1.1 f is))
-    by_reading (inr none) = absurd (none.2 f is)
 
 pub written_reoriented : WrittenIsReoriented
 written_reoriented bytes text f new n w =

@@ -121,23 +121,31 @@ reorient_judgement n f a t (reorient.unoriented none owed) = unoriented_judgemen
 reorient_judgement n f a t (reorient.not_reoriented x flags entity why refused) = tt
 reorient_judgement n f a t (reorient.reoriented new is owed) = written_judgement new a t owed
 
+placed_judgement : (n : ℕ) (f : Contents) (twice : _) (a : Answer) (t : List ℕ) → mend.OfPlaced n f twice a t → IsJudgement a
+placed_judgement n f twice a t (mend.not_extracted entity why refused) = tt
+placed_judgement n f twice a t (mend.closed g extracted closed owed) = written_judgement g a t owed
+placed_judgement n f twice a t (mend.mended x fails g m cs new is owed) = written_judgement new a t owed
+placed_judgement n f twice a t (mend.unmended g extracted x fails why) = tt
+
 mend_judgement : (n : ℕ) (f : Contents) (a : Answer) (t : List ℕ) → OfMend n f a t → IsJudgement a
-mend_judgement n f a t (mend.not_extracted entity why refused) = tt
-mend_judgement n f a t (mend.misplaced g extracted x first) = tt
-mend_judgement n f a t (mend.closed g extracted closed owed) = written_judgement g a t owed
-mend_judgement n f a t (mend.mended x fails g m cs new is owed) = written_judgement new a t owed
-mend_judgement n f a t (mend.unmended g extracted x fails why) = tt
+mend_judgement n f a t (mend.placed owed) = placed_judgement n f _ a t owed
+mend_judgement n f a t (mend.again g extracted x twice owed) = placed_judgement n _ _ a t owed
+mend_judgement n f a t (mend.misplaced g extracted x first other) = tt
 
 told_judgement : (f : Contents) (text : List ℕ) (a : Answer) (t : List ℕ) → OfTold f text a t → IsJudgement a
 told_judgement f text a t (mended.too_large all is many) = tt
 told_judgement f text a t (mended.told_so all is few) = tt
 
+told_placed_judgement : (n : ℕ) (f : Contents) (twice : _) (ds : _) (a : Answer) (t : List ℕ) → mended.OfToldPlaced n f twice ds a t → IsJudgement a
+told_placed_judgement n f twice ds a t (mended.not_extracted entity why refused) = tt
+told_placed_judgement n f twice ds a t (mended.closed g extracted closed owed) = told_judgement g _ a t owed
+told_placed_judgement n f twice ds a t (mended.mended x fails g m cs new is numbers owed) = told_judgement new _ a t owed
+told_placed_judgement n f twice ds a t (mended.unmended g extracted x fails why) = tt
+
 mended_judgement : (n : ℕ) (f : Contents) (a : Answer) (t : List ℕ) → OfMended n f a t → IsJudgement a
-mended_judgement n f a t (mended.not_extracted entity why refused) = tt
-mended_judgement n f a t (mended.misplaced g extracted x first) = tt
-mended_judgement n f a t (mended.closed g extracted closed owed) = told_judgement g _ a t owed
-mended_judgement n f a t (mended.mended x fails g m cs new is numbers owed) = told_judgement new _ a t owed
-mended_judgement n f a t (mended.unmended g extracted x fails why) = tt
+mended_judgement n f a t (mended.placed owed) = told_placed_judgement n f _ _ a t owed
+mended_judgement n f a t (mended.again g extracted x twice owed) = told_placed_judgement n _ _ _ a t owed
+mended_judgement n f a t (mended.misplaced g extracted x first other) = tt
 
 due_judgement : (q : Request) (bytes : List ℕ) (a : Answer) (t : List ℕ) → DueOf q bytes a t → IsJudgement a
 due_judgement (request.Lines c) bytes a t due = lines_judgement c bytes a t due

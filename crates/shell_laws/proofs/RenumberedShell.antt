@@ -1,7 +1,7 @@
 -- A shell that is closed in one solid is closed in another that has it under other numbers.
-use Rattle.std.specs.Prelude.{◌≡◌, ℕ, zero, suc, ◌==◌, ◌&&◌, ◌||◌, Bool, true, false, not, cond, List, [], ◌∷◌, length, map}
-use Rattle.std.specs.Prelude.{count_by, Some, slice_get, if◌then◌else◌}
-use Rattle.std.specs.List.{AllByRecursion, AllZip, list_any}
+use Rattle.std.specs.Prelude.{◌≡◌, ℕ, zero, suc, ◌==◌, ◌&&◌, Bool, true, false, not, cond, List, [], ◌∷◌, length, map}
+use Rattle.std.specs.Prelude.{count_by, Some, slice_get}
+use Rattle.std.specs.List.{AllByRecursion, AllZip}
 use Rattle.std.proofs.Common.{refl, sym, ◌∙◌, ap, subst, arith, inl, inr, ⊎_elim}
 use Rattle.std.proofs.lemmas.Bool.Decides.{eqb_tells}
 use Rattle.std.proofs.lemmas.List.{map-append}
@@ -9,7 +9,6 @@ use Rattle.std.proofs.lemmas.Option.{slice_get_within}
 use Rattle.solid_data.specs.Chain.{Steps}
 use Rattle.solid_data.specs.Ring.{next_of_each, numbers_from}
 use Rattle.solid_data.specs.SolidData.{SolidData, PlacedLoop, placed_loops, shell_uses, shell_edges, shell_vertices, edge_used, ends_of, vertices_used}
-use Rattle.solid_data.specs.SolidData.{occurring}
 use Rattle.solid_data.specs.declared.solid.Edge.{Edge}
 use Rattle.solid_data.specs.declared.solid.EdgeId.{EdgeId}
 use Rattle.solid_data.specs.declared.solid.FaceUse.{FaceUse}
@@ -27,6 +26,7 @@ use Rattle.edge_uses.specs.Joins.{IsJoined, begin_of, start_of, end_of}
 use Rattle.edge_uses.specs.RowRelations.{IsPaired, AreMates, Turns, StartsAt, OnFace, point_count}
 use Rattle.edge_uses.specs.Around.{IsLinked, AreNeighbours, IsReached}
 use Rattle.edge_uses.specs.Before.{IsApart}
+use Rattle.edge_uses.proofs.Occurs.{from_occurring}
 use Rattle.edge_uses.proofs.RowFacts.{edges_known, starts_known, points_known}
 use Rattle.edge_uses.proofs.Turn.{edge_id}
 use Rattle.shell_rules.specs.Closed.{IsClosedShell}
@@ -35,23 +35,6 @@ use Rattle.shell_laws.proofs.RenumberedRows.{renumbered_row, renumbered_point, A
 use Rattle.shell_laws.proofs.TurnedShell.{get_mapped, get_unmapped, total-map}
 
 -- ---- lists of numbers
-
-any_has : (ids : List ℕ) (n : ℕ) → list_any (λ m. m == n) ids ≡ true → Has ids n
-any_has [] n h = absurd cc
-any_has (m ∷ ids) n h =
-    ⊎_elim (λ y. inl y.1) (λ no_match. inr (any_has ids n (sym (ap (λ b. b || list_any (λ k. k == n) ids) no_match.0) ∙ h))) (eqb_tells m n)
-
--- a number that occurs is in the list
-pub occurring_in : (ns ids : List ℕ) (v : ℕ) → Has (occurring ns ids) v → Has ids v
-occurring_in [] ids v h = absurd h
-occurring_in (n ∷ ns) ids v h = by_test (list_any (λ m. m == n) ids) refl h (occurring_in ns ids v)
-  where
-    by_test : (b : Bool) → list_any (λ m. m == n) ids ≡ b → Has (if b then n ∷ occurring ns ids else occurring ns ids) v → (Has (occurring ns ids) v
-        → Has ids v)
-        → Has ids v
-    by_test true e (inl same) more = subst (Has ids) same (any_has ids n e)
-    by_test true e (inr m) more = more m
-    by_test false e m more = more m
 
 same_test : (n m p q : ℕ) → (n ≡ m → p ≡ q) → (p ≡ q → n ≡ m) → (p == q) ≡ (n == m)
 same_test n m p q there back =
@@ -105,11 +88,11 @@ module _ (r : Renumbering) (s t : SolidData) (a b : Shell) (h : IsRenumbered r s
 
   edge_used_here : (e : ℕ) → Has c.edges e → Has (shell_edges a) e
   unfolding shell_rows
-  edge_used_here e m = occurring_in (numbers_from 0 (length s.edges)) (shell_edges a) e m
+  edge_used_here e m = from_occurring (numbers_from 0 (length s.edges)) (shell_edges a) e m
 
   vertex_used_here : (v : ℕ) → Has c.vertices v → Has (shell_vertices s a) v
   unfolding shell_rows
-  vertex_used_here v m = occurring_in (numbers_from 0 (length s.vertices)) (shell_vertices s a) v m
+  vertex_used_here v m = from_occurring (numbers_from 0 (length s.vertices)) (shell_vertices s a) v m
 
   row_edge : (x : Row) → Has c.rows x → Has (shell_edges a) x.edge.0
   row_edge x m = edge_used_here x.edge.0 (All-at _ c.rows (edges_known s a) x m)

@@ -1,8 +1,5 @@
 //! Lists that are read and written at any place: beyond the end there is nothing.
 
-use iges_base::NoMemory;
-use std::alloc::Global;
-
 /// No number.
 pub const NONE: u32 = u32::MAX;
 
@@ -53,14 +50,4 @@ pub fn is_set(list: &[bool], i: u32) -> bool {
 /// Writes whether it is true at a place.
 pub fn set(list: &mut [bool], i: u32, truth: bool) {
     put_item(list, i, truth);
-}
-
-/// So many times the same number.
-pub fn filled(alloc: Global, count: u32, n: u32) -> Result<Vec<u32>, NoMemory> {
-    Ok(vec![in alloc; n; count as usize]?)
-}
-
-/// So many times false.
-pub fn unset(alloc: Global, count: u32) -> Result<Vec<bool>, NoMemory> {
-    Ok(vec![in alloc; false; count as usize]?)
 }

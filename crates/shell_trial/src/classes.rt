@@ -1,8 +1,7 @@
 //! Keys, and the numbers of the classes of equal ones.
 
-use crate::cells::{filled, item_at, put};
-use iges_base::NoMemory;
-use std::alloc::Global;
+use crate::cells::{item_at, put};
+use crate::memory::Memory;
 
 /// Four numbers that are compared, and whose they are.
 #[derive(Clone, Copy, PartialEq, Eq, PartialOrd, Ord)]
@@ -31,10 +30,10 @@ fn are_alike(a: Key, b: Key) -> bool {
 }
 
 /// For each place below the count the number of the class of its key, from 0 by rising keys; 0 where there is none.
-pub fn classes_of(alloc: Global, keys: Vec<Key>, count: u32) -> Result<Vec<u32>, NoMemory> {
+pub fn classes_of(memory: &mut Memory, keys: Vec<Key>, count: u32) -> Vec<u32> {
     let mut keys = keys;
-    keys.sort()?;
-    let mut out = filled(alloc, count, 0)?;
+    memory.sort(&mut keys);
+    let mut out = memory.filled(count, 0);
     let keys = keys.as_slice();
     let mut before = item_at(keys, 0, key_of(0, 0, 0));
     let mut class = 0u32;
@@ -46,5 +45,5 @@ pub fn classes_of(alloc: Global, keys: Vec<Key>, count: u32) -> Result<Vec<u32>,
         before = key;
         put(&mut out, key.place, class);
     }
-    Ok(out)
+    out
 }

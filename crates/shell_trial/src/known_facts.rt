@@ -3,12 +3,11 @@
 use crate::cells::{NONE, item_at, short};
 use crate::classes::{Key, classes_of};
 use crate::facts::{EdgeFact, Facts};
-use crate::reading::{Numbers, read_edges, read_faces, read_vertices};
+use crate::memory::Memory;
+use crate::reading::{Numbers, Read, read_edges, read_faces, read_vertices};
 use edge_uses::rows;
-use iges_base::NoMemory;
 use shell_change::{CurveKnown, Known};
-use solid_data::{Shell, ShellAt, Solid};
-use std::alloc::Global;
+use solid_data::{ShellAt, Solid};
 
 fn sure_key(edge: EdgeFact, place: u32) -> Key {
     let apart = edge.from_place != edge.to_place;
@@ -54,20 +53,20 @@ fn curve_key(curve: CurveKnown, place: u32) -> Key {
     }
 }
 
-fn sure_classes(alloc: Global, edges: &[EdgeFact]) -> Result<Vec<u32>, NoMemory> {
-    let mut keys = Vec::new(alloc);
+fn sure_classes(memory: &mut Memory, edges: &[EdgeFact]) -> Vec<u32> {
+    let mut keys = memory.list();
     'edges: for i in 0..edges.len() {
-        keys.push(sure_key(edges[i], short(i)))?;
+        memory.add(&mut keys, sure_key(edges[i], short(i)));
     }
-    classes_of(alloc, keys, short(edges.len()))
+    classes_of(memory, keys, short(edges.len()))
 }
 
-fn ends_classes(alloc: Global, edges: &[EdgeFact]) -> Result<Vec<u32>, NoMemory> {
-    let mut keys = Vec::new(alloc);
+fn ends_classes(memory: &mut Memory, edges: &[EdgeFact]) -> Vec<u32> {
+    let mut keys = memory.list();
     'edges: for i in 0..edges.len() {
-        keys.push(ends_key(edges[i], short(i)))?;
+        memory.add(&mut keys, ends_key(edges[i], short(i)));
     }
-    classes_of(alloc, keys, short(edges.len()))
+    classes_of(memory, keys, short(edges.len()))
 }
 
 const NO_CURVE: CurveKnown = CurveKnown {
@@ -75,14 +74,14 @@ const NO_CURVE: CurveKnown = CurveKnown {
     line: None,
 };
 
-fn curve_classes(alloc: Global, known: &Known, edges: &[EdgeFact]) -> Result<Vec<u32>, NoMemory> {
+fn curve_classes(memory: &mut Memory, known: &Known, edges: &[EdgeFact]) -> Vec<u32> {
     let curves = known.geometry.curves.as_slice();
-    let mut keys = Vec::new(alloc);
+    let mut keys = memory.list();
     'edges: for i in 0..edges.len() {
         let curve = item_at(curves, edges[i].number, NO_CURVE);
-        keys.push(curve_key(curve, short(i)))?;
+        memory.add(&mut keys, curve_key(curve, short(i)));
     }
-    classes_of(alloc, keys, short(edges.len()))
+    classes_of(memory, keys, short(edges.len()))
 }
 
 // How many faces the shells before a shell have.
@@ -99,22 +98,20 @@ fn faces_before(solid: &Solid, shell: ShellAt) -> u32 {
 }
 
 fn facts_with(
-    alloc: Global,
+    memory: &mut Memory,
     solid: &Solid,
     known: &Known,
     numbers: Numbers<'_>,
-    shell: &Shell,
-    first: u32,
+    read: Read,
     below: usize,
-) -> Result<Facts, NoMemory> {
-    let read = read_faces(alloc, known, numbers, shell, first)?;
-    let edges = read_edges(alloc, solid, known, numbers)?;
-    let vertices = read_vertices(alloc, known, numbers.vertices, below)?;
-    let sure = sure_classes(alloc, edges.as_slice())?;
-    let ends = ends_classes(alloc, edges.as_slice())?;
-    let curves = curve_classes(alloc, known, edges.as_slice())?;
-    Ok(Facts {
-        flag: shell.flag,
+) -> Facts {
+    let edges = read_edges(memory, solid, known, numbers);
+    let vertices = read_vertices(memory, known, numbers.vertices, below);
+    let sure = sure_classes(memory, edges.as_slice());
+    let ends = ends_classes(memory, edges.as_slice());
+    let curves = curve_classes(memory, known, edges.as_slice());
+    Facts {
+        flag: true,
         outer: true,
         faces: read.faces,
         loops: read.loops,
@@ -126,30 +123,35 @@ fn facts_with(
         sure,
         ends,
         curves,
-    })
+    }
 }
 
 /// What is known of a shell; None if the solid hasn't got it. The vertices of earlier shells lie below a number.
 pub fn facts_of(
-    alloc: Global,
+    memory: &mut Memory,
     solid: &Solid,
     known: &Known,
     shell: ShellAt,
     below: usize,
-) -> Result<Option<Facts>, NoMemory> {
+) -> Option<Facts> {
     if shell.0 as usize >= solid.shell_count() {
-        return Ok(None);
+        return None;
     }
     let first = faces_before(solid, shell);
-    let rows = rows(alloc, solid, shell)?;
+    let Ok(rows) = rows(memory.alloc(), solid, shell) else {
+        memory.run_out();
+        return None;
+    };
     let numbers = Numbers {
         edges: rows.edge_slice(),
         vertices: rows.vertex_slice(),
     };
     let Some(own) = solid.shell(shell) else {
-        return Ok(None);
+        return None;
     };
-    let mut facts = facts_with(alloc, solid, known, numbers, own, first, below)?;
+    let read = read_faces(memory, known, numbers, own, first);
+    let mut facts = facts_with(memory, solid, known, numbers, read, below);
+    facts.flag = own.flag;
     facts.outer = shell.0 == 0;
-    Ok(Some(facts))
+    Some(facts)
 }

@@ -9,16 +9,18 @@ mod classes;
 mod facts;
 mod known_facts;
 mod like_lists;
+mod memory;
 mod reading;
 mod sets;
 mod table;
 mod trial;
 
-pub use cells::{NONE, at, filled, is_set, item_at, more, put, put_item, set, short, unset};
+pub use cells::{NONE, at, is_set, item_at, more, put, put_item, set, short};
 pub use classes::{Key, classes_of, key_of};
 pub use facts::{EdgeFact, FaceFact, Facts, LoopFact, VertexFact};
 pub use known_facts::facts_of;
 pub use like_lists::{Entry, list_classes};
+pub use memory::Memory;
 pub use sets::{Found, Sets};
 pub use table::{Gap, Row, Table, mate, table_of, turn_of};
 pub use trial::{

@@ -1,9 +1,8 @@
 //! Which owners have equal lists of numbers, whatever their order.
 
-use crate::cells::{NONE, filled, item_at, put, short};
+use crate::cells::{NONE, item_at, put, short};
 use crate::classes::{Key, classes_of, key_of};
-use iges_base::NoMemory;
-use std::alloc::Global;
+use crate::memory::Memory;
 
 /// A number that an owner has.
 #[derive(Clone, Copy, PartialEq, Eq, PartialOrd, Ord)]
@@ -18,8 +17,8 @@ const NO_ENTRY: Entry = Entry {
 };
 
 // Each two entries of one owner, one after the other, as a key; the last one of an odd number alone.
-fn pairs(alloc: Global, entries: &[Entry]) -> Result<Vec<Key>, NoMemory> {
-    let mut out = Vec::new(alloc);
+fn pairs(memory: &mut Memory, entries: &[Entry]) -> Vec<Key> {
+    let mut out = memory.list();
     let mut count = 0u32;
     let mut taken = false;
     'entries: for i in 0..entries.len() {
@@ -31,15 +30,15 @@ fn pairs(alloc: Global, entries: &[Entry]) -> Result<Vec<Key>, NoMemory> {
         let next = item_at(entries, short(i).saturating_add(1), NO_ENTRY);
         taken = next.owner == entry.owner;
         let second = if taken { next.number } else { NONE };
-        out.push(key_of(entry.number, second, count))?;
+        memory.add(&mut out, key_of(entry.number, second, count));
         count = count.saturating_add(1);
     }
-    Ok(out)
+    out
 }
 
 // The owners of these pairs, with the numbers of their classes.
-fn halved(alloc: Global, entries: &[Entry], classes: &[u32]) -> Result<Vec<Entry>, NoMemory> {
-    let mut out = Vec::new(alloc);
+fn halved(memory: &mut Memory, entries: &[Entry], classes: &[u32]) -> Vec<Entry> {
+    let mut out = memory.list();
     let mut count = 0u32;
     let mut taken = false;
     'entries: for i in 0..entries.len() {
@@ -51,39 +50,39 @@ fn halved(alloc: Global, entries: &[Entry], classes: &[u32]) -> Result<Vec<Entry
         let next = item_at(entries, short(i).saturating_add(1), NO_ENTRY);
         taken = next.owner == owner;
         let number = item_at(classes, count, NONE);
-        out.push(Entry { owner, number })?;
+        memory.add(&mut out, Entry { owner, number });
         count = count.saturating_add(1);
     }
-    Ok(out)
+    out
 }
 
-fn half(alloc: Global, entries: &[Entry]) -> Result<Vec<Entry>, NoMemory> {
-    let keys = pairs(alloc, entries)?;
+fn half(memory: &mut Memory, entries: &[Entry]) -> Vec<Entry> {
+    let keys = pairs(memory, entries);
     let count = short(keys.len());
-    let classes = classes_of(alloc, keys, count)?;
-    halved(alloc, entries, classes.as_slice())
+    let classes = classes_of(memory, keys, count);
+    halved(memory, entries, classes.as_slice())
 }
 
-fn numbers(alloc: Global, entries: &[Entry], owners: u32) -> Result<Vec<u32>, NoMemory> {
-    let mut out = filled(alloc, owners, NONE)?;
+fn numbers(memory: &mut Memory, entries: &[Entry], owners: u32) -> Vec<u32> {
+    let mut out = memory.filled(owners, NONE);
     'entries: for i in 0..entries.len() {
         put(&mut out, entries[i].owner, entries[i].number);
     }
-    Ok(out)
+    out
 }
 
 /// A number for each owner: equal ones where their lists are, taken without order. `NONE` for one that has no number.
-pub fn list_classes(alloc: Global, entries: Vec<Entry>, owners: u32) -> Result<Vec<u32>, NoMemory> {
+pub fn list_classes(memory: &mut Memory, entries: Vec<Entry>, owners: u32) -> Vec<u32> {
     let mut entries = entries;
-    entries.sort()?;
+    memory.sort(&mut entries);
     // Each round halves the lists.
     'rounds: for _ in 0..32 {
-        let next = half(alloc, entries.as_slice())?;
+        let next = half(memory, entries.as_slice());
         let done = next.len() == entries.len();
         entries = next;
         if done {
             break 'rounds;
         }
     }
-    numbers(alloc, entries.as_slice(), owners)
+    numbers(memory, entries.as_slice(), owners)
 }

@@ -2,11 +2,10 @@
 
 use crate::cells::{NONE, item_at, short};
 use crate::facts::{EdgeFact, FaceFact, LoopFact, VertexFact};
+use crate::memory::Memory;
 use crate::trial::TrialUse;
-use iges_base::NoMemory;
 use shell_change::{ArcKnown, CurveKnown, Known};
 use solid_data::{EdgeId, FaceUse, Loop, LoopUse, Shell, Solid};
-use std::alloc::Global;
 
 /// The lists that the faces of a shell make.
 #[derive(Drop)]
@@ -48,89 +47,92 @@ fn use_of(numbers: Numbers<'_>, item: LoopUse) -> TrialUse {
     }
 }
 
-fn read_loop(
-    read: &mut Read,
-    numbers: Numbers<'_>,
-    walk: &Loop,
-    face: u32,
-) -> Result<(), NoMemory> {
+fn read_loop(memory: &mut Memory, read: &mut Read, numbers: Numbers<'_>, walk: &Loop, face: u32) {
     let uses = walk.uses.as_slice();
     let number = short(read.loops.len());
-    read.loops.push(LoopFact {
-        face,
-        first_use: short(read.uses.len()),
-        uses: short(uses.len()),
-    })?;
+    memory.add(
+        &mut read.loops,
+        LoopFact {
+            face,
+            first_use: short(read.uses.len()),
+            uses: short(uses.len()),
+        },
+    );
     'uses: for i in 0..uses.len() {
-        read.uses.push(use_of(numbers, uses[i]))?;
-        read.loop_of.push(number)?;
-        read.face_of.push(face)?;
+        memory.add(&mut read.uses, use_of(numbers, uses[i]));
+        memory.add(&mut read.loop_of, number);
+        memory.add(&mut read.face_of, face);
     }
-    Ok(())
 }
 
 fn read_face(
+    memory: &mut Memory,
     read: &mut Read,
     numbers: Numbers<'_>,
     face: &FaceUse,
     surface: u32,
-) -> Result<(), NoMemory> {
+) {
     let loops = face.loops.as_slice();
     let number = short(read.faces.len());
-    read.faces.push(FaceFact {
-        flag: face.flag,
-        surface,
-        first_loop: short(read.loops.len()),
-        loops: short(loops.len()),
-    })?;
+    memory.add(
+        &mut read.faces,
+        FaceFact {
+            flag: face.flag,
+            surface,
+            first_loop: short(read.loops.len()),
+            loops: short(loops.len()),
+        },
+    );
     'loops: for i in 0..loops.len() {
-        read_loop(read, numbers, &loops[i], number)?;
+        read_loop(memory, read, numbers, &loops[i], number);
     }
-    Ok(())
 }
 
 /// The faces of a shell; the first one's surface is at this place of the known ones.
 pub fn read_faces(
-    alloc: Global,
+    memory: &mut Memory,
     known: &Known,
     numbers: Numbers<'_>,
     shell: &Shell,
     first: u32,
-) -> Result<Read, NoMemory> {
+) -> Read {
     let mut read = Read {
-        faces: Vec::new(alloc),
-        loops: Vec::new(alloc),
-        uses: Vec::new(alloc),
-        loop_of: Vec::new(alloc),
-        face_of: Vec::new(alloc),
+        faces: memory.list(),
+        loops: memory.list(),
+        uses: memory.list(),
+        loop_of: memory.list(),
+        face_of: memory.list(),
     };
     let faces = shell.faces.as_slice();
     let surfaces = known.surfaces.as_slice();
     'faces: for i in 0..faces.len() {
         let surface = item_at(surfaces, first.saturating_add(short(i)), NONE);
-        read_face(&mut read, numbers, &faces[i], surface)?;
+        read_face(memory, &mut read, numbers, &faces[i], surface);
     }
-    Ok(read)
+    read
 }
 
 /// The vertices with these numbers; those of earlier shells lie below a number.
 pub fn read_vertices(
-    alloc: Global,
+    memory: &mut Memory,
     known: &Known,
     numbers: &[u32],
     below: usize,
-) -> Result<Vec<VertexFact>, NoMemory> {
+) -> Vec<VertexFact> {
     let places = known.geometry.places.as_slice();
-    let mut out = Vec::new(alloc);
+    let mut out = memory.list();
     'vertices: for i in 0..numbers.len() {
         let number = numbers[i];
-        out.push(VertexFact {
-            number,
-            place: item_at(places, number, NONE),
-            shared: (number as usize) < below,
-        })?;
+        memory.add(
+            &mut out,
+            VertexFact {
+                number,
+                place: item_at(places, number, NONE),
+                shared: (number as usize) < below,
+            },
+        );
     }
-    Ok(out)
+    out
 }
 
 const NO_CURVE: CurveKnown = CurveKnown {
@@ -162,14 +164,14 @@ fn edge_fact(solid: &Solid, known: &Known, numbers: Numbers<'_>, number: u32) ->
 
 /// The edges of a shell.
 pub fn read_edges(
-    alloc: Global,
+    memory: &mut Memory,
     solid: &Solid,
     known: &Known,
     numbers: Numbers<'_>,
-) -> Result<Vec<EdgeFact>, NoMemory> {
-    let mut out = Vec::new(alloc);
+) -> Vec<EdgeFact> {
+    let mut out = memory.list();
     'edges: for i in 0..numbers.edges.len() {
-        out.push(edge_fact(solid, known, numbers, numbers.edges[i]))?;
+        memory.add(&mut out, edge_fact(solid, known, numbers, numbers.edges[i]));
     }
-    Ok(out)
+    out
 }

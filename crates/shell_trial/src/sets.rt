@@ -1,8 +1,7 @@
 //! Sets that are joined, each member on one of two sides.
 
-use crate::cells::{NONE, at, filled, is_set, put, set, unset};
-use iges_base::NoMemory;
-use std::alloc::Global;
+use crate::cells::{NONE, at, is_set, put, set};
+use crate::memory::Memory;
 
 /// The least member of a set, and whether a member is on its other side.
 #[derive(Clone, Copy)]
@@ -19,21 +18,21 @@ pub struct Sets {
     other: Vec<bool>,
 }
 
-fn singles(alloc: Global, count: u32) -> Result<Vec<u32>, NoMemory> {
-    let mut out = filled(alloc, count, 0)?;
+fn singles(memory: &mut Memory, count: u32) -> Vec<u32> {
+    let mut out = memory.filled(count, 0);
     'numbers: for i in 0..count {
         put(&mut out, i, i);
     }
-    Ok(out)
+    out
 }
 
 impl Sets {
     /// Each number below the count alone.
-    pub fn new(alloc: Global, count: u32) -> Result<Sets, NoMemory> {
-        Ok(Sets {
-            parents: singles(alloc, count)?,
-            other: unset(alloc, count)?,
-        })
+    pub fn new(memory: &mut Memory, count: u32) -> Sets {
+        Sets {
+            parents: singles(memory, count),
+            other: memory.unset(count),
+        }
     }
 
     /// The set of a number.

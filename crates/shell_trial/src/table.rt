@@ -1,10 +1,9 @@
 //! The rows of a trial: the uses of edges by the faces that it keeps.
 
-use crate::cells::{NONE, at, filled, is_set, item_at, more, put, put_item, short};
+use crate::cells::{NONE, at, is_set, item_at, more, put, put_item, short};
 use crate::facts::{Facts, LoopFact};
+use crate::memory::Memory;
 use crate::trial::{Trial, TrialUse};
-use iges_base::NoMemory;
-use std::alloc::Global;
 
 /// A row, by the number of its use.
 #[derive(Clone, Copy)]
@@ -102,7 +101,7 @@ fn row_of(trial: &Trial, item: TrialUse, back: bool) -> Row {
     }
 }
 
-fn add_gaps(trial: &Trial, table: &mut Table, number: u32, walk: LoopFact) -> Result<(), NoMemory> {
+fn add_gaps(memory: &mut Memory, trial: &Trial, table: &mut Table, number: u32, walk: LoopFact) {
     'uses: for t in 0..walk.uses {
         let here = walk.first_use.saturating_add(t);
         let last = t + 1 >= walk.uses;
@@ -114,14 +113,16 @@ fn add_gaps(trial: &Trial, table: &mut Table, number: u32, walk: LoopFact) -> Re
         let (_, end) = bare_ends(trial, trial.item(here));
         let (start, _) = bare_ends(trial, trial.item(after));
         if end != start {
-            table.gaps.push(Gap {
-                at_loop: number,
-                end,
-                start,
-            })?;
+            memory.add(
+                &mut table.gaps,
+                Gap {
+                    at_loop: number,
+                    end,
+                    start,
+                },
+            );
         }
     }
-    Ok(())
 }
 
 fn link(table: &mut Table, before: u32, after: u32, back: bool) {
@@ -153,17 +154,16 @@ fn add_rows(trial: &Trial, table: &mut Table, walk: LoopFact, back: bool) {
     }
 }
 
-fn add_loops(facts: &Facts, trial: &Trial, table: &mut Table) -> Result<(), NoMemory> {
+fn add_loops(memory: &mut Memory, facts: &Facts, trial: &Trial, table: &mut Table) {
     'loops: for i in 0..facts.loops.len() {
         let number = short(i);
         let walk = facts.walk(number);
         if at(&trial.pieces, walk.face) != NONE {
             let back = is_set(&trial.flags, walk.face) != facts.flag;
             add_rows(trial, table, walk, back);
-            add_gaps(trial, table, number, walk)?;
+            add_gaps(memory, trial, table, number, walk);
         }
     }
-    Ok(())
 }
 
 // Chains the rows of each edge, from the first on.
@@ -181,17 +181,17 @@ fn add_chains(table: &mut Table, uses: u32) {
 }
 
 /// The rows of a trial.
-pub fn table_of(alloc: Global, facts: &Facts, trial: &Trial) -> Result<Table, NoMemory> {
+pub fn table_of(memory: &mut Memory, facts: &Facts, trial: &Trial) -> Table {
     let edges = short(trial.edges.len());
     let mut table = Table {
-        rows: vec![in alloc; NO_ROW; trial.uses.len()]?,
-        first: filled(alloc, edges, NONE)?,
-        count: filled(alloc, edges, 0)?,
-        gaps: Vec::new(alloc),
+        rows: memory.many(short(trial.uses.len()), NO_ROW),
+        first: memory.filled(edges, NONE),
+        count: memory.filled(edges, 0),
+        gaps: memory.list(),
     };
-    add_loops(facts, trial, &mut table)?;
+    add_loops(memory, facts, trial, &mut table);
     add_chains(&mut table, short(trial.uses.len()));
-    Ok(table)
+    table
 }
 
 /// The mate of a row; `NONE` where it has none.

@@ -1,9 +1,8 @@
 //! A shell while steps change it.
 
-use crate::cells::{NONE, filled, item_at, put_item, short, unset};
+use crate::cells::{NONE, item_at, put_item, short};
 use crate::facts::{EdgeFact, FaceFact, Facts};
-use iges_base::NoMemory;
-use std::alloc::Global;
+use crate::memory::Memory;
 
 /// A use of an edge or of a vertex.
 #[derive(Clone, Copy)]
@@ -122,17 +121,17 @@ impl Trial {
     }
 
     /// One more edge; its number.
-    pub fn add_edge(&mut self, edge: TrialEdge) -> Result<u32, NoMemory> {
+    pub fn add_edge(&mut self, memory: &mut Memory, edge: TrialEdge) -> u32 {
         let number = short(self.edges.len());
-        self.edges.push(edge)?;
-        Ok(number)
+        memory.add(&mut self.edges, edge);
+        number
     }
 
     /// One more vertex; its number.
-    pub fn add_vertex(&mut self, vertex: TrialVertex) -> Result<u32, NoMemory> {
+    pub fn add_vertex(&mut self, memory: &mut Memory, vertex: TrialVertex) -> u32 {
         let number = short(self.vertices.len());
-        self.vertices.push(vertex)?;
-        Ok(number)
+        memory.add(&mut self.vertices, vertex);
+        number
     }
 
     pub fn pay(&mut self, cost: u32) {
@@ -140,72 +139,78 @@ impl Trial {
     }
 }
 
-fn first_edges(alloc: Global, edges: &[EdgeFact]) -> Result<Vec<TrialEdge>, NoMemory> {
-    let mut out = Vec::new(alloc);
+fn first_edges(memory: &mut Memory, edges: &[EdgeFact]) -> Vec<TrialEdge> {
+    let mut out = memory.list();
     'edges: for i in 0..edges.len() {
         let edge = edges[i];
-        out.push(TrialEdge {
-            like: short(i),
-            from: edge.from,
-            to: edge.to,
-            split: false,
-        })?;
+        memory.add(
+            &mut out,
+            TrialEdge {
+                like: short(i),
+                from: edge.from,
+                to: edge.to,
+                split: false,
+            },
+        );
     }
-    Ok(out)
+    out
 }
 
-fn first_vertices(alloc: Global, count: u32) -> Result<Vec<TrialVertex>, NoMemory> {
-    let mut out = Vec::new(alloc);
+fn first_vertices(memory: &mut Memory, count: u32) -> Vec<TrialVertex> {
+    let mut out = memory.list();
     'vertices: for like in 0..count {
-        out.push(TrialVertex {
-            like,
-            kind: VertexKind::Own,
-        })?;
+        memory.add(
+            &mut out,
+            TrialVertex {
+                like,
+                kind: VertexKind::Own,
+            },
+        );
     }
-    Ok(out)
+    out
 }
 
-fn first_flags(alloc: Global, faces: &[FaceFact]) -> Result<Vec<bool>, NoMemory> {
-    let mut out = Vec::new(alloc);
+fn first_flags(memory: &mut Memory, faces: &[FaceFact]) -> Vec<bool> {
+    let mut out = memory.list();
     'faces: for i in 0..faces.len() {
-        out.push(faces[i].flag)?;
+        memory.add(&mut out, faces[i].flag);
     }
-    Ok(out)
+    out
 }
 
 /// A shell before anything is changed.
-pub fn first_trial(alloc: Global, facts: &Facts) -> Result<Trial, NoMemory> {
+pub fn first_trial(memory: &mut Memory, facts: &Facts) -> Trial {
     let faces = short(facts.faces.len());
-    Ok(Trial {
-        uses: Vec::from_slice(alloc, &facts.uses)?,
-        reversed: unset(alloc, short(facts.loops.len()))?,
-        flags: first_flags(alloc, &facts.faces)?,
-        pieces: filled(alloc, faces, 0)?,
+    Trial {
+        uses: memory.copied(&facts.uses),
+        reversed: memory.unset(short(facts.loops.len())),
+        flags: first_flags(memory, &facts.faces),
+        pieces: memory.filled(faces, 0),
         piece_count: 1,
-        edges: first_edges(alloc, &facts.edges)?,
-        vertices: first_vertices(alloc, short(facts.vertices.len()))?,
-        rims: Vec::new(alloc),
-        rim_rows: Vec::new(alloc),
+        edges: first_edges(memory, &facts.edges),
+        vertices: first_vertices(memory, short(facts.vertices.len())),
+        rims: memory.list(),
+        rim_rows: memory.list(),
         cost: 0,
         sure: true,
         split: 0,
-    })
+    }
 }
 
 /// The same again.
-pub fn copy_of(alloc: Global, trial: &Trial) -> Result<Trial, NoMemory> {
-    Ok(Trial {
-        uses: Vec::from_slice(alloc, &trial.uses)?,
-        reversed: Vec::from_slice(alloc, &trial.reversed)?,
-        flags: Vec::from_slice(alloc, &trial.flags)?,
-        pieces: Vec::from_slice(alloc, &trial.pieces)?,
+pub fn copy_of(memory: &mut Memory, trial: &Trial) -> Trial {
+    Trial {
+        uses: memory.copied(&trial.uses),
+        reversed: memory.copied(&trial.reversed),
+        flags: memory.copied(&trial.flags),
+        pieces: memory.copied(&trial.pieces),
         piece_count: trial.piece_count,
-        edges: Vec::from_slice(alloc, &trial.edges)?,
-        vertices: Vec::from_slice(alloc, &trial.vertices)?,
-        rims: Vec::from_slice(alloc, &trial.rims)?,
-        rim_rows: Vec::from_slice(alloc, &trial.rim_rows)?,
+        edges: memory.copied(&trial.edges),
+        vertices: memory.copied(&trial.vertices),
+        rims: memory.copied(&trial.rims),
+        rim_rows: memory.copied(&trial.rim_rows),
         cost: trial.cost,
         sure: trial.sure,
         split: trial.split,
-    })
+    }
 }

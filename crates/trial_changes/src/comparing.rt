@@ -1,9 +1,7 @@
 //! Whether two changes of one shell do the same.
 
-use iges_base::NoMemory;
 use shell_change::{Change, FaceNow, Fate, LoopNow, Seam, Told};
-use shell_trial::at;
-use std::alloc::Global;
+use shell_trial::{Memory, at};
 
 fn loops_are_alike(a: &[LoopNow], b: &[LoopNow]) -> bool {
     'loops: for i in 0..a.len() {
@@ -65,36 +63,31 @@ pub fn are_alike(a: &Change, b: &Change) -> bool {
 }
 
 // For each face that is removed the first one that is like it, by rising number.
-fn removed(alloc: Global, change: &Change, like: &[u32]) -> Result<Vec<u32>, NoMemory> {
+fn removed(memory: &mut Memory, change: &Change, like: &[u32]) -> Vec<u32> {
     let faces = change.faces.as_slice();
-    let mut out = Vec::new(alloc);
+    let mut out = memory.list();
     'faces: for i in 0..faces.len() {
         if i < like.len() {
             if let Fate::Removed = &faces[i] {
-                out.push(like[i])?;
+                memory.add(&mut out, like[i]);
             }
         }
     }
-    out.sort()?;
-    Ok(out)
+    memory.sort(&mut out);
+    out
 }
 
 /// Whether two changes remove the same faces, where those that are like each other count as one.
-pub fn removed_alike(
-    alloc: Global,
-    a: &Change,
-    b: &Change,
-    like: &[u32],
-) -> Result<bool, NoMemory> {
-    let a = removed(alloc, a, like)?;
-    let b = removed(alloc, b, like)?;
+pub fn removed_alike(memory: &mut Memory, a: &Change, b: &Change, like: &[u32]) -> bool {
+    let a = removed(memory, a, like);
+    let b = removed(memory, b, like);
     if a.len() != b.len() {
-        return Ok(false);
+        return false;
     }
     let mut same = true;
     'faces: for i in 0..a.len() {
         let i = shell_trial::short(i);
         same = same && at(&a, i) == at(&b, i);
     }
-    Ok(same)
+    same
 }

@@ -7,6 +7,7 @@ mod moving;
 mod naming;
 mod seaming;
 mod telling;
+mod views;
 
 pub use changing::change_of;
 pub use comparing::{are_alike, removed_alike};

@@ -1,10 +1,8 @@
 //! What the edges and the vertices of a trial are called.
 
-use iges_base::NoMemory;
 use shell_change::{EdgeName, VertexName};
-use shell_trial::{Facts, NONE, Trial, VertexKind, at, filled, put, short};
+use shell_trial::{Facts, Memory, NONE, Trial, VertexKind, at, put, short};
 use solid_data::{EdgeId, VertexId};
-use std::alloc::Global;
 
 /// The numbers of new edges and of new vertices.
 #[derive(Drop)]
@@ -53,51 +51,45 @@ pub(crate) fn edge_name(facts: &Facts, trial: &Trial, names: &Names, edge: u32) 
     EdgeName::New(at(&names.edge_numbers, edge))
 }
 
-fn name_vertex(
-    facts: &Facts,
-    trial: &Trial,
-    names: &mut Names,
-    vertex: u32,
-) -> Result<(), NoMemory> {
+fn name_vertex(memory: &mut Memory, facts: &Facts, trial: &Trial, names: &mut Names, vertex: u32) {
     if is_old_vertex(facts, trial, vertex) || at(&names.vertex_numbers, vertex) != NONE {
-        return Ok(());
+        return;
     }
     let number = short(names.vertices.len());
     put(&mut names.vertex_numbers, vertex, number);
-    names.vertices.push(vertex)?;
-    Ok(())
+    memory.add(&mut names.vertices, vertex);
 }
 
-fn name_edge(facts: &Facts, trial: &Trial, names: &mut Names, edge: u32) -> Result<(), NoMemory> {
+fn name_edge(memory: &mut Memory, facts: &Facts, trial: &Trial, names: &mut Names, edge: u32) {
     if is_old_edge(facts, trial, edge) || at(&names.edge_numbers, edge) != NONE {
-        return Ok(());
+        return;
     }
     let number = short(names.edges.len());
     put(&mut names.edge_numbers, edge, number);
-    names.edges.push(edge)?;
+    memory.add(&mut names.edges, edge);
     let own = trial.edge(edge);
-    name_vertex(facts, trial, names, own.from)?;
-    name_vertex(facts, trial, names, own.to)
+    name_vertex(memory, facts, trial, names, own.from);
+    name_vertex(memory, facts, trial, names, own.to)
 }
 
 /// Numbers new edges and new vertices as the uses of the faces that are kept first name them.
-pub(crate) fn names_of(alloc: Global, facts: &Facts, trial: &Trial) -> Result<Names, NoMemory> {
+pub(crate) fn names_of(memory: &mut Memory, facts: &Facts, trial: &Trial) -> Names {
     let mut names = Names {
-        edge_numbers: filled(alloc, short(trial.edges.len()), NONE)?,
-        vertex_numbers: filled(alloc, short(trial.vertices.len()), NONE)?,
-        edges: Vec::new(alloc),
-        vertices: Vec::new(alloc),
+        edge_numbers: memory.filled(short(trial.edges.len()), NONE),
+        vertex_numbers: memory.filled(short(trial.vertices.len()), NONE),
+        edges: memory.list(),
+        vertices: memory.list(),
     };
     'uses: for i in 0..trial.uses.len() {
         let i = short(i);
         if at(&trial.pieces, at(&facts.face_of, i)) != NONE {
             let item = trial.item(i);
             if item.on_edge {
-                name_edge(facts, trial, &mut names, item.item)?;
+                name_edge(memory, facts, trial, &mut names, item.item);
             } else {
-                name_vertex(facts, trial, &mut names, item.item)?;
+                name_vertex(memory, facts, trial, &mut names, item.item);
             }
         }
     }
-    Ok(names)
+    names
 }

@@ -1,23 +1,11 @@
 //! What the uses of a shell are after a trial.
 
 use crate::moving::{Moves, move_of};
-use crate::naming::{Names, edge_name, vertex_name};
-use crate::seaming::Seams;
-use iges_base::{ItemList, NoMemory};
+use crate::naming::{edge_name, vertex_name};
+use crate::views::Views;
+use iges_base::ItemList;
 use shell_change::{EdgeNow, LoopNow, UseNow};
-use shell_trial::{Facts, LoopFact, NONE, Trial, TrialUse, at, is_set};
-use std::alloc::Global;
-use trial_seams::Sewn;
-
-/// What is looked at when a use is told.
-#[derive(Clone, Copy)]
-pub(crate) struct Views<'a> {
-    pub(crate) facts: &'a Facts,
-    pub(crate) trial: &'a Trial,
-    pub(crate) sewn: &'a Sewn,
-    pub(crate) names: &'a Names,
-    pub(crate) seams: &'a Seams,
-}
+use shell_trial::{Facts, LoopFact, Memory, NONE, TrialUse, at, is_set};
 
 const NO_USE: TrialUse = TrialUse {
     on_edge: false,
@@ -87,12 +75,13 @@ fn seam_of(views: Views<'_>, before: TrialUse, now: TrialUse) -> Option<u32> {
 }
 
 fn edge_use(
+    memory: &mut Memory,
     views: Views<'_>,
     moves: &mut Moves,
     before: TrialUse,
     now: TrialUse,
-) -> Result<UseNow, NoMemory> {
-    let (facts, sewn, seams) = (views.facts, views.sewn, views.seams);
+) -> UseNow {
+    let facts = views.facts;
     let turned = is_turned(views, before, now);
     let old = facts.edge(before.item);
     let (start, end) = if before.along != turned {
@@ -100,49 +89,51 @@ fn edge_use(
     } else {
         (old.to, old.from)
     };
-    let start_by = move_of(facts, sewn, seams, moves, start)?;
-    let end_by = move_of(facts, sewn, seams, moves, end)?;
-    Ok(UseNow::OnEdge(EdgeNow {
+    let start_by = move_of(memory, views, moves, start);
+    let end_by = move_of(memory, views, moves, end);
+    UseNow::OnEdge(EdgeNow {
         edge: edge_name(facts, views.trial, views.names, now.item),
         along: now.along,
         turned,
         seam: seam_of(views, before, now),
         start_by,
         end_by,
-    }))
+    })
 }
 
 fn use_now(
+    memory: &mut Memory,
     views: Views<'_>,
     moves: &mut Moves,
     before: TrialUse,
     now: TrialUse,
-) -> Result<UseNow, NoMemory> {
+) -> UseNow {
     if now.on_edge {
-        return edge_use(views, moves, before, now);
+        return edge_use(memory, views, moves, before, now);
     }
-    let by = move_of(views.facts, views.sewn, views.seams, moves, before.item)?;
-    Ok(UseNow::AtVertex {
+    let by = move_of(memory, views, moves, before.item);
+    UseNow::AtVertex {
         vertex: vertex_name(views.facts, views.trial, views.names, now.item),
         by,
-    })
+    }
 }
 
 /// What a loop is after a trial.
 pub(crate) fn loop_now(
-    alloc: Global,
+    memory: &mut Memory,
     views: Views<'_>,
     moves: &mut Moves,
     number: u32,
-) -> Result<LoopNow, NoMemory> {
+) -> LoopNow {
     let walk = views.facts.walk(number);
     let turned = is_set(&views.trial.reversed, number);
     let reversed = turned && is_changed_by_reversing(views.facts, walk);
-    let mut uses = ItemList::new(alloc);
+    let mut uses = memory.items();
     'uses: for t in 0..walk.uses {
         let before = use_before(views.facts, walk, t, reversed);
         let now = views.trial.item(walk.first_use.saturating_add(t));
-        uses.push(use_now(views, moves, before, now)?)?;
+        let told = use_now(memory, views, moves, before, now);
+        memory.add_item(&mut uses, told);
     }
-    Ok(LoopNow { reversed, uses })
+    LoopNow { reversed, uses }
 }

@@ -1,9 +1,7 @@
 //! The crowded edges of each patch.
 
 use crate::patches::Patches;
-use iges_base::NoMemory;
-use shell_trial::{Facts, Key, NONE, Table, at, is_set, item_at, key_of, set, short, unset};
-use std::alloc::Global;
+use shell_trial::{Facts, Key, Memory, NONE, Table, at, is_set, item_at, key_of, set, short};
 
 /// How many rows of a crowded edge a patch has, of all.
 #[derive(Clone, Copy)]
@@ -21,23 +19,18 @@ pub(crate) const NO_CROWD: Crowd = Crowd {
     all: 0,
 };
 
-fn crowded_rows(
-    alloc: Global,
-    facts: &Facts,
-    table: &Table,
-    patches: &Patches,
-) -> Result<Vec<Key>, NoMemory> {
-    let mut out: Vec<Key> = Vec::new(alloc);
+fn crowded_rows(memory: &mut Memory, facts: &Facts, table: &Table, patches: &Patches) -> Vec<Key> {
+    let mut out: Vec<Key> = memory.list();
     'rows: for i in 0..table.rows.len() {
         let i = short(i);
         let row = table.row(i);
         if row.edge != NONE && table.rows_on(row.edge) > 2 {
             let patch = at(&patches.patch, at(&facts.face_of, i));
-            out.push(key_of(patch, row.edge, i))?;
+            memory.add(&mut out, key_of(patch, row.edge, i));
         }
     }
-    out.sort()?;
-    Ok(out)
+    memory.sort(&mut out);
+    out
 }
 
 const NO_KEY: Key = Key {
@@ -50,29 +43,32 @@ const NO_KEY: Key = Key {
 
 /// The crowded edges of each patch, by patch, then by edge.
 pub(crate) fn crowds_of(
-    alloc: Global,
+    memory: &mut Memory,
     facts: &Facts,
     table: &Table,
     patches: &Patches,
-) -> Result<Vec<Crowd>, NoMemory> {
-    let rows = crowded_rows(alloc, facts, table, patches)?;
-    let mut out = Vec::new(alloc);
+) -> Vec<Crowd> {
+    let rows = crowded_rows(memory, facts, table, patches);
+    let mut out = memory.list();
     let mut own = 0u32;
     'rows: for i in 0..rows.len() {
         let key = rows[i];
         let next = item_at(&rows, short(i).saturating_add(1), NO_KEY);
         own = own.saturating_add(1);
         if next.first != key.first || next.second != key.second {
-            out.push(Crowd {
-                patch: key.first,
-                edge: key.second,
-                own,
-                all: table.rows_on(key.second),
-            })?;
+            memory.add(
+                &mut out,
+                Crowd {
+                    patch: key.first,
+                    edge: key.second,
+                    own,
+                    all: table.rows_on(key.second),
+                },
+            );
             own = 0;
         }
     }
-    Ok(out)
+    out
 }
 
 /// Whether so many rows without some leave none, or two.
@@ -81,12 +77,8 @@ pub(crate) fn leaves_well(all: u32, own: u32) -> bool {
 }
 
 /// Which patches are clean.
-pub(crate) fn clean_patches(
-    alloc: Global,
-    crowds: &[Crowd],
-    faces: u32,
-) -> Result<Vec<bool>, NoMemory> {
-    let mut clean = unset(alloc, faces)?;
+pub(crate) fn clean_patches(memory: &mut Memory, crowds: &[Crowd], faces: u32) -> Vec<bool> {
+    let mut clean = memory.unset(faces);
     'there: for i in 0..crowds.len() {
         set(&mut clean, crowds[i].patch, true);
     }
@@ -95,5 +87,5 @@ pub(crate) fn clean_patches(
         let well = is_set(&clean, crowd.patch) && leaves_well(crowd.all, crowd.own);
         set(&mut clean, crowd.patch, well);
     }
-    Ok(clean)
+    clean
 }

@@ -1,11 +1,9 @@
 //! Faces that are like each other by their records.
 
-use iges_base::NoMemory;
 use shell_trial::{
-    Entry, Facts, Key, NONE, TrialUse, at, classes_of, filled, is_set, key_of, list_classes, put,
-    set, short, unset,
+    Entry, Facts, Key, Memory, NONE, TrialUse, at, classes_of, is_set, key_of, list_classes, put,
+    set, short,
 };
-use std::alloc::Global;
 
 // What a use is, whatever its edge or vertex is called.
 fn use_key(facts: &Facts, item: TrialUse, place: u32) -> Key {
@@ -33,55 +31,58 @@ fn use_key(facts: &Facts, item: TrialUse, place: u32) -> Key {
     }
 }
 
-fn use_classes(alloc: Global, facts: &Facts) -> Result<Vec<u32>, NoMemory> {
-    let mut keys = Vec::new(alloc);
+fn use_classes(memory: &mut Memory, facts: &Facts) -> Vec<u32> {
+    let mut keys = memory.list();
     'uses: for i in 0..facts.uses.len() {
-        keys.push(use_key(facts, facts.uses[i], short(i)))?;
+        memory.add(&mut keys, use_key(facts, facts.uses[i], short(i)));
     }
-    classes_of(alloc, keys, short(facts.uses.len()))
+    classes_of(memory, keys, short(facts.uses.len()))
 }
 
-fn use_entries(alloc: Global, facts: &Facts, classes: &[u32]) -> Result<Vec<Entry>, NoMemory> {
-    let mut out = Vec::new(alloc);
+fn use_entries(memory: &mut Memory, facts: &Facts, classes: &[u32]) -> Vec<Entry> {
+    let mut out = memory.list();
     'uses: for i in 0..facts.uses.len() {
         let i = short(i);
-        out.push(Entry {
-            owner: at(&facts.face_of, i),
-            number: at(classes, i),
-        })?;
+        memory.add(
+            &mut out,
+            Entry {
+                owner: at(&facts.face_of, i),
+                number: at(classes, i),
+            },
+        );
     }
-    Ok(out)
+    out
 }
 
-fn with_edges(alloc: Global, facts: &Facts) -> Result<Vec<bool>, NoMemory> {
-    let mut out = unset(alloc, short(facts.faces.len()))?;
+fn with_edges(memory: &mut Memory, facts: &Facts) -> Vec<bool> {
+    let mut out = memory.unset(short(facts.faces.len()));
     'uses: for i in 0..facts.uses.len() {
         if facts.uses[i].on_edge {
             set(&mut out, at(&facts.face_of, short(i)), true);
         }
     }
-    Ok(out)
+    out
 }
 
-fn face_classes(alloc: Global, facts: &Facts, lists: &[u32]) -> Result<Vec<u32>, NoMemory> {
+fn face_classes(memory: &mut Memory, facts: &Facts, lists: &[u32]) -> Vec<u32> {
     let count = short(facts.faces.len());
-    let mut keys = Vec::new(alloc);
+    let mut keys = memory.list();
     'faces: for i in 0..count {
-        keys.push(key_of(facts.face(i).surface, at(lists, i), i))?;
+        memory.add(&mut keys, key_of(facts.face(i).surface, at(lists, i), i));
     }
-    classes_of(alloc, keys, count)
+    classes_of(memory, keys, count)
 }
 
 /// Of each face the first one that is like it, which may be itself.
-pub fn like_faces(alloc: Global, facts: &Facts) -> Result<Vec<u32>, NoMemory> {
+pub fn like_faces(memory: &mut Memory, facts: &Facts) -> Vec<u32> {
     let count = short(facts.faces.len());
-    let uses = use_classes(alloc, facts)?;
-    let entries = use_entries(alloc, facts, &uses)?;
-    let lists = list_classes(alloc, entries, count)?;
-    let classes = face_classes(alloc, facts, &lists)?;
-    let edged = with_edges(alloc, facts)?;
-    let mut first = filled(alloc, count, NONE)?;
-    let mut out = filled(alloc, count, NONE)?;
+    let uses = use_classes(memory, facts);
+    let entries = use_entries(memory, facts, &uses);
+    let lists = list_classes(memory, entries, count);
+    let classes = face_classes(memory, facts, &lists);
+    let edged = with_edges(memory, facts);
+    let mut first = memory.filled(count, NONE);
+    let mut out = memory.filled(count, NONE);
     'faces: for i in 0..count {
         let class = at(&classes, i);
         if !is_set(&edged, i) {
@@ -93,5 +94,5 @@ pub fn like_faces(alloc: Global, facts: &Facts) -> Result<Vec<u32>, NoMemory> {
             put(&mut out, i, at(&first, class));
         }
     }
-    Ok(out)
+    out
 }

@@ -1,8 +1,6 @@
 //! The parts and the patches of a shell.
 
-use iges_base::NoMemory;
-use shell_trial::{Facts, NONE, Sets, Table, Trial, at, filled, is_set, more, put, short};
-use std::alloc::Global;
+use shell_trial::{Facts, Memory, NONE, Sets, Table, Trial, at, is_set, more, put, short};
 use trial_steps::{By, sets_of};
 
 /// The parts and the patches of a shell, each by its first face.
@@ -26,50 +24,45 @@ pub(crate) struct Patches {
 }
 
 // Of each face that is kept the first face of its set.
-fn leasts(alloc: Global, trial: &Trial, sets: &mut Sets) -> Result<Vec<u32>, NoMemory> {
+fn leasts(memory: &mut Memory, trial: &Trial, sets: &mut Sets) -> Vec<u32> {
     let count = short(trial.pieces.len());
-    let mut out = filled(alloc, count, NONE)?;
+    let mut out = memory.filled(count, NONE);
     'faces: for i in 0..count {
         if at(&trial.pieces, i) != NONE {
             put(&mut out, i, sets.find(i).least);
         }
     }
-    Ok(out)
+    out
 }
 
-fn counts(alloc: Global, leasts: &[u32]) -> Result<Vec<u32>, NoMemory> {
-    let mut out = filled(alloc, short(leasts.len()), 0)?;
+fn counts(memory: &mut Memory, leasts: &[u32]) -> Vec<u32> {
+    let mut out = memory.filled(short(leasts.len()), 0);
     'faces: for i in 0..leasts.len() {
         more(&mut out, leasts[i]);
     }
-    Ok(out)
+    out
 }
 
-fn free_counts(
-    alloc: Global,
-    facts: &Facts,
-    table: &Table,
-    leasts: &[u32],
-) -> Result<Vec<u32>, NoMemory> {
-    let mut out = filled(alloc, short(leasts.len()), 0)?;
+fn free_counts(memory: &mut Memory, facts: &Facts, table: &Table, leasts: &[u32]) -> Vec<u32> {
+    let mut out = memory.filled(short(leasts.len()), 0);
     'rows: for i in 0..table.rows.len() {
         let i = short(i);
         if table.is_free(i) {
             more(&mut out, at(leasts, at(&facts.face_of, i)));
         }
     }
-    Ok(out)
+    out
 }
 
-fn rows_of_faces(alloc: Global, facts: &Facts, table: &Table) -> Result<Vec<u32>, NoMemory> {
-    let mut out = filled(alloc, short(facts.faces.len()), 0)?;
+fn rows_of_faces(memory: &mut Memory, facts: &Facts, table: &Table) -> Vec<u32> {
+    let mut out = memory.filled(short(facts.faces.len()), 0);
     'rows: for i in 0..table.rows.len() {
         let i = short(i);
         if table.row(i).edge != NONE {
             more(&mut out, at(&facts.face_of, i));
         }
     }
-    Ok(out)
+    out
 }
 
 fn sum_of(numbers: &[u32]) -> u32 {
@@ -91,21 +84,21 @@ fn some_of(numbers: &[u32]) -> u32 {
 }
 
 pub(crate) fn patches_of(
-    alloc: Global,
+    memory: &mut Memory,
     facts: &Facts,
     trial: &Trial,
     table: &Table,
-) -> Result<Patches, NoMemory> {
-    let mut parts = sets_of(alloc, facts, table, By::All)?;
-    let mut pairs = sets_of(alloc, facts, table, By::Pairs)?;
-    let part = leasts(alloc, trial, &mut parts)?;
-    let patch = leasts(alloc, trial, &mut pairs)?;
-    let part_faces = counts(alloc, &part)?;
-    let patch_faces = counts(alloc, &patch)?;
-    let part_free = free_counts(alloc, facts, table, &part)?;
-    let patch_free = free_counts(alloc, facts, table, &patch)?;
-    let face_rows = rows_of_faces(alloc, facts, table)?;
-    Ok(Patches {
+) -> Patches {
+    let mut parts = sets_of(memory, facts, table, By::All);
+    let mut pairs = sets_of(memory, facts, table, By::Pairs);
+    let part = leasts(memory, trial, &mut parts);
+    let patch = leasts(memory, trial, &mut pairs);
+    let part_faces = counts(memory, &part);
+    let patch_faces = counts(memory, &patch);
+    let part_free = free_counts(memory, facts, table, &part);
+    let patch_free = free_counts(memory, facts, table, &patch);
+    let face_rows = rows_of_faces(memory, facts, table);
+    Patches {
         faces: sum_of(&part_faces),
         rows: sum_of(&face_rows),
         part_count: some_of(&part_faces),
@@ -116,22 +109,18 @@ pub(crate) fn patches_of(
         part_free,
         patch_free,
         face_rows,
-    })
+    }
 }
 
 /// The faces of these parts, or of these patches.
-pub(crate) fn faces_of(
-    alloc: Global,
-    leasts: &[u32],
-    chosen: &[bool],
-) -> Result<Vec<u32>, NoMemory> {
-    let mut out = Vec::new(alloc);
+pub(crate) fn faces_of(memory: &mut Memory, leasts: &[u32], chosen: &[bool]) -> Vec<u32> {
+    let mut out = memory.list();
     'faces: for i in 0..leasts.len() {
         if is_set(chosen, leasts[i]) {
-            out.push(short(i))?;
+            memory.add(&mut out, short(i));
         }
     }
-    Ok(out)
+    out
 }
 
 /// How many rows faces have.

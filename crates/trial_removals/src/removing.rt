@@ -1,7 +1,6 @@
 //! Faces that are removed.
 
-use iges_base::NoMemory;
-use shell_trial::{NONE, Trial, put};
+use shell_trial::{Memory, NONE, Trial, put};
 
 /// Faces to remove, by rising number, and the cost.
 #[derive(Drop)]
@@ -31,12 +30,11 @@ fn are_same(a: &[u32], b: &[u32]) -> bool {
 }
 
 /// Puts a removal at the end, if these faces aren't there yet.
-pub(crate) fn add_new(out: &mut Vec<Removal>, removal: Removal) -> Result<(), NoMemory> {
+pub(crate) fn add_new(memory: &mut Memory, out: &mut Vec<Removal>, removal: Removal) {
     'removals: for i in 0..out.len() {
         if are_same(&out[i].faces, &removal.faces) {
-            return Ok(());
+            return;
         }
     }
-    out.push(removal)?;
-    Ok(())
+    memory.add(out, removal);
 }

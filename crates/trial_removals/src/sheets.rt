@@ -2,12 +2,9 @@
 
 use crate::crowding::{Crowd, leaves_well};
 use crate::patches::Patches;
-use iges_base::NoMemory;
 use shell_trial::{
-    Entry, Key, NONE, at, filled, is_set, item_at, key_of, list_classes, more, put, set, short,
-    unset,
+    Entry, Key, Memory, NONE, at, is_set, item_at, key_of, list_classes, more, put, set, short,
 };
-use std::alloc::Global;
 
 /// Patches by the class of their crowded edges.
 #[derive(Drop)]
@@ -18,26 +15,32 @@ pub(crate) struct Sheets {
     pub(crate) order: Vec<u32>,
 }
 
-fn classes(alloc: Global, crowds: &[Crowd], faces: u32) -> Result<Vec<u32>, NoMemory> {
-    let mut entries = Vec::new(alloc);
+fn classes(memory: &mut Memory, crowds: &[Crowd], faces: u32) -> Vec<u32> {
+    let mut entries = memory.list();
     'crowds: for i in 0..crowds.len() {
-        entries.push(Entry {
-            owner: crowds[i].patch,
-            number: crowds[i].edge,
-        })?;
+        memory.add(
+            &mut entries,
+            Entry {
+                owner: crowds[i].patch,
+                number: crowds[i].edge,
+            },
+        );
     }
-    list_classes(alloc, entries, faces)
+    list_classes(memory, entries, faces)
 }
 
 // The crowds by class and edge; each key ends with a place of the crowds.
-fn by_class(alloc: Global, crowds: &[Crowd], class: &[u32]) -> Result<Vec<Key>, NoMemory> {
-    let mut keys: Vec<Key> = Vec::new(alloc);
+fn by_class(memory: &mut Memory, crowds: &[Crowd], class: &[u32]) -> Vec<Key> {
+    let mut keys: Vec<Key> = memory.list();
     'crowds: for i in 0..crowds.len() {
         let crowd = crowds[i];
-        keys.push(key_of(at(class, crowd.patch), crowd.edge, short(i)))?;
+        memory.add(
+            &mut keys,
+            key_of(at(class, crowd.patch), crowd.edge, short(i)),
+        );
     }
-    keys.sort()?;
-    Ok(keys)
+    memory.sort(&mut keys);
+    keys
 }
 
 const NO_KEY: Key = Key {
@@ -49,13 +52,8 @@ const NO_KEY: Key = Key {
 };
 
 // The classes of which all patches together leave some edge with other than none or two rows.
-fn bad_classes(
-    alloc: Global,
-    crowds: &[Crowd],
-    keys: &[Key],
-    faces: u32,
-) -> Result<Vec<bool>, NoMemory> {
-    let mut bad = unset(alloc, faces)?;
+fn bad_classes(memory: &mut Memory, crowds: &[Crowd], keys: &[Key], faces: u32) -> Vec<bool> {
+    let mut bad = memory.unset(faces);
     let mut own = 0u32;
     'keys: for i in 0..keys.len() {
         let key = keys[i];
@@ -72,20 +70,15 @@ fn bad_classes(
             }
         }
     }
-    Ok(bad)
+    bad
 }
 
 // The classes of two patches or more that aren't bad, those of fewest faces first.
-fn good_classes(
-    alloc: Global,
-    patches: &Patches,
-    class: &[u32],
-    bad: &[bool],
-) -> Result<Vec<u32>, NoMemory> {
+fn good_classes(memory: &mut Memory, patches: &Patches, class: &[u32], bad: &[bool]) -> Vec<u32> {
     let count = short(class.len());
-    let mut members = filled(alloc, count, 0)?;
-    let mut sizes = filled(alloc, count, 0)?;
-    let mut firsts = filled(alloc, count, NONE)?;
+    let mut members = memory.filled(count, 0);
+    let mut sizes = memory.filled(count, 0);
+    let mut firsts = memory.filled(count, NONE);
     'patches: for patch in 0..count {
         let own = at(class, patch);
         if own != NONE {
@@ -96,44 +89,40 @@ fn good_classes(
             put(&mut firsts, own, first);
         }
     }
-    let mut keys: Vec<Key> = Vec::new(alloc);
+    let mut keys: Vec<Key> = memory.list();
     'classes: for own in 0..count {
         if item_at(&members, own, 0) > 1 && !is_set(bad, own) {
-            keys.push(key_of(at(&sizes, own), at(&firsts, own), own))?;
+            memory.add(&mut keys, key_of(at(&sizes, own), at(&firsts, own), own));
         }
     }
-    keys.sort()?;
-    let mut out = Vec::new(alloc);
+    memory.sort(&mut keys);
+    let mut out = memory.list();
     'keys: for i in 0..keys.len() {
-        out.push(keys[i].place)?;
+        memory.add(&mut out, keys[i].place);
     }
-    Ok(out)
+    out
 }
 
 /// The sets of patches with the same crowded edges that may go together.
 pub(crate) fn sheets_of(
-    alloc: Global,
+    memory: &mut Memory,
     patches: &Patches,
     crowds: &[Crowd],
     faces: u32,
-) -> Result<Sheets, NoMemory> {
-    let class = classes(alloc, crowds, faces)?;
-    let keys = by_class(alloc, crowds, &class)?;
-    let bad = bad_classes(alloc, crowds, &keys, faces)?;
-    let order = good_classes(alloc, patches, &class, &bad)?;
-    Ok(Sheets { class, order })
+) -> Sheets {
+    let class = classes(memory, crowds, faces);
+    let keys = by_class(memory, crowds, &class);
+    let bad = bad_classes(memory, crowds, &keys, faces);
+    let order = good_classes(memory, patches, &class, &bad);
+    Sheets { class, order }
 }
 
 /// The patches of a class.
-pub(crate) fn patches_in(
-    alloc: Global,
-    sheets: &Sheets,
-    wanted: u32,
-) -> Result<Vec<bool>, NoMemory> {
+pub(crate) fn patches_in(memory: &mut Memory, sheets: &Sheets, wanted: u32) -> Vec<bool> {
     let count = short(sheets.class.len());
-    let mut out = unset(alloc, count)?;
+    let mut out = memory.unset(count);
     'patches: for patch in 0..count {
         set(&mut out, patch, at(&sheets.class, patch) == wanted);
     }
-    Ok(out)
+    out
 }

@@ -5,22 +5,15 @@ use crate::patches::{Patches, faces_of, patches_of, rows_among};
 use crate::removing::{Removal, add_new};
 use crate::sheets::{patches_in, sheets_of};
 use crate::walls::{ordered, walls};
-use iges_base::NoMemory;
-use shell_trial::{Facts, NONE, Table, Trial, at, is_set, set, short, unset};
-use std::alloc::Global;
+use shell_trial::{Facts, Memory, NONE, Table, Trial, at, is_set, set, short};
 
 const MOST: usize = 6;
 
 // Puts a removal at the end, if it has faces, not all, and isn't there yet.
-fn add(
-    out: &mut Vec<Removal>,
-    patches: &Patches,
-    faces: Vec<u32>,
-    cost: u32,
-) -> Result<(), NoMemory> {
+fn add(memory: &mut Memory, out: &mut Vec<Removal>, patches: &Patches, faces: Vec<u32>, cost: u32) {
     let count = short(faces.len());
     if count == 0 || count >= patches.faces {
-        return Ok(());
+        return;
     }
     let rows = rows_among(patches, &faces);
     let more = if rows.saturating_mul(2) > patches.rows {
@@ -29,6 +22,7 @@ fn add(
         0
     };
     add_new(
+        memory,
         out,
         Removal {
             faces,
@@ -39,13 +33,14 @@ fn add(
 
 // Puts a removal at the end that costs so much and 1 for each face.
 fn add_each(
+    memory: &mut Memory,
     out: &mut Vec<Removal>,
     patches: &Patches,
     faces: Vec<u32>,
     cost: u32,
-) -> Result<(), NoMemory> {
+) {
     let count = short(faces.len());
-    add(out, patches, faces, cost.saturating_add(count))
+    add(memory, out, patches, faces, cost.saturating_add(count))
 }
 
 // The part of the most faces, of equal ones the first.
@@ -63,9 +58,9 @@ fn largest(patches: &Patches) -> u32 {
 }
 
 // The parts with a free edge, and how many there are.
-fn open_parts(alloc: Global, patches: &Patches) -> Result<(Vec<bool>, u32), NoMemory> {
+fn open_parts(memory: &mut Memory, patches: &Patches) -> (Vec<bool>, u32) {
     let count = short(patches.part_free.len());
-    let mut out = unset(alloc, count)?;
+    let mut out = memory.unset(count);
     let mut some = 0u32;
     'parts: for i in 0..count {
         let open = at(&patches.part_free, i) != 0;
@@ -74,7 +69,7 @@ fn open_parts(alloc: Global, patches: &Patches) -> Result<(Vec<bool>, u32), NoMe
             some = some.saturating_add(1);
         }
     }
-    Ok((out, some))
+    (out, some)
 }
 
 fn have_one_face(patches: &Patches, parts: &[bool]) -> bool {
@@ -86,26 +81,26 @@ fn have_one_face(patches: &Patches, parts: &[bool]) -> bool {
     true
 }
 
-fn add_apart(alloc: Global, out: &mut Vec<Removal>, patches: &Patches) -> Result<(), NoMemory> {
-    let (mut open, some) = open_parts(alloc, patches)?;
+fn add_apart(memory: &mut Memory, out: &mut Vec<Removal>, patches: &Patches) {
+    let (mut open, some) = open_parts(memory, patches);
     if some >= patches.part_count {
         let largest = largest(patches);
         if at(&patches.part_faces, largest) < 2 {
-            return Ok(());
+            return;
         }
         set(&mut open, largest, false);
     }
-    let faces = faces_of(alloc, &patches.part, &open)?;
+    let faces = faces_of(memory, &patches.part, &open);
     if have_one_face(patches, &open) {
-        return add(out, patches, faces, 2);
+        return add(memory, out, patches, faces, 2);
     }
-    add_each(out, patches, faces, 6)
+    add_each(memory, out, patches, faces, 6)
 }
 
 // The clean patches with a free edge.
-fn fins_of(alloc: Global, patches: &Patches, clean: &[bool]) -> Result<Vec<bool>, NoMemory> {
+fn fins_of(memory: &mut Memory, patches: &Patches, clean: &[bool]) -> Vec<bool> {
     let count = short(clean.len());
-    let mut out = unset(alloc, count)?;
+    let mut out = memory.unset(count);
     'patches: for i in 0..count {
         set(
             &mut out,
@@ -113,18 +108,18 @@ fn fins_of(alloc: Global, patches: &Patches, clean: &[bool]) -> Result<Vec<bool>
             is_set(clean, i) && at(&patches.patch_free, i) != 0,
         );
     }
-    Ok(out)
+    out
 }
 
 // The parts with a free edge that isn't one of these patches.
 fn other_open(
-    alloc: Global,
+    memory: &mut Memory,
     facts: &Facts,
     table: &Table,
     patches: &Patches,
     fins: &[bool],
-) -> Result<Vec<bool>, NoMemory> {
-    let mut out = unset(alloc, short(patches.part.len()))?;
+) -> Vec<bool> {
+    let mut out = memory.unset(short(patches.part.len()));
     'rows: for i in 0..table.rows.len() {
         let i = short(i);
         let face = at(&facts.face_of, i);
@@ -132,7 +127,7 @@ fn other_open(
             set(&mut out, at(&patches.part, face), true);
         }
     }
-    Ok(out)
+    out
 }
 
 fn count_of(marks: &[bool]) -> u32 {
@@ -146,105 +141,82 @@ fn count_of(marks: &[bool]) -> u32 {
 }
 
 // The faces of these patches and of these parts; none, if one face is of both, or if there aren't both.
-fn faces_of_both(
-    alloc: Global,
-    patches: &Patches,
-    fins: &[bool],
-    open: &[bool],
-) -> Result<Vec<u32>, NoMemory> {
-    let mut out = Vec::new(alloc);
+fn faces_of_both(memory: &mut Memory, patches: &Patches, fins: &[bool], open: &[bool]) -> Vec<u32> {
+    let mut out = memory.list();
     'faces: for i in 0..patches.part.len() {
         let i = short(i);
         let fin = is_set(fins, at(&patches.patch, i));
         let apart = is_set(open, at(&patches.part, i));
         if fin && apart {
-            return Ok(Vec::new(alloc));
+            return memory.list();
         }
         if fin || apart {
-            out.push(i)?;
+            memory.add(&mut out, i);
         }
     }
-    Ok(out)
+    out
 }
 
 fn add_fins(
-    alloc: Global,
+    memory: &mut Memory,
     facts: &Facts,
     table: &Table,
     patches: &Patches,
     clean: &[bool],
     out: &mut Vec<Removal>,
-) -> Result<(), NoMemory> {
-    let fins = fins_of(alloc, patches, clean)?;
-    let faces = faces_of(alloc, &patches.patch, &fins)?;
-    add_each(out, patches, faces, 2)?;
-    let open = other_open(alloc, facts, table, patches, &fins)?;
+) {
+    let fins = fins_of(memory, patches, clean);
+    let faces = faces_of(memory, &patches.patch, &fins);
+    add_each(memory, out, patches, faces, 2);
+    let open = other_open(memory, facts, table, patches, &fins);
     let parts = count_of(&open);
     if parts > 0 && parts < patches.part_count && count_of(&fins) > 0 {
-        let both = faces_of_both(alloc, patches, &fins, &open)?;
-        add_each(out, patches, both, 4)?;
+        let both = faces_of_both(memory, patches, &fins, &open);
+        add_each(memory, out, patches, both, 4);
     }
-    Ok(())
 }
 
-fn add_walls(
-    alloc: Global,
-    patches: &Patches,
-    order: &[u32],
-    out: &mut Vec<Removal>,
-) -> Result<(), NoMemory> {
+fn add_walls(memory: &mut Memory, patches: &Patches, order: &[u32], out: &mut Vec<Removal>) {
     'order: for i in 0..order.len() {
         if i >= MOST {
             break 'order;
         }
-        let mut one = unset(alloc, short(patches.patch.len()))?;
+        let mut one = memory.unset(short(patches.patch.len()));
         set(&mut one, order[i], true);
-        let faces = faces_of(alloc, &patches.patch, &one)?;
-        add_each(out, patches, faces, 3)?;
+        let faces = faces_of(memory, &patches.patch, &one);
+        add_each(memory, out, patches, faces, 3);
     }
-    Ok(())
 }
 
-fn add_sheets(
-    alloc: Global,
-    patches: &Patches,
-    crowds: &[Crowd],
-    out: &mut Vec<Removal>,
-) -> Result<(), NoMemory> {
-    let sheets = sheets_of(alloc, patches, crowds, short(patches.patch.len()))?;
+fn add_sheets(memory: &mut Memory, patches: &Patches, crowds: &[Crowd], out: &mut Vec<Removal>) {
+    let sheets = sheets_of(memory, patches, crowds, short(patches.patch.len()));
     'order: for i in 0..sheets.order.len() {
         if i >= MOST {
             break 'order;
         }
-        let chosen = patches_in(alloc, &sheets, sheets.order[i])?;
-        let faces = faces_of(alloc, &patches.patch, &chosen)?;
-        add_each(out, patches, faces, 3)?;
+        let chosen = patches_in(memory, &sheets, sheets.order[i]);
+        let faces = faces_of(memory, &patches.patch, &chosen);
+        add_each(memory, out, patches, faces, 3);
     }
-    Ok(())
 }
 
 /// The sets of faces that may be too many, each of some faces but not of all, in the order in which they are tried.
-pub fn removals(
-    alloc: Global,
-    facts: &Facts,
-    trial: &Trial,
-    table: &Table,
-) -> Result<Vec<Removal>, NoMemory> {
-    let patches = patches_of(alloc, facts, trial, table)?;
-    let mut out = Vec::new(alloc);
-    add_apart(alloc, &mut out, &patches)?;
-    let crowds = crowds_of(alloc, facts, table, &patches)?;
+pub fn removals(memory: &mut Memory, facts: &Facts, trial: &Trial, table: &Table) -> Vec<Removal> {
+    let patches = patches_of(memory, facts, trial, table);
+    let mut out = memory.list();
+    add_apart(memory, &mut out, &patches);
+    let crowds = crowds_of(memory, facts, table, &patches);
     if crowds.is_empty() {
-        return Ok(out);
+        return out;
     }
     let faces = short(facts.faces.len());
-    let clean = clean_patches(alloc, &crowds, faces)?;
-    add_fins(alloc, facts, table, &patches, &clean, &mut out)?;
-    let order = ordered(alloc, &patches, &clean)?;
-    add_walls(alloc, &patches, &order, &mut out)?;
-    let all = walls(alloc, &crowds, &order, short(trial.edges.len()), faces)?;
-    let faces = faces_of(alloc, &patches.patch, &all)?;
-    add_each(&mut out, &patches, faces, 4)?;
-    add_sheets(alloc, &patches, &crowds, &mut out)?;
-    Ok(out)
+    let clean = clean_patches(memory, &crowds, faces);
+    add_fins(memory, facts, table, &patches, &clean, &mut out);
+    let order = ordered(memory, &patches, &clean);
+    add_walls(memory, &patches, &order, &mut out);
+    let all = walls(memory, &crowds, &order, short(trial.edges.len()), faces);
+    let faces = faces_of(memory, &patches.patch, &all);
+    add_each(memory, &mut out, &patches, faces, 4);
+    add_sheets(memory, &patches, &crowds, &mut out);
+    out
 }

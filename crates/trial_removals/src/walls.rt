@@ -2,41 +2,35 @@
 
 use crate::crowding::{Crowd, NO_CROWD, leaves_well};
 use crate::patches::Patches;
-use iges_base::NoMemory;
-use shell_trial::{Key, NONE, at, filled, is_set, item_at, key_of, put, set, short, unset};
-use std::alloc::Global;
+use shell_trial::{Key, Memory, NONE, at, is_set, item_at, key_of, put, set, short};
 
 /// The clean patches, those of fewest faces first, of equal ones the last first.
-pub(crate) fn ordered(
-    alloc: Global,
-    patches: &Patches,
-    clean: &[bool],
-) -> Result<Vec<u32>, NoMemory> {
-    let mut keys: Vec<Key> = Vec::new(alloc);
+pub(crate) fn ordered(memory: &mut Memory, patches: &Patches, clean: &[bool]) -> Vec<u32> {
+    let mut keys: Vec<Key> = memory.list();
     'patches: for i in 0..clean.len() {
         let i = short(i);
         if is_set(clean, i) {
-            keys.push(key_of(at(&patches.patch_faces, i), NONE - i, i))?;
+            memory.add(&mut keys, key_of(at(&patches.patch_faces, i), NONE - i, i));
         }
     }
-    keys.sort()?;
-    let mut out = Vec::new(alloc);
+    memory.sort(&mut keys);
+    let mut out = memory.list();
     'keys: for i in 0..keys.len() {
-        out.push(keys[i].place)?;
+        memory.add(&mut out, keys[i].place);
     }
-    Ok(out)
+    out
 }
 
 // Where the crowded edges of each patch begin.
-fn begins(alloc: Global, crowds: &[Crowd], faces: u32) -> Result<Vec<u32>, NoMemory> {
-    let mut out = filled(alloc, faces, NONE)?;
+fn begins(memory: &mut Memory, crowds: &[Crowd], faces: u32) -> Vec<u32> {
+    let mut out = memory.filled(faces, NONE);
     'crowds: for i in 0..crowds.len() {
         let patch = crowds[i].patch;
         if at(&out, patch) == NONE {
             put(&mut out, patch, short(i));
         }
     }
-    Ok(out)
+    out
 }
 
 // Whether each crowded edge of a patch has more than two rows left, and none or two without it.
@@ -76,18 +70,18 @@ fn some_crowded(crowds: &[Crowd], left: &[u32]) -> bool {
 
 /// The patches that can go one after the other in this order; none of them, if an edge stays crowded.
 pub(crate) fn walls(
-    alloc: Global,
+    memory: &mut Memory,
     crowds: &[Crowd],
     order: &[u32],
     edges: u32,
     faces: u32,
-) -> Result<Vec<bool>, NoMemory> {
-    let begins = begins(alloc, crowds, faces)?;
-    let mut left = filled(alloc, edges, 0)?;
+) -> Vec<bool> {
+    let begins = begins(memory, crowds, faces);
+    let mut left = memory.filled(edges, 0);
     'crowds: for i in 0..crowds.len() {
         put(&mut left, crowds[i].edge, crowds[i].all);
     }
-    let mut out = unset(alloc, faces)?;
+    let mut out = memory.unset(faces);
     'order: for i in 0..order.len() {
         let patch = order[i];
         let begin = at(&begins, patch);
@@ -97,7 +91,7 @@ pub(crate) fn walls(
         }
     }
     if some_crowded(crowds, &left) {
-        return unset(alloc, faces);
+        return memory.unset(faces);
     }
-    Ok(out)
+    out
 }

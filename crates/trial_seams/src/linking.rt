@@ -1,11 +1,9 @@
 //! Which vertices become one, and on which way each of them comes to the least.
 
 use crate::sewn::{Link, Sewn};
-use iges_base::NoMemory;
-use shell_trial::{Facts, NONE, Table, at, filled, is_set, put, short};
-use std::alloc::Global;
+use shell_trial::{Facts, Memory, NONE, Table, at, is_set, put, short};
 
-fn link_ends(facts: &Facts, sewn: &mut Sewn, edge: u32, taken: u32) -> Result<(), NoMemory> {
+fn link_ends(memory: &mut Memory, facts: &Facts, sewn: &mut Sewn, edge: u32, taken: u32) {
     let left = facts.edge(edge);
     let kept = facts.edge(taken);
     let against = is_set(&sewn.opposite, edge);
@@ -14,45 +12,51 @@ fn link_ends(facts: &Facts, sewn: &mut Sewn, edge: u32, taken: u32) -> Result<()
     } else {
         (kept.from, kept.to)
     };
-    sewn.links.push(Link {
-        left: left.from,
-        taken: from,
-        edge,
-        at_end: false,
-    })?;
-    sewn.links.push(Link {
-        left: left.to,
-        taken: to,
-        edge,
-        at_end: true,
-    })?;
-    Ok(())
+    memory.add(
+        &mut sewn.links,
+        Link {
+            left: left.from,
+            taken: from,
+            edge,
+            at_end: false,
+        },
+    );
+    memory.add(
+        &mut sewn.links,
+        Link {
+            left: left.to,
+            taken: to,
+            edge,
+            at_end: true,
+        },
+    );
 }
 
-fn link_seams(facts: &Facts, sewn: &mut Sewn) -> Result<(), NoMemory> {
+fn link_seams(memory: &mut Memory, facts: &Facts, sewn: &mut Sewn) {
     'edges: for edge in 0..short(facts.edges.len()) {
         let taken = at(&sewn.taken, edge);
         if taken != NONE {
-            link_ends(facts, sewn, edge, taken)?;
+            link_ends(memory, facts, sewn, edge, taken);
         }
     }
-    Ok(())
 }
 
-fn link_gaps(facts: &Facts, table: &Table, sewn: &mut Sewn) -> Result<(), NoMemory> {
+fn link_gaps(memory: &mut Memory, facts: &Facts, table: &Table, sewn: &mut Sewn) {
     'gaps: for i in 0..table.gaps.len() {
         let gap = table.gaps[i];
         if facts.vertex(gap.end).place == facts.vertex(gap.start).place {
             sewn.counts.gaps = sewn.counts.gaps.saturating_add(1);
-            sewn.links.push(Link {
-                left: gap.end,
-                taken: gap.start,
-                edge: NONE,
-                at_end: false,
-            })?;
+            memory.add(
+                &mut sewn.links,
+                Link {
+                    left: gap.end,
+                    taken: gap.start,
+                    edge: NONE,
+                    at_end: false,
+                },
+            );
         }
     }
-    Ok(())
 }
 
 // The links of each vertex, chained: each link stands twice, at each of its vertices.
@@ -72,27 +76,28 @@ fn ends_at(sewn: &Sewn, place: u32) -> (u32, u32) {
     }
 }
 
-fn chains_of(alloc: Global, sewn: &Sewn, vertices: u32) -> Result<Chains, NoMemory> {
+fn chains_of(memory: &mut Memory, sewn: &Sewn, vertices: u32) -> Chains {
     let count = short(sewn.links.len()).saturating_mul(2);
-    let mut first = filled(alloc, vertices, NONE)?;
-    let mut next = filled(alloc, count, NONE)?;
+    let mut first = memory.filled(vertices, NONE);
+    let mut next = memory.filled(count, NONE);
     'links: for i in 0..count {
         let place = count - 1 - i;
         let (vertex, _) = ends_at(sewn, place);
         put(&mut next, place, at(&first, vertex));
         put(&mut first, vertex, place);
     }
-    Ok(Chains { first, next })
+    Chains { first, next }
 }
 
 // Reaches the vertices that are linked with one, if they weren't reached before.
 fn reach_next(
+    memory: &mut Memory,
     sewn: &mut Sewn,
     chains: &Chains,
     queue: &mut Vec<u32>,
     vertex: u32,
     least: u32,
-) -> Result<(), NoMemory> {
+) {
     let mut place = at(&chains.first, vertex);
     'links: for _ in 0..chains.next.len() {
         if place == NONE {
@@ -103,42 +108,34 @@ fn reach_next(
             put(&mut sewn.before, other, vertex);
             put(&mut sewn.by, other, place / 2);
             put(&mut sewn.least, other, least);
-            queue.push(other)?;
+            memory.add(queue, other);
         }
         place = at(&chains.next, place);
     }
-    Ok(())
 }
 
 // Reaches all vertices that are linked with one, the nearest first.
-fn reach_from(alloc: Global, sewn: &mut Sewn, chains: &Chains, least: u32) -> Result<(), NoMemory> {
-    let mut queue = Vec::new(alloc);
-    queue.push(least)?;
+fn reach_from(memory: &mut Memory, sewn: &mut Sewn, chains: &Chains, least: u32) {
+    let mut queue = memory.list();
+    memory.add(&mut queue, least);
     'queue: for i in 0..sewn.least.len() {
         if i >= queue.len() {
             break 'queue;
         }
         let vertex = queue[i];
-        reach_next(sewn, chains, &mut queue, vertex, least)?;
+        reach_next(memory, sewn, chains, &mut queue, vertex, least);
     }
-    Ok(())
 }
 
 /// Links the vertices that become one.
-pub(crate) fn link_vertices(
-    alloc: Global,
-    facts: &Facts,
-    table: &Table,
-    sewn: &mut Sewn,
-) -> Result<(), NoMemory> {
-    link_seams(facts, sewn)?;
-    link_gaps(facts, table, sewn)?;
+pub(crate) fn link_vertices(memory: &mut Memory, facts: &Facts, table: &Table, sewn: &mut Sewn) {
+    link_seams(memory, facts, sewn);
+    link_gaps(memory, facts, table, sewn);
     let vertices = short(facts.vertices.len());
-    let chains = chains_of(alloc, sewn, vertices)?;
+    let chains = chains_of(memory, sewn, vertices);
     'vertices: for vertex in 0..vertices {
         if at(&chains.first, vertex) != NONE && at(&sewn.before, vertex) == NONE {
-            reach_from(alloc, sewn, &chains, vertex)?;
+            reach_from(memory, sewn, &chains, vertex);
         }
     }
-    Ok(())
 }

@@ -1,12 +1,10 @@
 //! Which edges pair.
 
 use crate::sewn::Sewn;
-use iges_base::NoMemory;
 use shell_change::{ArcKnown, Told};
 use shell_trial::{
-    EdgeFact, Facts, NONE, Table, at, filled, is_set, more, put, put_item, set, short,
+    EdgeFact, Facts, Memory, NONE, Table, at, is_set, more, put, put_item, set, short,
 };
-use std::alloc::Global;
 
 // Whether two edges are between the same two places.
 fn same_places(a: EdgeFact, b: EdgeFact) -> bool {
@@ -98,16 +96,16 @@ fn is_left(table: &Table, sewn: &Sewn, edge: u32) -> bool {
 
 /// Pairs free edges of which just two are in one class.
 pub(crate) fn pair_in(
-    alloc: Global,
+    memory: &mut Memory,
     facts: &Facts,
     table: &Table,
     sewn: &mut Sewn,
     classes: &[u32],
     told: Told,
-) -> Result<(), NoMemory> {
+) {
     let count = short(classes.len());
-    let mut found = filled(alloc, count, 0)?;
-    let mut first = filled(alloc, count, NONE)?;
+    let mut found = memory.filled(count, 0);
+    let mut first = memory.filled(count, NONE);
     'count: for edge in 0..count {
         let class = at(classes, edge);
         if is_left(table, sewn, edge) {
@@ -125,19 +123,13 @@ pub(crate) fn pair_in(
             add_pair(facts, table, sewn, taken, left, told);
         }
     }
-    Ok(())
 }
 
 /// Makes one edge of those that are sure to be one, where one of them is free.
-pub(crate) fn pair_all(
-    alloc: Global,
-    facts: &Facts,
-    table: &Table,
-    sewn: &mut Sewn,
-) -> Result<(), NoMemory> {
+pub(crate) fn pair_all(memory: &mut Memory, facts: &Facts, table: &Table, sewn: &mut Sewn) {
     let count = short(facts.sure.len());
-    let mut first = filled(alloc, count, NONE)?;
-    let mut free = filled(alloc, count, 0)?;
+    let mut first = memory.filled(count, NONE);
+    let mut free = memory.filled(count, 0);
     'count: for edge in 0..count {
         let class = at(&facts.sure, edge);
         let rows = table.rows_on(edge);
@@ -155,5 +147,4 @@ pub(crate) fn pair_all(
             add_pair(facts, table, sewn, taken, left, Told::Sure);
         }
     }
-    Ok(())
 }

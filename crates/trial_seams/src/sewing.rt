@@ -3,29 +3,22 @@
 use crate::linking::link_vertices;
 use crate::pairing::{pair_all, pair_in};
 use crate::sewn::{Sewn, unsewn};
-use iges_base::NoMemory;
 use shell_change::Told;
-use shell_trial::{Facts, NONE, Table, Trial, TrialEdge, TrialUse, at, is_set, short, table_of};
-use std::alloc::Global;
+use shell_trial::{
+    Facts, Memory, NONE, Table, Trial, TrialEdge, TrialUse, at, is_set, short, table_of,
+};
 
-fn pair(
-    alloc: Global,
-    facts: &Facts,
-    table: &Table,
-    sewn: &mut Sewn,
-    level: u32,
-) -> Result<(), NoMemory> {
+fn pair(memory: &mut Memory, facts: &Facts, table: &Table, sewn: &mut Sewn, level: u32) {
     if level == 4 {
-        return pair_all(alloc, facts, table, sewn);
+        return pair_all(memory, facts, table, sewn);
     }
-    pair_in(alloc, facts, table, sewn, &facts.sure, Told::Sure)?;
+    pair_in(memory, facts, table, sewn, &facts.sure, Told::Sure);
     if level == 2 {
-        return pair_in(alloc, facts, table, sewn, &facts.ends, Told::Places);
+        return pair_in(memory, facts, table, sewn, &facts.ends, Told::Places);
     }
     if level == 3 {
-        return pair_in(alloc, facts, table, sewn, &facts.curves, Told::Curve);
+        return pair_in(memory, facts, table, sewn, &facts.curves, Told::Curve);
     }
-    Ok(())
 }
 
 fn sewn_use(sewn: &Sewn, item: TrialUse) -> TrialUse {
@@ -87,17 +80,17 @@ fn cost_of(sewn: &Sewn) -> u32 {
 
 /// Sews a shell of which at most faces were removed: 1 by sure seams, 2 by these and by places, 3 by these and by curves, 4 all
 /// edges that are sure to be one. Whoever calls it looks at the counts.
-pub fn sew(alloc: Global, facts: &Facts, trial: &mut Trial, level: u32) -> Result<Sewn, NoMemory> {
-    let mut sewn = unsewn(alloc, facts)?;
+pub fn sew(memory: &mut Memory, facts: &Facts, trial: &mut Trial, level: u32) -> Sewn {
+    let mut sewn = unsewn(memory, facts);
     if level == 0 {
-        return Ok(sewn);
+        return sewn;
     }
-    let table = table_of(alloc, facts, trial)?;
-    pair(alloc, facts, &table, &mut sewn, level)?;
-    link_vertices(alloc, facts, &table, &mut sewn)?;
+    let table = table_of(memory, facts, trial);
+    pair(memory, facts, &table, &mut sewn, level);
+    link_vertices(memory, facts, &table, &mut sewn);
     sew_uses(trial, &sewn);
     sew_edges(trial, &sewn);
     trial.pay(cost_of(&sewn));
     trial.sure = trial.sure && sewn.counts.ends == 0 && sewn.counts.curve == 0;
-    Ok(sewn)
+    sewn
 }

@@ -1,9 +1,7 @@
 //! What was sewn.
 
-use iges_base::NoMemory;
 use shell_change::Told;
-use shell_trial::{Facts, NONE, filled, item_at, put, short, unset};
-use std::alloc::Global;
+use shell_trial::{Facts, Memory, NONE, item_at, put, short};
 
 /// Two vertices that become one.
 #[derive(Clone, Copy)]
@@ -69,27 +67,27 @@ impl Sewn {
     }
 }
 
-fn each_itself(alloc: Global, count: u32) -> Result<Vec<u32>, NoMemory> {
-    let mut out = filled(alloc, count, 0)?;
+fn each_itself(memory: &mut Memory, count: u32) -> Vec<u32> {
+    let mut out = memory.filled(count, 0);
     'numbers: for i in 0..count {
         put(&mut out, i, i);
     }
-    Ok(out)
+    out
 }
 
 /// Nothing sewn yet.
-pub fn unsewn(alloc: Global, facts: &Facts) -> Result<Sewn, NoMemory> {
+pub fn unsewn(memory: &mut Memory, facts: &Facts) -> Sewn {
     let edges = short(facts.edges.len());
     let vertices = short(facts.vertices.len());
-    Ok(Sewn {
-        taken: filled(alloc, edges, NONE)?,
-        opposite: unset(alloc, edges)?,
-        told: vec![in alloc; Told::Sure; edges as usize]?,
-        used: unset(alloc, edges)?,
-        links: Vec::new(alloc),
-        least: each_itself(alloc, vertices)?,
-        before: filled(alloc, vertices, NONE)?,
-        by: filled(alloc, vertices, NONE)?,
+    Sewn {
+        taken: memory.filled(edges, NONE),
+        opposite: memory.unset(edges),
+        told: memory.many(edges, Told::Sure),
+        used: memory.unset(edges),
+        links: memory.list(),
+        least: each_itself(memory, vertices),
+        before: memory.filled(vertices, NONE),
+        by: memory.filled(vertices, NONE),
         counts: SeamCounts {
             sure: 0,
             ends: 0,
@@ -98,5 +96,5 @@ pub fn unsewn(alloc: Global, facts: &Facts) -> Result<Sewn, NoMemory> {
         },
         common: false,
         round: false,
-    })
+    }
 }

@@ -1,8 +1,6 @@
 //! The cycles and the paths of turns among the rows of a trial.
 
-use iges_base::NoMemory;
-use shell_trial::{NONE, Table, is_set, set, short, turn_of, unset};
-use std::alloc::Global;
+use shell_trial::{Memory, NONE, Table, is_set, set, short, turn_of};
 
 /// A path of turns.
 #[derive(Clone, Copy)]
@@ -20,16 +18,16 @@ pub struct Fans {
 }
 
 // Which rows are turns of others.
-fn turned_to(alloc: Global, table: &Table) -> Result<Vec<bool>, NoMemory> {
+fn turned_to(memory: &mut Memory, table: &Table) -> Vec<bool> {
     let count = short(table.rows.len());
-    let mut out = unset(alloc, count)?;
+    let mut out = memory.unset(count);
     'rows: for i in 0..count {
         if table.row(i).edge != NONE {
             let turn = turn_of(table, i);
             set(&mut out, turn, true);
         }
     }
-    Ok(out)
+    out
 }
 
 // Marks the rows from one on, turn by turn, up to one without a turn or one that is marked; the last of them.
@@ -47,40 +45,35 @@ fn follow(table: &Table, first: u32, marked: &mut [bool]) -> u32 {
     last
 }
 
-fn paths_of(
-    table: &Table,
-    after: &[bool],
-    marked: &mut [bool],
-    paths: &mut Vec<Path>,
-) -> Result<(), NoMemory> {
+fn paths_of(memory: &mut Memory, table: &Table, after: &[bool], marked: &mut [bool]) -> Vec<Path> {
+    let mut paths = memory.list();
     'rows: for i in 0..table.rows.len() {
         let first = short(i);
         if table.row(first).edge != NONE && !is_set(after, first) {
             let last = follow(table, first, marked);
-            paths.push(Path { first, last })?;
+            memory.add(&mut paths, Path { first, last });
         }
     }
-    Ok(())
+    paths
 }
 
-fn cycles_of(table: &Table, marked: &mut [bool], cycles: &mut Vec<u32>) -> Result<(), NoMemory> {
+fn cycles_of(memory: &mut Memory, table: &Table, marked: &mut [bool]) -> Vec<u32> {
+    let mut cycles = memory.list();
     'rows: for i in 0..table.rows.len() {
         let first = short(i);
         if table.row(first).edge != NONE && !is_set(marked, first) {
             let _last = follow(table, first, marked);
-            cycles.push(first)?;
+            memory.add(&mut cycles, first);
         }
     }
-    Ok(())
+    cycles
 }
 
 /// The paths and the cycles of turns.
-pub fn fans_of(alloc: Global, table: &Table) -> Result<Fans, NoMemory> {
-    let after = turned_to(alloc, table)?;
-    let mut marked = unset(alloc, short(table.rows.len()))?;
-    let mut paths = Vec::new(alloc);
-    let mut cycles = Vec::new(alloc);
-    paths_of(table, &after, &mut marked, &mut paths)?;
-    cycles_of(table, &mut marked, &mut cycles)?;
-    Ok(Fans { paths, cycles })
+pub fn fans_of(memory: &mut Memory, table: &Table) -> Fans {
+    let after = turned_to(memory, table);
+    let mut marked = memory.unset(short(table.rows.len()));
+    let paths = paths_of(memory, table, &after, &mut marked);
+    let cycles = cycles_of(memory, table, &mut marked);
+    Fans { paths, cycles }
 }

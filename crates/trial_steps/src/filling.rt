@@ -1,12 +1,10 @@
 //! The rims on which faces close a shell.
 
 use crate::fans::{Fans, fans_of};
-use iges_base::NoMemory;
 use shell_trial::{
-    Facts, Key, NONE, Rim, RimRow, Table, Trial, at, filled, is_set, key_of, mate, more, put, set,
-    short, table_of, unset,
+    Facts, Key, Memory, NONE, Rim, RimRow, Table, Trial, at, is_set, key_of, mate, more, put, set,
+    short,
 };
-use std::alloc::Global;
 
 /// Whether each edge has one row, or two that are mates, and there is no gap.
 pub fn is_whole(table: &Table) -> bool {
@@ -24,24 +22,24 @@ pub fn is_whole(table: &Table) -> bool {
 }
 
 // Of each row the one that it follows.
-fn before_each(alloc: Global, table: &Table) -> Result<Vec<u32>, NoMemory> {
+fn before_each(memory: &mut Memory, table: &Table) -> Vec<u32> {
     let count = short(table.rows.len());
-    let mut out = filled(alloc, count, NONE)?;
+    let mut out = memory.filled(count, NONE);
     'rows: for i in 0..count {
         let row = table.row(i);
         if row.edge != NONE {
             put(&mut out, row.next, i);
         }
     }
-    Ok(out)
+    out
 }
 
 // From the last row of each path of turns to the row before the first one of the next path at the vertex.
-fn links(alloc: Global, table: &Table, fans: &Fans, vertices: u32) -> Result<Vec<u32>, NoMemory> {
-    let before = before_each(alloc, table)?;
-    let mut out = filled(alloc, short(table.rows.len()), NONE)?;
-    let mut firsts = filled(alloc, vertices, NONE)?;
-    let mut lasts = filled(alloc, vertices, NONE)?;
+fn links(memory: &mut Memory, table: &Table, fans: &Fans, vertices: u32) -> Vec<u32> {
+    let before = before_each(memory, table);
+    let mut out = memory.filled(short(table.rows.len()), NONE);
+    let mut firsts = memory.filled(vertices, NONE);
+    let mut lasts = memory.filled(vertices, NONE);
     'paths: for i in 0..fans.paths.len() {
         let path = fans.paths[i];
         let vertex = table.row(path.first).start;
@@ -59,18 +57,18 @@ fn links(alloc: Global, table: &Table, fans: &Fans, vertices: u32) -> Result<Vec
             put(&mut out, at(&lasts, vertex), at(&before, first));
         }
     }
-    Ok(out)
+    out
 }
 
 // The ring of links from a row on, as a rim; which rows are in one.
 fn add_rim(
+    memory: &mut Memory,
     trial: &mut Trial,
     table: &Table,
     links: &[u32],
     first: u32,
-    piece: u32,
     marked: &mut [bool],
-) -> Result<(), NoMemory> {
+) -> Rim {
     let begin = short(trial.rim_rows.len());
     let mut i = first;
     'ring: for _ in 0..links.len() {
@@ -79,61 +77,56 @@ fn add_rim(
         }
         set(marked, i, true);
         let row = table.row(i);
-        trial.rim_rows.push(RimRow {
-            edge: row.edge,
-            along: !row.along,
-        })?;
+        memory.add(
+            &mut trial.rim_rows,
+            RimRow {
+                edge: row.edge,
+                along: !row.along,
+            },
+        );
         i = at(links, i);
     }
     let count = short(trial.rim_rows.len()).saturating_sub(begin);
-    trial.rims.push(Rim {
-        piece,
+    Rim {
+        piece: NONE,
         first: begin,
         count,
-    })?;
-    Ok(())
+    }
 }
 
-fn add_rims(
-    alloc: Global,
-    facts: &Facts,
-    trial: &mut Trial,
-    table: &Table,
-    links: &[u32],
-) -> Result<(), NoMemory> {
-    let mut marked = unset(alloc, short(table.rows.len()))?;
+fn add_rims(memory: &mut Memory, facts: &Facts, trial: &mut Trial, table: &Table, links: &[u32]) {
+    let mut marked = memory.unset(short(table.rows.len()));
     'rows: for i in 0..table.rows.len() {
         let i = short(i);
         if table.is_free(i) && !is_set(&marked, i) {
             let piece = at(&trial.pieces, at(&facts.face_of, i));
-            add_rim(trial, table, links, i, piece, &mut marked)?;
+            let rim = add_rim(memory, trial, table, links, i, &mut marked);
+            memory.add(&mut trial.rims, Rim { piece, ..rim });
         }
     }
-    Ok(())
 }
 
 // Puts the rims in the order of their pieces.
-fn order_rims(alloc: Global, trial: &mut Trial) -> Result<(), NoMemory> {
-    let mut keys: Vec<Key> = Vec::new(alloc);
+fn order_rims(memory: &mut Memory, trial: &mut Trial) {
+    let mut keys: Vec<Key> = memory.list();
     'keys: for i in 0..trial.rims.len() {
-        keys.push(key_of(trial.rims[i].piece, short(i), short(i)))?;
+        memory.add(&mut keys, key_of(trial.rims[i].piece, short(i), short(i)));
     }
-    keys.sort()?;
-    let mut rims = Vec::new(alloc);
+    memory.sort(&mut keys);
+    let mut rims = memory.list();
     'rims: for i in 0..keys.len() {
         let place = keys[i].place as usize;
         if place < trial.rims.len() {
-            rims.push(trial.rims[place])?;
+            memory.add(&mut rims, trial.rims[place]);
         }
     }
     trial.rims = rims;
-    Ok(())
 }
 
 // What rims cost: of each body that has some 2 and 1 each, and 4 more if it has one face and one rim and isn't the only one.
-fn pay_rims(alloc: Global, trial: &mut Trial) -> Result<(), NoMemory> {
-    let mut rims = filled(alloc, trial.piece_count, 0)?;
-    let mut faces = filled(alloc, trial.piece_count, 0)?;
+fn pay_rims(memory: &mut Memory, trial: &mut Trial) {
+    let mut rims = memory.filled(trial.piece_count, 0);
+    let mut faces = memory.filled(trial.piece_count, 0);
     'rims: for i in 0..trial.rims.len() {
         more(&mut rims, trial.rims[i].piece);
     }
@@ -150,22 +143,20 @@ fn pay_rims(alloc: Global, trial: &mut Trial) -> Result<(), NoMemory> {
             }
         }
     }
-    Ok(())
 }
 
 /// Puts a face on each rim, so that each edge has two rows. Whether the shell is whole then.
-pub fn fill(alloc: Global, facts: &Facts, trial: &mut Trial) -> Result<bool, NoMemory> {
-    let table = table_of(alloc, facts, trial)?;
-    if !is_whole(&table) {
-        return Ok(false);
+pub fn fill(memory: &mut Memory, facts: &Facts, trial: &mut Trial, table: &Table) -> bool {
+    if !is_whole(table) {
+        return false;
     }
-    let fans = fans_of(alloc, &table)?;
-    let links = links(alloc, &table, &fans, short(trial.vertices.len()))?;
-    add_rims(alloc, facts, trial, &table, &links)?;
+    let fans = fans_of(memory, table);
+    let links = links(memory, table, &fans, short(trial.vertices.len()));
+    add_rims(memory, facts, trial, table, &links);
     if !trial.rims.is_empty() {
         trial.sure = false;
-        order_rims(alloc, trial)?;
-        pay_rims(alloc, trial)?;
+        order_rims(memory, trial);
+        pay_rims(memory, trial);
     }
-    Ok(true)
+    true
 }

@@ -1,9 +1,7 @@
 //! Parting a shell into the bodies that it falls into.
 
 use crate::separating::separate;
-use iges_base::NoMemory;
-use shell_trial::{Facts, NONE, Sets, Table, Trial, at, filled, mate, put, short};
-use std::alloc::Global;
+use shell_trial::{Facts, Memory, NONE, Sets, Table, Trial, at, mate, put, short};
 
 /// Which edges join the faces that have them.
 #[derive(Clone, Copy, PartialEq, Eq)]
@@ -25,8 +23,8 @@ fn joins(table: &Table, i: u32, by: By) -> bool {
 }
 
 /// The sets of faces that edges join.
-pub fn sets_of(alloc: Global, facts: &Facts, table: &Table, by: By) -> Result<Sets, NoMemory> {
-    let mut sets = Sets::new(alloc, short(facts.faces.len()))?;
+pub fn sets_of(memory: &mut Memory, facts: &Facts, table: &Table, by: By) -> Sets {
+    let mut sets = Sets::new(memory, short(facts.faces.len()));
     'rows: for i in 0..table.rows.len() {
         let i = short(i);
         let row = table.row(i);
@@ -34,14 +32,14 @@ pub fn sets_of(alloc: Global, facts: &Facts, table: &Table, by: By) -> Result<Se
             let _joined = sets.join(at(&facts.face_of, i), at(&facts.face_of, row.same), false);
         }
     }
-    Ok(sets)
+    sets
 }
 
 // Of each face the number of its set among those of the faces that are kept, by their first faces.
-fn numbered(alloc: Global, trial: &Trial, sets: &mut Sets) -> Result<(Vec<u32>, u32), NoMemory> {
+fn numbered(memory: &mut Memory, trial: &Trial, sets: &mut Sets) -> (Vec<u32>, u32) {
     let faces = short(trial.pieces.len());
-    let mut numbers = filled(alloc, faces, NONE)?;
-    let mut out = filled(alloc, faces, NONE)?;
+    let mut numbers = memory.filled(faces, NONE);
+    let mut out = memory.filled(faces, NONE);
     let mut count = 0u32;
     'faces: for i in 0..faces {
         if at(&trial.pieces, i) != NONE {
@@ -53,25 +51,19 @@ fn numbered(alloc: Global, trial: &Trial, sets: &mut Sets) -> Result<(Vec<u32>, 
             put(&mut out, i, at(&numbers, least));
         }
     }
-    Ok((out, count))
+    (out, count)
 }
 
 /// Parts a shell into the sets of faces that edges join. Whether there are two or more.
-pub fn part(
-    alloc: Global,
-    facts: &Facts,
-    trial: &mut Trial,
-    table: &Table,
-    by: By,
-) -> Result<bool, NoMemory> {
-    let mut sets = sets_of(alloc, facts, table, by)?;
-    let (pieces, count) = numbered(alloc, trial, &mut sets)?;
+pub fn part(memory: &mut Memory, facts: &Facts, trial: &mut Trial, table: &Table, by: By) -> bool {
+    let mut sets = sets_of(memory, facts, table, by);
+    let (pieces, count) = numbered(memory, trial, &mut sets);
     if count < 2 {
-        return Ok(false);
+        return false;
     }
     trial.pieces = pieces;
     trial.piece_count = count;
     trial.pay(2);
-    separate(alloc, facts, trial)?;
-    Ok(true)
+    separate(memory, facts, trial);
+    true
 }

@@ -1,17 +1,18 @@
 //! Edges and vertices of each body's own.
 
-use iges_base::NoMemory;
 use shell_trial::{
-    FaceFact, Facts, LoopFact, NONE, Trial, TrialEdge, TrialUse, TrialVertex, VertexKind, at,
-    filled, item_at, put, short,
+    FaceFact, Facts, LoopFact, Memory, NONE, Trial, TrialEdge, TrialUse, TrialVertex, VertexKind,
+    at, item_at, put, short,
 };
-use std::alloc::Global;
 
 // What a body in turn has of each vertex and of each edge.
 #[derive(Drop)]
 struct Owned {
     // The edges as they were.
     edges: Vec<TrialEdge>,
+    // Of each body its first face, and of each face the next one of its body.
+    first_face: Vec<u32>,
+    next_face: Vec<u32>,
     // Of each vertex the last body that has it; `NONE` for none.
     vertex_piece: Vec<u32>,
     vertex_now: Vec<u32>,
@@ -28,88 +29,98 @@ const NO_EDGE: TrialEdge = TrialEdge {
 
 // What a body has of a vertex.
 fn own_vertex(
+    memory: &mut Memory,
     trial: &mut Trial,
     owned: &mut Owned,
     piece: u32,
     vertex: u32,
-) -> Result<u32, NoMemory> {
+) -> u32 {
     let last = at(&owned.vertex_piece, vertex);
     if last == piece {
-        return Ok(at(&owned.vertex_now, vertex));
+        return at(&owned.vertex_now, vertex);
     }
     put(&mut owned.vertex_piece, vertex, piece);
     let now = if last == NONE {
         vertex
     } else {
         let like = trial.vertex(vertex).like;
-        trial.add_vertex(TrialVertex {
-            like,
-            kind: VertexKind::Copied,
-        })?
+        trial.add_vertex(
+            memory,
+            TrialVertex {
+                like,
+                kind: VertexKind::Copied,
+            },
+        )
     };
     put(&mut owned.vertex_now, vertex, now);
-    Ok(now)
+    now
 }
 
 // What a body has of an edge.
-fn own_edge(trial: &mut Trial, owned: &mut Owned, piece: u32, edge: u32) -> Result<u32, NoMemory> {
+fn own_edge(
+    memory: &mut Memory,
+    trial: &mut Trial,
+    owned: &mut Owned,
+    piece: u32,
+    edge: u32,
+) -> u32 {
     let last = at(&owned.edge_piece, edge);
     if last == piece {
-        return Ok(at(&owned.edge_now, edge));
+        return at(&owned.edge_now, edge);
     }
     put(&mut owned.edge_piece, edge, piece);
     let was = item_at(&owned.edges, edge, NO_EDGE);
-    let from = own_vertex(trial, owned, piece, was.from)?;
-    let to = own_vertex(trial, owned, piece, was.to)?;
+    let from = own_vertex(memory, trial, owned, piece, was.from);
+    let to = own_vertex(memory, trial, owned, piece, was.to);
     let own = TrialEdge { from, to, ..was };
     let now = if last == NONE {
         trial.put_edge(edge, own);
         edge
     } else {
-        trial.add_edge(own)?
+        trial.add_edge(memory, own)
     };
     put(&mut owned.edge_now, edge, now);
-    Ok(now)
+    now
 }
 
 fn separate_loop(
+    memory: &mut Memory,
     trial: &mut Trial,
     owned: &mut Owned,
     piece: u32,
     walk: LoopFact,
-) -> Result<(), NoMemory> {
+) {
     'uses: for t in 0..walk.uses {
         let here = walk.first_use.saturating_add(t);
         let was = trial.item(here);
         let item = if was.on_edge {
-            own_edge(trial, owned, piece, was.item)?
+            own_edge(memory, trial, owned, piece, was.item)
         } else {
-            own_vertex(trial, owned, piece, was.item)?
+            own_vertex(memory, trial, owned, piece, was.item)
         };
         trial.put_use(here, TrialUse { item, ..was });
     }
-    Ok(())
 }
 
 fn separate_face(
+    memory: &mut Memory,
     facts: &Facts,
     trial: &mut Trial,
     owned: &mut Owned,
     piece: u32,
     face: FaceFact,
-) -> Result<(), NoMemory> {
+) {
     'loops: for i in 0..face.loops {
         let walk = facts.walk(face.first_loop.saturating_add(i));
-        separate_loop(trial, owned, piece, walk)?;
+        separate_loop(memory, trial, owned, piece, walk);
     }
-    Ok(())
 }
 
 // Of each piece its first face, and of each face the next one of its piece.
-fn chains(alloc: Global, trial: &Trial) -> Result<(Vec<u32>, Vec<u32>), NoMemory> {
+fn chains(memory: &mut Memory, trial: &Trial) -> (Vec<u32>, Vec<u32>) {
     let faces = short(trial.pieces.len());
-    let mut first = filled(alloc, trial.piece_count, NONE)?;
-    let mut next = filled(alloc, faces, NONE)?;
+    let mut first = memory.filled(trial.piece_count, NONE);
+    let mut next = memory.filled(faces, NONE);
     'faces: for i in 0..faces {
         let face = faces - 1 - i;
         let piece = at(&trial.pieces, face);
@@ -118,42 +129,41 @@ fn chains(alloc: Global, trial: &Trial) -> Result<(Vec<u32>, Vec<u32>), NoMemory
             put(&mut first, piece, face);
         }
     }
-    Ok((first, next))
+    (first, next)
 }
 
 fn separate_piece(
+    memory: &mut Memory,
     facts: &Facts,
     trial: &mut Trial,
     owned: &mut Owned,
     piece: u32,
-    first: u32,
-    next: &[u32],
-) -> Result<(), NoMemory> {
-    let mut face = first;
-    'faces: for _ in 0..next.len() {
+) {
+    let mut face = at(&owned.first_face, piece);
+    'faces: for _ in 0..facts.faces.len() {
         if face == NONE {
             break 'faces;
         }
-        separate_face(facts, trial, owned, piece, facts.face(face))?;
-        face = at(next, face);
+        separate_face(memory, facts, trial, owned, piece, facts.face(face));
+        face = at(&owned.next_face, face);
     }
-    Ok(())
 }
 
 /// Gives each body edges and vertices of its own where an earlier body has them, too.
-pub fn separate(alloc: Global, facts: &Facts, trial: &mut Trial) -> Result<(), NoMemory> {
+pub fn separate(memory: &mut Memory, facts: &Facts, trial: &mut Trial) {
     let vertices = short(trial.vertices.len());
     let edges = short(trial.edges.len());
+    let (first_face, next_face) = chains(memory, trial);
     let mut owned = Owned {
-        edges: Vec::from_slice(alloc, &trial.edges)?,
-        vertex_piece: filled(alloc, vertices, NONE)?,
-        vertex_now: filled(alloc, vertices, NONE)?,
-        edge_piece: filled(alloc, edges, NONE)?,
-        edge_now: filled(alloc, edges, NONE)?,
+        edges: memory.copied(&trial.edges),
+        first_face,
+        next_face,
+        vertex_piece: memory.filled(vertices, NONE),
+        vertex_now: memory.filled(vertices, NONE),
+        edge_piece: memory.filled(edges, NONE),
+        edge_now: memory.filled(edges, NONE),
     };
-    let (first, next) = chains(alloc, trial)?;
     'pieces: for piece in 0..trial.piece_count {
-        separate_piece(facts, trial, &mut owned, piece, at(&first, piece), &next)?;
+        separate_piece(memory, facts, trial, &mut owned, piece);
     }
-    Ok(())
 }

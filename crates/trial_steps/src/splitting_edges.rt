@@ -1,11 +1,9 @@
 //! Splitting crowded edges.
 
 use crate::parting::{By, sets_of};
-use iges_base::NoMemory;
 use shell_trial::{
-    Facts, Key, NONE, Sets, Table, Trial, TrialEdge, TrialUse, at, filled, item_at, more, short,
+    Facts, Key, Memory, NONE, Sets, Table, Trial, TrialEdge, TrialUse, at, item_at, more, short,
 };
-use std::alloc::Global;
 
 const NO_KEY: Key = Key {
     first: NONE,
@@ -16,33 +14,31 @@ const NO_KEY: Key = Key {
 };
 
 // The rows of edges with four rows or more: by edge, those along before those against, by patch, by number.
-fn crowded_rows(
-    alloc: Global,
-    facts: &Facts,
-    table: &Table,
-    patches: &mut Sets,
-) -> Result<Vec<Key>, NoMemory> {
-    let mut out = Vec::new(alloc);
+fn crowded_rows(memory: &mut Memory, facts: &Facts, table: &Table, patches: &mut Sets) -> Vec<Key> {
+    let mut out = memory.list();
     'rows: for i in 0..table.rows.len() {
         let i = short(i);
         let row = table.row(i);
         if row.edge != NONE && table.rows_on(row.edge) >= 4 {
-            out.push(Key {
-                first: row.edge,
-                second: u32::from(!row.along),
-                third: patches.find(at(&facts.face_of, i)).least,
-                fourth: i,
-                place: i,
-            })?;
+            memory.add(
+                &mut out,
+                Key {
+                    first: row.edge,
+                    second: u32::from(!row.along),
+                    third: patches.find(at(&facts.face_of, i)).least,
+                    fourth: i,
+                    place: i,
+                },
+            );
         }
     }
-    out.sort()?;
-    Ok(out)
+    memory.sort(&mut out);
+    out
 }
 
 // Whether each of these edges has as many rows along as against.
-fn is_even(alloc: Global, table: &Table, rows: &[Key]) -> Result<bool, NoMemory> {
-    let mut along = filled(alloc, short(table.count.len()), 0)?;
+fn is_even(memory: &mut Memory, table: &Table, rows: &[Key]) -> bool {
+    let mut along = memory.filled(short(table.count.len()), 0);
     'along: for i in 0..rows.len() {
         if rows[i].second == 0 {
             more(&mut along, rows[i].first);
@@ -54,7 +50,7 @@ fn is_even(alloc: Global, table: &Table, rows: &[Key]) -> Result<bool, NoMemory>
         let half = at(&along, edge);
         even = even && half.saturating_add(half) == table.rows_on(edge);
     }
-    Ok(even)
+    even
 }
 
 fn use_edge(trial: &mut Trial, i: u32, edge: u32) {
@@ -63,7 +59,7 @@ fn use_edge(trial: &mut Trial, i: u32, edge: u32) {
 }
 
 // Pairs the rows of each edge, those against a number of places further on; all pairs but the first get a new edge.
-fn pair_rows(trial: &mut Trial, table: &Table, rows: &[Key], further: u32) -> Result<(), NoMemory> {
+fn pair_rows(memory: &mut Memory, trial: &mut Trial, table: &Table, rows: &[Key], further: u32) {
     let mut begin = 0u32;
     'rows: for i in 0..rows.len() {
         let i = short(i);
@@ -78,30 +74,29 @@ fn pair_rows(trial: &mut Trial, table: &Table, rows: &[Key], further: u32) -> Re
             let turned = if sum >= half { sum - half } else { sum };
             let other = begin.saturating_add(half).saturating_add(turned);
             let old = trial.edge(key.first);
-            let new = trial.add_edge(TrialEdge { split: true, ..old })?;
+            let new = trial.add_edge(memory, TrialEdge { split: true, ..old });
             use_edge(trial, key.place, new);
             use_edge(trial, item_at(rows, other, NO_KEY).place, new);
         }
     }
-    Ok(())
 }
 
 /// Splits each edge with four rows or more into edges with two. Whether there are such edges, each with as many rows along as
 /// against.
 pub fn split_edges(
-    alloc: Global,
+    memory: &mut Memory,
     facts: &Facts,
     trial: &mut Trial,
     table: &Table,
     further: u32,
-) -> Result<bool, NoMemory> {
-    let mut patches = sets_of(alloc, facts, table, By::Pairs)?;
-    let rows = crowded_rows(alloc, facts, table, &mut patches)?;
-    if rows.is_empty() || !is_even(alloc, table, &rows)? {
-        return Ok(false);
+) -> bool {
+    let mut patches = sets_of(memory, facts, table, By::Pairs);
+    let rows = crowded_rows(memory, facts, table, &mut patches);
+    if rows.is_empty() || !is_even(memory, table, &rows) {
+        return false;
     }
-    pair_rows(trial, table, &rows, further)?;
+    pair_rows(memory, trial, table, &rows, further);
     trial.pay(4);
     trial.split = further.saturating_add(1);
-    Ok(true)
+    true
 }

@@ -1,12 +1,10 @@
 //! Splitting vertices where several fans meet.
 
 use crate::fans::{Fans, fans_of};
-use iges_base::NoMemory;
 use shell_trial::{
-    Facts, LoopFact, NONE, Table, Trial, TrialEdge, TrialUse, TrialVertex, VertexKind, at, is_set,
-    set, short, table_of, turn_of, unset,
+    Facts, LoopFact, Memory, NONE, Table, Trial, TrialEdge, TrialUse, TrialVertex, VertexKind, at,
+    is_set, set, short, turn_of,
 };
-use std::alloc::Global;
 
 // Which vertices have a fan that keeps them, and which bodies had one split.
 #[derive(Drop)]
@@ -16,12 +14,15 @@ struct Splits {
     count: u32,
 }
 
-fn new_vertex(trial: &mut Trial, vertex: u32) -> Result<u32, NoMemory> {
+fn new_vertex(memory: &mut Memory, trial: &mut Trial, vertex: u32) -> u32 {
     let like = trial.vertex(vertex).like;
-    trial.add_vertex(TrialVertex {
-        like,
-        kind: VertexKind::Split,
-    })
+    trial.add_vertex(
+        memory,
+        TrialVertex {
+            like,
+            kind: VertexKind::Split,
+        },
+    )
 }
 
 fn note(splits: &mut Splits, piece: u32) {
@@ -54,24 +55,24 @@ fn move_cycle(trial: &mut Trial, table: &Table, first: u32, vertex: u32) {
 }
 
 fn split_cycles(
+    memory: &mut Memory,
     facts: &Facts,
     trial: &mut Trial,
     table: &Table,
     fans: &Fans,
     splits: &mut Splits,
-) -> Result<(), NoMemory> {
+) {
     'cycles: for i in 0..fans.cycles.len() {
         let first = fans.cycles[i];
         let vertex = table.row(first).start;
         if is_set(&splits.kept, vertex) {
-            let new = new_vertex(trial, vertex)?;
+            let new = new_vertex(memory, trial, vertex);
             move_cycle(trial, table, first, new);
             note(splits, at(&trial.pieces, at(&facts.face_of, first)));
         } else {
             set(&mut splits.kept, vertex, true);
         }
     }
-    Ok(())
 }
 
 // Where a loop ends by its last use of an edge; `NONE` where it has no edge.
@@ -101,14 +102,14 @@ fn move_point(trial: &mut Trial, walk: LoopFact, vertex: u32) {
     }
 }
 
-fn split_points(facts: &Facts, trial: &mut Trial, splits: &mut Splits) -> Result<(), NoMemory> {
+fn split_points(memory: &mut Memory, facts: &Facts, trial: &mut Trial, splits: &mut Splits) {
     'loops: for i in 0..facts.loops.len() {
         let walk = facts.walk(short(i));
         let piece = at(&trial.pieces, walk.face);
         if piece != NONE && walk.uses > 0 && last_end(trial, walk) == NONE {
             let vertex = trial.item(walk.first_use).item;
             if is_set(&splits.kept, vertex) {
-                let new = new_vertex(trial, vertex)?;
+                let new = new_vertex(memory, trial, vertex);
                 move_point(trial, walk, new);
                 note(splits, piece);
             } else {
@@ -116,7 +117,6 @@ fn split_points(facts: &Facts, trial: &mut Trial, splits: &mut Splits) -> Result
             }
         }
     }
-    Ok(())
 }
 
 // Uses of vertices go with the edge uses before them.
@@ -144,24 +144,28 @@ fn follow_all(facts: &Facts, trial: &mut Trial) {
 }
 
 /// Splits the vertices where several fans of a body meet: each cycle of turns and each loop without an edge gets a new one, but
-/// the first where there is no path.
-pub fn split_vertices(alloc: Global, facts: &Facts, trial: &mut Trial) -> Result<(), NoMemory> {
-    let table = table_of(alloc, facts, trial)?;
-    let fans = fans_of(alloc, &table)?;
+/// the first where there is no path. Whether there were such.
+pub fn split_vertices(
+    memory: &mut Memory,
+    facts: &Facts,
+    trial: &mut Trial,
+    table: &Table,
+) -> bool {
+    let fans = fans_of(memory, table);
     let mut splits = Splits {
-        kept: unset(alloc, short(trial.vertices.len()))?,
-        pieces: unset(alloc, trial.piece_count)?,
+        kept: memory.unset(short(trial.vertices.len())),
+        pieces: memory.unset(trial.piece_count),
         count: 0,
     };
     'paths: for i in 0..fans.paths.len() {
         let vertex = table.row(fans.paths[i].first).start;
         set(&mut splits.kept, vertex, true);
     }
-    split_cycles(facts, trial, &table, &fans, &mut splits)?;
-    split_points(facts, trial, &mut splits)?;
+    split_cycles(memory, facts, trial, table, &fans, &mut splits);
+    split_points(memory, facts, trial, &mut splits);
     if splits.count > 0 {
         follow_all(facts, trial);
         trial.pay(splits.count.saturating_mul(2));
     }
-    Ok(())
+    splits.count > 0
 }

@@ -1,11 +1,9 @@
 //! Turning faces, so that the two rows of an edge run opposite.
 
 use crate::turning_loops::turn_loops;
-use iges_base::NoMemory;
 use shell_trial::{
-    Facts, NONE, Row, Sets, Table, Trial, at, filled, is_set, more, set, short, table_of, unset,
+    Facts, Memory, NONE, Row, Sets, Table, Trial, at, is_set, more, set, short, table_of,
 };
-use std::alloc::Global;
 
 /// The first row of two of an edge, and the other one; None where its edge hasn't two, or it isn't the first.
 pub(crate) fn two_rows(table: &Table, i: u32) -> Option<(Row, Row)> {
@@ -44,14 +42,10 @@ fn join_faces(facts: &Facts, table: &Table, sets: &mut Sets) -> bool {
 }
 
 /// Of each set the members on the side that is to be turned: that without the least one, unless it has more.
-pub(crate) fn smaller_sides(
-    alloc: Global,
-    sets: &mut Sets,
-    members: &[bool],
-) -> Result<Vec<bool>, NoMemory> {
+pub(crate) fn smaller_sides(memory: &mut Memory, sets: &mut Sets, members: &[bool]) -> Vec<bool> {
     let count = short(members.len());
-    let mut here = filled(alloc, count, 0)?;
-    let mut there = filled(alloc, count, 0)?;
+    let mut here = memory.filled(count, 0);
+    let mut there = memory.filled(count, 0);
     'count: for i in 0..count {
         if is_set(members, i) {
             let found = sets.find(i);
@@ -62,7 +56,7 @@ pub(crate) fn smaller_sides(
             }
         }
     }
-    let mut out = unset(alloc, count)?;
+    let mut out = memory.unset(count);
     'choose: for i in 0..count {
         if is_set(members, i) {
             let found = sets.find(i);
@@ -70,17 +64,17 @@ pub(crate) fn smaller_sides(
             set(&mut out, i, found.other == few);
         }
     }
-    Ok(out)
+    out
 }
 
 /// Which faces are kept.
-pub(crate) fn kept_faces(alloc: Global, trial: &Trial) -> Result<Vec<bool>, NoMemory> {
+pub(crate) fn kept_faces(memory: &mut Memory, trial: &Trial) -> Vec<bool> {
     let count = short(trial.pieces.len());
-    let mut out = unset(alloc, count)?;
+    let mut out = memory.unset(count);
     'faces: for i in 0..count {
         set(&mut out, i, at(&trial.pieces, i) != NONE);
     }
-    Ok(out)
+    out
 }
 
 fn change_flags(trial: &mut Trial, turned: &[bool]) {
@@ -94,31 +88,28 @@ fn change_flags(trial: &mut Trial, turned: &[bool]) {
 }
 
 // Whether flags alone did it.
-fn turn_faces(
-    alloc: Global,
-    facts: &Facts,
-    trial: &mut Trial,
-    table: &Table,
-) -> Result<bool, NoMemory> {
-    let mut sets = Sets::new(alloc, short(facts.faces.len()))?;
+fn turn_faces(memory: &mut Memory, facts: &Facts, trial: &mut Trial, table: &Table) -> bool {
+    let mut sets = Sets::new(memory, short(facts.faces.len()));
     if !join_faces(facts, table, &mut sets) {
-        return Ok(false);
+        return false;
     }
-    let kept = kept_faces(alloc, trial)?;
-    let turned = smaller_sides(alloc, &mut sets, &kept)?;
+    let kept = kept_faces(memory, trial);
+    let turned = smaller_sides(memory, &mut sets, &kept);
     change_flags(trial, &turned);
-    Ok(true)
+    true
 }
 
-/// Turns faces, or else loops, so that the two rows of each edge with two run opposite, if that can be.
-pub fn turn(alloc: Global, facts: &Facts, trial: &mut Trial) -> Result<(), NoMemory> {
-    let table = table_of(alloc, facts, trial)?;
+/// Turns faces, or else loops, so that the two rows of each edge with two run opposite, if that can be. The rows that there are
+/// then.
+pub fn turn(memory: &mut Memory, facts: &Facts, trial: &mut Trial) -> Table {
+    let table = table_of(memory, facts, trial);
     if !has_same_way(&table) {
-        return Ok(());
+        return table;
     }
-    if turn_faces(alloc, facts, trial, &table)? {
+    if turn_faces(memory, facts, trial, &table) {
         trial.pay(1);
-        return Ok(());
+    } else {
+        turn_loops(memory, facts, trial, &table);
     }
-    turn_loops(alloc, facts, trial, &table)
+    table_of(memory, facts, trial)
 }

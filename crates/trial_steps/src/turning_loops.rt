@@ -1,11 +1,9 @@
 //! Turning loops, where turning faces alone doesn't do.
 
 use crate::turning::{smaller_sides, two_rows};
-use iges_base::NoMemory;
 use shell_trial::{
-    FaceFact, Facts, LoopFact, NONE, Sets, Table, Trial, TrialUse, at, is_set, set, short, unset,
+    FaceFact, Facts, LoopFact, Memory, NONE, Sets, Table, Trial, TrialUse, at, is_set, set, short,
 };
-use std::alloc::Global;
 
 // Joins the loops of each edge with two rows. False where nothing makes all of them opposite.
 fn join_loops(facts: &Facts, table: &Table, sets: &mut Sets) -> bool {
@@ -22,14 +20,14 @@ fn join_loops(facts: &Facts, table: &Table, sets: &mut Sets) -> bool {
     agree
 }
 
-fn kept_loops(alloc: Global, facts: &Facts, trial: &Trial) -> Result<Vec<bool>, NoMemory> {
+fn kept_loops(memory: &mut Memory, facts: &Facts, trial: &Trial) -> Vec<bool> {
     let count = short(facts.loops.len());
-    let mut out = unset(alloc, count)?;
+    let mut out = memory.unset(count);
     'loops: for i in 0..count {
         let face = facts.walk(i).face;
         set(&mut out, i, at(&trial.pieces, face) != NONE);
     }
-    Ok(out)
+    out
 }
 
 fn opposite(item: TrialUse) -> TrialUse {
@@ -95,19 +93,13 @@ fn turn_these(facts: &Facts, trial: &mut Trial, turned: &[bool]) -> bool {
 }
 
 /// Turns loops so that the two rows of each edge with two run opposite, if that can be.
-pub(crate) fn turn_loops(
-    alloc: Global,
-    facts: &Facts,
-    trial: &mut Trial,
-    table: &Table,
-) -> Result<(), NoMemory> {
-    let mut sets = Sets::new(alloc, short(facts.loops.len()))?;
+pub(crate) fn turn_loops(memory: &mut Memory, facts: &Facts, trial: &mut Trial, table: &Table) {
+    let mut sets = Sets::new(memory, short(facts.loops.len()));
     if !join_loops(facts, table, &mut sets) {
-        return Ok(());
+        return;
     }
-    let kept = kept_loops(alloc, facts, trial)?;
-    let turned = smaller_sides(alloc, &mut sets, &kept)?;
+    let kept = kept_loops(memory, facts, trial);
+    let turned = smaller_sides(memory, &mut sets, &kept);
     let reversed = turn_these(facts, trial, &turned);
     trial.pay(if reversed { 2 } else { 1 });
-    Ok(())
 }

@@ -1,8 +1,6 @@
 //! Turning uses of edges, so that a loop joins.
 
-use iges_base::NoMemory;
-use shell_trial::{Facts, LoopFact, NONE, Table, Trial, TrialUse, is_set, set, short, unset};
-use std::alloc::Global;
+use shell_trial::{Facts, LoopFact, Memory, NONE, Table, Trial, TrialUse, is_set, set, short};
 
 // Where a use starts and ends with this flag.
 fn ends_with(trial: &Trial, item: TrialUse, along: bool) -> (u32, u32) {
@@ -75,22 +73,17 @@ fn turn_in(trial: &mut Trial, walk: LoopFact) -> bool {
     true
 }
 
-fn loops_with_gaps(alloc: Global, facts: &Facts, table: &Table) -> Result<Vec<bool>, NoMemory> {
-    let mut out = unset(alloc, short(facts.loops.len()))?;
+fn loops_with_gaps(memory: &mut Memory, facts: &Facts, table: &Table) -> Vec<bool> {
+    let mut out = memory.unset(short(facts.loops.len()));
     'gaps: for i in 0..table.gaps.len() {
         set(&mut out, table.gaps[i].at_loop, true);
     }
-    Ok(out)
+    out
 }
 
 /// Turns uses in the loops that have gaps, the fewest with which each joins. Whether it did something.
-pub fn turn_uses(
-    alloc: Global,
-    facts: &Facts,
-    trial: &mut Trial,
-    table: &Table,
-) -> Result<bool, NoMemory> {
-    let gaps = loops_with_gaps(alloc, facts, table)?;
+pub fn turn_uses(memory: &mut Memory, facts: &Facts, trial: &mut Trial, table: &Table) -> bool {
+    let gaps = loops_with_gaps(memory, facts, table);
     let mut some = false;
     'loops: for i in 0..facts.loops.len() {
         let i = short(i);
@@ -103,5 +96,5 @@ pub fn turn_uses(
         trial.pay(2);
         trial.sure = false;
     }
-    Ok(some)
+    some
 }

@@ -22,7 +22,8 @@ fn list_of<T: Item>(alloc: Global, row: &mut Row<'_>) -> ItemList<T> {
     'items: for _ in 0..count {
         let item = T::read(alloc, row);
         if items.push(item).is_err() {
-            row.fail();
+            // The row isn't whole then.
+            row.at = usize::MAX;
             return items;
         }
     }

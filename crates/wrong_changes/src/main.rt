@@ -9,7 +9,7 @@ use crate::items::Item;
 use crate::numbers::Row;
 use brep_walk::walk;
 use change_fits::fits;
-use iges_base::{EntryNo, FILE_LIMIT};
+use iges_base::{EntryNo, FILE_LIMIT, NoMemory};
 use iges_params::read_file;
 use shell_change::{Change, Geometry};
 use solid_data::Solid;
@@ -25,35 +25,29 @@ fn solid_of(alloc: Global, text: &[u8]) -> Option<Solid> {
     walk(alloc, &file, EntryNo(1)).ok()
 }
 
-fn numbers_of(alloc: Global, text: &str) -> Option<Vec<u32>> {
-    let mut numbers = Vec::new(alloc);
-    'words: for word in text.split_whitespace() {
-        let number = word.parse::<u32>().ok()?;
-        numbers.push(number).ok()?;
-    }
-    Some(numbers)
-}
-
-// The item that all numbers of a text stand for.
-fn item_of<T: Item>(alloc: Global, text: &str) -> Option<T> {
-    let numbers = numbers_of(alloc, text)?;
-    let mut row = Row::new(numbers.as_slice());
+// The item that all numbers of a row stand for.
+fn item_of<T: Item>(alloc: Global, numbers: &[u8]) -> Option<T> {
+    let mut row = Row { numbers, at: 0 };
     let item = T::read(alloc, &mut row);
-    if !row.is_whole() {
+    if row.at != numbers.len() {
         return None;
     }
     Some(item)
 }
 
-// What the checker says of the change that a text stands for.
-fn verdict(alloc: Global, solid: &Solid, geometry: &Geometry, text: &str) -> &'static str {
-    let Some(change) = item_of::<Change>(alloc, text) else {
-        return "unread";
-    };
-    match fits(alloc, solid, geometry, &change) {
+fn words(fit: Result<bool, NoMemory>) -> &'static str {
+    match fit {
         Ok(true) => "fits",
         Ok(false) => "refused",
-        Err(_) => "unjudged",
+        Err(NoMemory) => "unjudged",
+    }
+}
+
+// What the checker says of the change that a row stands for.
+fn verdict(alloc: Global, solid: &Solid, geometry: &Geometry, row: &str) -> &'static str {
+    match item_of::<Change>(alloc, row.as_bytes()) {
+        Some(change) => words(fits(alloc, solid, geometry, &change)),
+        None => "unread",
     }
 }
 
@@ -74,19 +68,22 @@ fn print_verdicts(
     Ok(())
 }
 
-fn judge(rt: &HostRuntime, solid: &Solid) -> io::Result<()> {
-    let known = fs::read_to_string(rt, "geometry.txt")?;
-    let changes = fs::read_to_string(rt, "changes.tsv")?;
-    match item_of::<Geometry>(rt.alloc(), known.as_str()) {
-        Some(geometry) => print_verdicts(rt, solid, &geometry, changes.as_str()),
+// Judges the changes below the line of the geometry.
+fn judge(rt: &HostRuntime, solid: &Solid, text: &str) -> io::Result<()> {
+    let Some((known, changes)) = text.split_once('\n') else {
+        return println!(rt; "no changes");
+    };
+    match item_of::<Geometry>(rt.alloc(), known.as_bytes()) {
+        Some(geometry) => print_verdicts(rt, solid, &geometry, changes),
         None => println!(rt; "no geometry"),
     }
 }
 
 fn main(rt: HostRuntime) -> io::Result<()> {
     let file = fs::read_to_string(&rt, "solid.igs")?;
+    let text = fs::read_to_string(&rt, "changes.txt")?;
     match solid_of(rt.alloc(), file.as_str().as_bytes()) {
-        Some(solid) => judge(&rt, &solid),
+        Some(solid) => judge(&rt, &solid, text.as_str()),
         None => println!(rt; "no solid"),
     }
 }

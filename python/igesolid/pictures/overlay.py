@@ -194,8 +194,8 @@ def marks_of(title: str, number: int, answer: Where, lines: List[bytes]) -> Tupl
     solid = solid_of(file, number) if answer.shells else None
     fault = faults_of(answer, solid) if solid else Fault({}, {}, {}, False)
     if solid:
-        lines, points = changes_of(answer, solid)
-        for edges, mark in ((fault.edges, FAULT), (fault.near, NEAR), (lines, REMEDY)):
+        remedied, points = changes_of(answer, solid)
+        for edges, mark in ((fault.edges, FAULT), (fault.near, NEAR), (remedied, REMEDY)):
             left += sum(not overlay.add_edge(solid, edge, mark, subscript) for edge, subscript in sorted(edges.items()))
         for vertices, mark in ((fault.vertices, FAULT), (points, REMEDY)):
             for vertex, subscript in sorted(vertices.items()):

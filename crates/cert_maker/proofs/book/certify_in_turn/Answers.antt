@@ -5,7 +5,7 @@ use Rattle.cert_maker.proofs.book.certify_in_turn.Goals.{then-is_solid_at+in_ok-
 use Rattle.cert_maker.proofs.book.certify_in_turn.Goals as goal
 
 pub entries-init : goal.entries-init
-entries-init c = record { file = c.requires; left = ([], left_all c.args.file.now [] refl); }
+entries-init c = record { file = c.requires; left = ([], left_all c.args.file.now [] refl) }
 
 pub returns-in_err-used-clause-fault : goal.returns-in_err-used-clause-fault
 returns-in_err-used-clause-fault c =

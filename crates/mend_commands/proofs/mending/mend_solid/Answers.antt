@@ -1,7 +1,7 @@
+use Rattle.std.proofs.lemmas.Result.{IfOk-weaker}
+use Rattle.mend_commands.specs.Due.{placed}
 use Rattle.mend_commands.proofs.mending.mend_solid.Goals as goal
 
-pub returns-in-Ok : goal.returns-in-Ok
-returns-in-Ok c = c.by_state.ensures c.args.file c.args.no c.in_ok-state.ensures c.in-Ok.ensures.found
-
-pub returns-in-Err : goal.returns-in-Err
-returns-in-Err c = c.not_extracted.ensures c.args.file c.args.no c.in-Err.ensures.fault
+pub returns-in-Placed : goal.returns-in-Placed
+returns-in-Placed c =
+    IfOk-weaker c.mend_placed.result _ _ (λ reply owed. placed owed) (c.mend_placed.ensures (rw c.in-Placed.is at c.in_ok-failing.ensures))

@@ -1,11 +1,11 @@
 use Rattle.command_replies.proofs.Replying.{reply_owed}
 use Rattle.command_replies.specs.declared.answer.Answer.TheVariants as answer
 use Rattle.file_replies.specs.Written.{no_extract_line}
-use Rattle.mended_commands.specs.Due.{OfMended}
+use Rattle.mended_commands.specs.Due.{OfToldPlaced}
 use Rattle.mended_commands.specs.Due as due
 use Rattle.mended_commands.proofs.telling.not_extracted.Goals as goal
 
 pub returns-in-Refused : goal.returns-in-Refused
-returns-in-Refused c f n is =
-    reply_owed (OfMended n f) answer.NoExtract (no_extract_line c.in-Refused.entity.0 c.in-Refused.reason) c.refused.result
+returns-in-Refused c f n twice ds is =
+    reply_owed (OfToldPlaced n f twice ds) answer.NoExtract (no_extract_line c.in-Refused.entity.0 c.in-Refused.reason) c.refused.result
     (due.not_extracted c.in-Refused.entity.0 c.in-Refused.reason (rw c.in-Refused.is at is)) c.refused.ensures

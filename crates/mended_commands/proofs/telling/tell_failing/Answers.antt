@@ -1,11 +1,13 @@
-use Rattle.std.specs.Prelude.{◌++◌}
+use Rattle.std.specs.Prelude.{◌++◌, unwrap_or}
+use Rattle.std.proofs.Common.{subst, sym}
 use Rattle.std.proofs.lemmas.Result.{IfOk-weaker}
 use Rattle.command_replies.proofs.Replying.{reply_owed}
 use Rattle.command_replies.specs.Texts.{fail_line}
 use Rattle.command_replies.specs.declared.answer.Answer.TheVariants as answer
+use Rattle.solid_data.specs.declared.verdict.Failing.{Failing}
 use Rattle.solid_mend.specs.Mended.{IsMended}
 use Rattle.mend_commands.specs.Due.{unmended_line}
-use Rattle.mended_commands.specs.Due.{OfMended, mended, unmended}
+use Rattle.mended_commands.specs.Due.{OfToldPlaced, mended, unmended}
 use Rattle.mended_commands.proofs.telling.tell_failing.Goals as goal
 
 pub returns-in-Mended : goal.returns-in-Mended
@@ -18,5 +20,8 @@ returns-in-Mended c =
 
 pub returns-in-Unmended : goal.returns-in-Unmended
 returns-in-Unmended c =
-    reply_owed (OfMended c.args.no c.args.file.now) answer.No (fail_line c.args.failing ++ unmended_line c.in-Unmended.why) c.unmended.result
-    (unmended c.args.extraction.now.file c.requires.extracted.extracted c.args.failing c.requires.fails c.in-Unmended.why) c.unmended.ensures
+    reply_owed (OfToldPlaced c.args.asked.no c.args.file.now c.args.asked.twice c.args.dropped.now) answer.No
+    (fail_line c.unwrap_or.result ++ unmended_line c.in-Unmended.why) c.unmended.result
+    (subst (λ (x : Failing). OfToldPlaced c.args.asked.no c.args.file.now c.args.asked.twice c.args.dropped.now answer.No
+    (fail_line x ++ unmended_line c.in-Unmended.why)) (sym c.unwrap_or.ensures)
+    (unmended c.args.extraction.now.file c.requires.extracted.extracted c.args.failing c.requires.fails c.in-Unmended.why)) c.unmended.ensures
