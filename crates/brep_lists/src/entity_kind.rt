@@ -19,7 +19,7 @@ pub enum EntityKind {
 
 impl EntityKind {
     /// The entity type number (IGES 5.3, 4.49 and 4.145 to 4.149).
-    pub fn type_number(self) -> i32
+    pub fn type_number(self) -> i64
         ensures { result ≡ type_number self }
     {
         match self {
@@ -34,7 +34,7 @@ impl EntityKind {
 
     /// Whether an entity of this type may have that form: a shell is closed, of form 1 (IGES 5.3, 4.149); a list, a
     /// loop and a face have form 1, for which form 0 is taken too.
-    pub fn has_form(self, form: i32) -> bool
+    pub fn has_form(self, form: i64) -> bool
         ensures { IsTrue result ↔ HasForm self form }
     {
         match self {
@@ -44,8 +44,15 @@ impl EntityKind {
         }
     }
 
+    /// Whether an entity with this type number and form is one of this type, in a form that it may have.
+    pub fn is_of(self, number: i64, form: i64) -> bool
+        ensures { IsTrue result ↔ ((number ≡ type_number self) × HasForm self form) }
+    {
+        number == self.type_number() && self.has_form(form)
+    }
+
     /// The type of that number; None where it is none of the six (IGES 5.3, 4.49 and 4.145 to 4.149).
-    pub fn of_type(number: i32) -> Option<EntityKind>
+    pub fn of_type(number: i64) -> Option<EntityKind>
         ensures is { result ≡ kind_of_type number }
         ensures some { IfSome result (λ kind. number ≡ type_number kind) }
         ensures none { IfNone result ((kind : EntityKind) → ¬ (number ≡ type_number kind)) }

@@ -4,3 +4,4 @@ pub mod KeyPlaces
 pub mod KeyedKeys
 pub mod SlotSteps
 pub mod ListTables
+pub mod PlacedNumbers

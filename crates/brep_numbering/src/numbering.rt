@@ -9,7 +9,7 @@ ghost use Rattle.solid_data.specs.SolidData.{same_edge, same_vertex};
 
 use crate::positions::end_position;
 use crate::slots::ItemSlots;
-use iges_fields::NoMemory;
+use iges_base::NoMemory;
 use indexmap::IndexMap;
 use solid_data::{Edge, EdgeId, EdgeKey, Edges, VertexId, VertexKey, Vertices};
 use std::alloc::Global;

@@ -4,7 +4,7 @@ ghost use Rattle.std.specs.Prelude.{◌≡◌, ℕ, IfSome, IfNone, IfOk, OnOk};
 ghost use Rattle.brep_numbering.specs.Slots.{slot_of, HasSlots, HasNoSlots};
 
 use crate::positions::{Positions, end_position};
-use iges_fields::{EntryNo, NoMemory};
+use iges_base::{EntryNo, NoMemory};
 use std::alloc::Global;
 use std::marker::Model;
 

@@ -3,7 +3,7 @@
 ghost use Rattle.std.specs.Prelude.{◌≡◌, ◌∷◌, ◌++◌, [], ℕ, pos, slice_get, Some, IfSome, OnOk, OnErr};
 
 use crate::positions::{Positions, end_position};
-use iges_fields::{EntryNo, NoMemory};
+use iges_base::{EntryNo, NoMemory};
 use std::alloc::Global;
 use std::marker::Model;
 

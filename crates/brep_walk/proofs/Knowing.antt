@@ -19,9 +19,9 @@ use Rattle.solid_data.specs.declared.verdict.Rule.TheVariants.{BadLayout}
 use Rattle.solid_data.proofs.ObligationLemmas.{FirstFalse-append_front}
 use Rattle.brep_walk.specs.declared.fault.WalkFault.{WalkFault}
 use Rattle.brep_walk.specs.declared.fault.WalkFault.TheVariants as faults
-use Rattle.brep_walk.specs.declared.marks.Mark.{Mark}
+use Rattle.brep_numbering.specs.declared.marks.Mark.{Mark}
 use Rattle.brep_walk.specs.Counts.{item_count}
-use Rattle.brep_walk.specs.Marked.{mark_of}
+use Rattle.brep_numbering.specs.Marked.{mark_of}
 use Rattle.brep_walk.specs.Known.{uses_places, HasItsRecord, LacksItsRecord, Says, AreKnown}
 use Rattle.brep_walk.specs.Places.{told, NamesKind, HasRecordOf, entry_places, record_places}
 use Rattle.brep_walk.specs.Walked.{IsFault}

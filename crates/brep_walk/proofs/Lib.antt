@@ -15,7 +15,6 @@ pub mod Used
 pub mod Faults
 pub mod EdgeEnds
 pub mod KeptLists
-pub mod PlacedNumbers
 pub mod KnownEdges
 pub mod Decided
 pub mod ShellSolids

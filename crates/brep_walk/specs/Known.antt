@@ -3,9 +3,9 @@ use Rattle.std.specs.Prelude.{◌≡◌, ℕ, ℤ, pos, List, [], Some, slice_ge
 use Rattle.iges_base.specs.declared.entry_no.EntryNo.{EntryNo}
 use Rattle.iges_params.specs.Contents.{Contents}
 use Rattle.brep_lists.specs.declared.entity_kind.EntityKind.{EntityKind}
-use Rattle.brep_walk.specs.declared.marks.Mark.{Mark}
-use Rattle.brep_walk.specs.declared.marks.Mark.TheVariants.{Unknown, Fits, Walked, Misfits}
-use Rattle.brep_walk.specs.Marked.{mark_of}
+use Rattle.brep_numbering.specs.declared.marks.Mark.{Mark}
+use Rattle.brep_numbering.specs.declared.marks.Mark.TheVariants.{Unknown, Fits, Walked, Misfits}
+use Rattle.brep_numbering.specs.Marked.{mark_of}
 use Rattle.brep_walk.specs.Places.{NamesKind, HasRecordOf, tuples, tuple_places}
 use Rattle.solid_data.specs.Obligations.{Obligation, AllHold, FirstFalse, after_each}
 use Rattle.solid_data.specs.declared.verdict.Failing.{Failing}

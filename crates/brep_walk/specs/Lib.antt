@@ -4,10 +4,8 @@ pub mod Walked
 pub mod Numbered
 pub mod Kept
 pub mod Stands
-pub mod Placed
 pub mod OpenPlaces
 pub mod Counts
-pub mod Marked
 pub mod Known
 pub mod Walks
 pub mod Here

@@ -1,6 +1,6 @@
 //! Why a walk ended without a solid.
 
-use iges_fields::NoMemory;
+use iges_base::NoMemory;
 use solid_data::Failing;
 use std::alloc::{AllocError, AllocFailed};
 

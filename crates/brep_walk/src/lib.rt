@@ -4,11 +4,9 @@
 mod fault;
 mod law;
 mod lists;
-mod marks;
 mod members;
 mod naming;
 mod once;
-mod place;
 mod records;
 mod shell_walking;
 mod state;

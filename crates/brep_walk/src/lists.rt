@@ -16,15 +16,14 @@ ghost use Rattle.solid_data.specs.declared.verdict.Rule.TheVariants.{BadIndex, B
 ghost use Rattle.std.specs.Prelude.{◌≡◌, ◌∷◌, ◌<◌, ◌^◌, ◌-◌, [], pos, length, slice_get, Some, IfOk, IfErr, OnOk, IsTrue, IfSome};
 
 use crate::fault::WalkFault;
-use crate::marks::{Mark, Marks};
 use crate::naming::{entry_at, index_in, names_geometry};
-use crate::place::Place;
 use crate::records::Record;
 use brep_lists::{EdgeList, EdgeTuple, VertexList};
-use brep_numbering::ListTable;
-use iges_fields::{EntryNo, NoMemory, Values};
+use brep_numbering::{ListTable, Mark, Marks};
+use iges_base::{EntryNo, NoMemory};
+use iges_fields::Values;
 use iges_params::File;
-use solid_data::{EdgeKey, Failing, Rule, VertexKey};
+use solid_data::{EdgeKey, Failing, Place, Rule, VertexKey};
 use std::alloc::Global;
 use std::marker::Model;
 

@@ -11,11 +11,11 @@ ghost use Rattle.std.specs.Prelude.{◌≡◌, ◌∷◌, ◌++◌, ◌<◌, ◌
 
 use crate::fault::WalkFault;
 use crate::naming::names_geometry;
-use crate::place::Place;
+use crate::once::note;
 use crate::state::WalkState;
 use brep_loops::{FaceRecord, LoopRecord, ShellRecord, SolidRecord};
-use iges_fields::EntryNo;
-use solid_data::{FaceUse, Faces, Loop, Loops, Rule, Shell, Shells, Uses};
+use iges_base::EntryNo;
+use solid_data::{FaceUse, Faces, Loop, Loops, Place, Rule, Shell, Shells, Uses};
 use std::alloc::Global;
 
 impl<'a> WalkState<'a> {
@@ -66,7 +66,7 @@ impl<'a> WalkState<'a> {
         ensures fault { IfErr result (IsFault (loop_here self.old at number)) }
     {
         let (entity, listed) = self.lists.record::<LoopRecord<'a>>(at, number)?;
-        self.loops.note(at, number, entity)?;
+        note(&mut self.loops, at, number, entity)?;
         let uses = self.loop_uses(alloc, entity, &listed)?;
         Ok(Loop { entity, uses })
     }
@@ -120,7 +120,7 @@ impl<'a> WalkState<'a> {
         ensures fault { IfErr result (IsFault (face_here self.old at number)) }
     {
         let (entity, listed) = self.lists.record::<FaceRecord<'a>>(at, number)?;
-        self.faces.note(at, number, entity)?;
+        note(&mut self.faces, at, number, entity)?;
         if !names_geometry(self.lists.file(), listed.surface()) {
             let place = Place { entity, item: 0 };
             return Err(WalkFault::Fails(place.fails(Rule::BadGeometry)));
@@ -186,7 +186,7 @@ impl<'a> WalkState<'a> {
         ensures fault { IfErr result (IsFault (shell_here self.old at number)) }
     {
         let (entity, listed) = self.lists.record::<ShellRecord<'a>>(at, number)?;
-        self.shells.note(at, number, entity)?;
+        note(&mut self.shells, at, number, entity)?;
         let faces = self.walk_faces(alloc, entity, &listed)?;
         Ok(Shell {
             entity,

@@ -9,18 +9,18 @@ ghost use Rattle.solid_data.specs.Obligations.{AllHold, FirstFalse, obligation};
 ghost use Rattle.solid_data.specs.declared.verdict.Rule.TheVariants.{BadGeometry, BadIndex};
 ghost use Rattle.std.specs.Prelude.{◌≡◌, ◌↔◌, IsTrue, ◌∷◌, [], pos, IfOk, IfErr, OnOk};
 
-use crate::place::Place;
 use brep_lists::EntityKind;
+use iges_base::EntryNo;
 use iges_directory::Entry;
-use iges_fields::{EntryNo, Values};
+use iges_fields::Values;
 use iges_params::File;
-use solid_data::{Failing, Rule};
+use solid_data::{Failing, Place, Rule};
 
 // Whether the entry has the type, and a form that is accepted.
 fn is_of_kind(entry: &Entry, kind: EntityKind) -> bool
     ensures { IsTrue result ↔ ((entry.now.kind ≡ type_number kind) × HasForm kind entry.now.form) }
 {
-    entry.kind == kind.type_number() && kind.has_form(entry.form)
+    kind.is_of(entry.kind, entry.form)
 }
 
 // Whether the entry's type is none of the six of topology.

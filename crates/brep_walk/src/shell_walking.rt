@@ -14,14 +14,14 @@ ghost use Rattle.solid_data.specs.Obligations.{AllHold, FirstFalse};
 ghost use Rattle.solid_data.specs.declared.verdict.Failing.{Failing as Named};
 
 use crate::fault::WalkFault;
-use crate::place::Place;
 use crate::state::WalkState;
 use brep_lists::EntityKind;
 use brep_loops::ShellRecord;
+use iges_base::EntryNo;
 use iges_directory::Entry;
-use iges_fields::{EntryNo, Values};
+use iges_fields::Values;
 use iges_params::File;
-use solid_data::{Faces, Failing, Rule, Shell, Shells, Solid};
+use solid_data::{Faces, Failing, Place, Rule, Shell, Shells, Solid};
 use std::alloc::Global;
 
 // Whether the entry is a shell, said to be closed or to be open (IGES 5.3, 4.149).

@@ -3,8 +3,7 @@
 ghost use Rattle.std.specs.Prelude.{◌≡◌, []};
 
 use crate::lists::Lists;
-use crate::once::Once;
-use brep_numbering::Numbering;
+use brep_numbering::{NumberSet, Numbering};
 use iges_params::File;
 use std::alloc::Global;
 
@@ -13,9 +12,9 @@ use std::alloc::Global;
 pub struct WalkState<'a> {
     pub lists: Lists<'a>,
     pub numbering: Numbering,
-    pub loops: Once,
-    pub faces: Once,
-    pub shells: Once,
+    pub loops: NumberSet,
+    pub faces: NumberSet,
+    pub shells: NumberSet,
 }
 
 impl<'a> WalkState<'a> {
@@ -29,9 +28,9 @@ impl<'a> WalkState<'a> {
         WalkState {
             lists: Lists::new(alloc, file),
             numbering: Numbering::new(alloc),
-            loops: Once::new(alloc),
-            faces: Once::new(alloc),
-            shells: Once::new(alloc),
+            loops: NumberSet::new(alloc),
+            faces: NumberSet::new(alloc),
+            shells: NumberSet::new(alloc),
         }
     }
 
@@ -41,8 +40,8 @@ impl<'a> WalkState<'a> {
         ensures shells { self.new.shells ≡ [] }
     {
         self.numbering.restart(alloc);
-        self.loops.restart();
-        self.faces.restart();
-        self.shells.restart();
+        self.loops.clear();
+        self.faces.clear();
+        self.shells.clear();
     }
 }

@@ -13,13 +13,12 @@ ghost use Rattle.solid_data.specs.SolidData.{same_edge, same_vertex};
 
 use crate::fault::WalkFault;
 use crate::naming::names_geometry;
-use crate::place::Place;
 use crate::state::WalkState;
 use brep_lists::EdgeTuple;
 use brep_loops::{LoopRecord, LoopTuple};
-use iges_fields::EntryNo;
+use iges_base::EntryNo;
 use iges_params::File;
-use solid_data::{EdgeId, EdgeKey, LoopUse, Rule, Uses};
+use solid_data::{EdgeId, EdgeKey, LoopUse, Place, Rule, Uses};
 use std::alloc::Global;
 
 // Whether the i-th parameter curve of the tuple, from 0, names geometry where there is one.

@@ -11,12 +11,11 @@ ghost use Rattle.std.specs.Prelude.{◌≡◌, IfOk, IfErr, OnOk, Ok, Err, ◌<�
 
 use crate::fault::WalkFault;
 use crate::lists::Lists;
-use crate::place::Place;
 use crate::state::WalkState;
 use brep_loops::SolidRecord;
-use iges_fields::EntryNo;
+use iges_base::EntryNo;
 use iges_params::File;
-use solid_data::{Shells, Solid};
+use solid_data::{Place, Shells, Solid};
 use std::alloc::Global;
 use std::marker::Model;
 

@@ -7,7 +7,7 @@ ghost use Rattle.cert_accept.specs.Accepted.{checked};
 ghost use Rattle.shell_rules.specs.Faults.{IsCheckFault};
 
 use brep_walk::{WalkFault, walk};
-use iges_fields::EntryNo;
+use iges_base::EntryNo;
 use iges_params::File;
 use shell_rules::{CheckFault, check_shells};
 use solid_data::Solid;

@@ -19,7 +19,7 @@ use crate::making::certify;
 use crate::sharing::name_much;
 use brep_walk::{WalkFault, Walker};
 use cert_state::use_count;
-use iges_fields::{EntryNo, NoMemory};
+use iges_base::{EntryNo, NoMemory};
 use iges_params::File;
 use solid_data::{Failing, Solid};
 use std::alloc::Global;

@@ -9,7 +9,7 @@ ghost use Rattle.solid_verdict.specs.Closed.{IsVerdictOn};
 use crate::fault::MakeFault;
 use crate::making::certify;
 use brep_walk::{WalkFault, walk};
-use iges_fields::{EntryNo, NoMemory};
+use iges_base::{EntryNo, NoMemory};
 use iges_params::File;
 use solid_data::{Solid, Verdict};
 use std::alloc::Global;

@@ -18,7 +18,7 @@ ghost use Rattle.cert_maker.specs.Certified.{AreParts};
 use crate::fault::MakeFault;
 use crate::shell_part::shell_part;
 use edge_uses::VerticesBefore;
-use iges_fields::NoMemory;
+use iges_base::NoMemory;
 use shell_rules::shell_at;
 use solid_data::{ShellAt, Solid};
 use std::alloc::Global;

@@ -9,7 +9,7 @@ ghost use Rattle.cert_maker.specs.Certified.{AreItsRows};
 ghost use Rattle.cert_maker.specs.Along.{RunAlong};
 
 use edge_uses::{Paired, Row, Rows, Span, row_at};
-use iges_fields::NoMemory;
+use iges_base::NoMemory;
 use solid_data::RowId;
 use std::alloc::Global;
 use topo_certificate::EdgePairs;

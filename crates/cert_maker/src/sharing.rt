@@ -1,6 +1,6 @@
 //! Whether the solids of a file name loops again and again.
 
-use iges_fields::{ItemList, NoMemory};
+use iges_base::{ItemList, NoMemory};
 use iges_params::File;
 use named_sizes::{ENTRY, solid_sizes};
 use std::alloc::Global;

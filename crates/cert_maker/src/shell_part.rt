@@ -17,7 +17,7 @@ use crate::judging::{linked, mated, reached};
 use crate::pairs::edge_pairs;
 use cert_state::loop_count;
 use edge_uses::{Paired, Rows, VerticesBefore, rows};
-use iges_fields::NoMemory;
+use iges_base::NoMemory;
 use shell_reach::ReachList;
 use shell_rules::{apart, join};
 use solid_data::{Shell, ShellAt, Solid};

@@ -3,7 +3,8 @@
 ghost use Rattle.std.specs.Prelude.{◌≡◌, [], IfOk};
 
 use changed_records::push_copies;
-use iges_fields::{NoMemory, Values};
+use iges_base::NoMemory;
+use iges_fields::Values;
 use iges_params::{File, Global26};
 use std::alloc::Global;
 

@@ -4,8 +4,8 @@ ghost use Rattle.changed_file.specs.Draft.{blank_draft, next_number, with_values
 ghost use Rattle.std.specs.Prelude.{◌≡◌, ◌+◌, ◌∷◌, ◌++◌, [], None, IfOk, OnOk, replicate};
 
 use changed_records::{ChangeFault, FaceFlag};
-use iges_base::ENTRY_LIMIT;
-use iges_fields::{EntryNo, ItemList, NoMemory, Values};
+use iges_base::{ENTRY_LIMIT, EntryNo, ItemList, NoMemory};
+use iges_fields::Values;
 use iges_params::File;
 use std::alloc::Global;
 

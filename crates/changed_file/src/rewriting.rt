@@ -9,9 +9,9 @@ ghost use Rattle.std.specs.Prelude.{◌≡◌, ◌<◌, ◌∷◌, ◌++◌, [],
 use crate::copying::{begun, copied_values};
 use crate::draft::{Draft, NewEntry};
 use changed_records::ChangeFault;
-use iges_base::ENTRY_LIMIT;
+use iges_base::{ENTRY_LIMIT, EntryNo, FILE_LIMIT, NoMemory};
 use iges_directory::Entry;
-use iges_fields::{EntryNo, FILE_LIMIT, NoMemory, Values};
+use iges_fields::Values;
 use iges_params::File;
 use std::alloc::Global;
 

@@ -5,7 +5,8 @@ ghost use Rattle.iges_fields.specs.declared.value.Value.TheVariants as value;
 ghost use Rattle.changed_records.specs.Values.{flag_value, number_value};
 ghost use Rattle.std.specs.Prelude.{◌≡◌, ◌+◌, ◌∷◌, ◌++◌, [], IsTrue, OnOk, drop, take};
 
-use iges_fields::{NoMemory, Value, Values};
+use iges_base::NoMemory;
+use iges_fields::{Value, Values};
 use std::alloc::Global;
 
 fn push_copy(list: &mut Values, alloc: Global, value: &Value) -> Result<(), NoMemory>

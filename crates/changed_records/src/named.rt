@@ -5,7 +5,8 @@ ghost use Rattle.changed_records.specs.Items.{edge_item, item_values, vertex_ite
 
 use crate::copying::push_number;
 use crate::fault::ChangeFault;
-use iges_fields::{NoMemory, Values};
+use iges_base::NoMemory;
+use iges_fields::Values;
 use shell_change::{EdgeName, VertexName};
 use solid_data::Solid;
 

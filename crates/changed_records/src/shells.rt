@@ -8,7 +8,8 @@ use crate::copying::{push_copies, push_flag, push_number};
 use crate::fault::ChangeFault;
 use crate::list_values::short_count;
 use brep_lists::count_at;
-use iges_fields::{NoMemory, Values};
+use iges_base::NoMemory;
+use iges_fields::Values;
 use std::alloc::Global;
 
 /// A face of a shell, or a shell of a solid: its directory number, and its flag there.

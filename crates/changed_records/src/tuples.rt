@@ -8,7 +8,8 @@ ghost use Rattle.std.specs.Prelude.{◌≡◌, ◌+◌, ◌<◌, ◌*◌, ◌≤
 use crate::copying::push_copies;
 use crate::fault::ChangeFault;
 use brep_lists::count_at;
-use iges_fields::{FILE_LIMIT, ItemList, Values};
+use iges_base::{FILE_LIMIT, ItemList};
+use iges_fields::Values;
 use std::alloc::Global;
 
 /// The tuples of a loop, and the place of what comes after them.

@@ -6,7 +6,7 @@ ghost use Rattle.std.specs.List.{list_all};
 ghost use Rattle.std.specs.Prelude.{◌≡◌, true, OnErr, OnOk, length, unsigned_abs};
 
 use crate::entry_set::EntrySet;
-use iges_fields::{ItemList, NoMemory};
+use iges_base::{ItemList, NoMemory};
 use iges_params::File;
 
 fn add_number(set: &mut EntrySet, file: &File, number: i64) -> Result<(), NoMemory>

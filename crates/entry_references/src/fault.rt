@@ -1,6 +1,6 @@
 //! Why references aren't given.
 
-use iges_fields::NoMemory;
+use iges_base::NoMemory;
 use std::alloc::{AllocError, AllocFailed};
 
 /// Why the references of an entry aren't given. Of the first three the first that holds is reported.

@@ -6,7 +6,7 @@ ghost use Rattle.std.specs.List.{list_all};
 ghost use Rattle.std.specs.Prelude.{◌≡◌, ◌+◌, ◌*◌, ◌<◌, ◌^◌, ◌++◌, IfOk, IsTrue, OnOk, flat_map, length, map, nat_lt};
 
 use brep_loops::{LoopRecord, LoopTuple};
-use iges_fields::{ItemList, NoMemory};
+use iges_base::{ItemList, NoMemory};
 
 // Puts the places of a group's pointers, which are given from the group's first value on, from 0.
 fn push_group(

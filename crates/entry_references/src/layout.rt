@@ -40,7 +40,7 @@ pub enum Forms {
 
 /// A type, by its number, and its layouts.
 #[derive(Clone, Copy)]
-pub struct Row(i32, Forms);
+pub struct Row(i64, Forms);
 
 // Each type by its name and its section (IGES 5.3, chapter 4).
 const TABLE: [Row; 23] = [
@@ -90,7 +90,7 @@ const TABLE: [Row; 23] = [
 ];
 
 // The row of the table for an entity type.
-fn row_of(rows: &[Row], kind: i32) -> Option<Row>
+fn row_of(rows: &[Row], kind: i64) -> Option<Row>
     ensures { result ≡ find (λ r. int_eq kind r.0) rows.now }
 {
     'rows: for row in rows {
@@ -102,7 +102,7 @@ fn row_of(rows: &[Row], kind: i32) -> Option<Row>
 }
 
 // The layouts of a type that the rows list.
-fn forms_of(rows: &[Row], kind: i32) -> Option<Forms>
+fn forms_of(rows: &[Row], kind: i64) -> Option<Forms>
     requires { (form : ℤ) → Shows form rows.now (listed form) }
     ensures { (form : ℤ) → option_map (layout_in_form form) result
         ≡ option_map (λ row. row.1) (find (λ row. int_eq kind (pos row.0)) (listed form)) }
@@ -114,7 +114,7 @@ fn forms_of(rows: &[Row], kind: i32) -> Option<Forms>
 }
 
 // The layout in this form; of two the first is that of form 1.
-fn in_form(forms: Forms, form: i32) -> Layout
+fn in_form(forms: Forms, form: i64) -> Layout
     ensures { layout_of_row result ≡ layout_in_form form forms }
 {
     match forms {

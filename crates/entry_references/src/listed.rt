@@ -10,8 +10,9 @@ use crate::own::Own;
 use crate::own_kinds::own_of_kind;
 use crate::own_table::own_in;
 use brep_lists::EntityKind;
+use iges_base::NoMemory;
 use iges_directory::Entry;
-use iges_fields::{NoMemory, Values};
+use iges_fields::Values;
 use std::alloc::Global;
 
 /// A type that extraction follows.

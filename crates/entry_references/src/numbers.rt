@@ -13,8 +13,9 @@ ghost use Rattle.std.specs.Prelude.{◌≡◌, ◌+◌, ◌++◌, ◌<◌, ◌^�
 use crate::group::Group;
 use crate::own::Own;
 use crate::place::{number_in, number_of};
+use iges_base::{ItemList, NoMemory};
 use iges_directory::Entry;
-use iges_fields::{ItemList, NoMemory, Values};
+use iges_fields::Values;
 use iges_params::File;
 use std::alloc::Global;
 
@@ -81,7 +82,7 @@ fn matrix_of(entry: &Entry) -> Option<i64>
     if entry.matrix == 0 {
         return None;
     }
-    Some(i64::from(entry.matrix))
+    Some(entry.matrix)
 }
 
 // The entry that gives the colour, where one does: its number is there negated (IGES 5.3, 2.2.4.4.13).
@@ -92,7 +93,7 @@ fn colour_of(entry: &Entry) -> Option<i64>
     if entry.colour >= 0 {
         return None;
     }
-    Some(-i64::from(entry.colour))
+    Some(-entry.colour)
 }
 
 /// The numbers of an entry that are followed: the pointers among its own values, its matrix and its colour.

@@ -5,7 +5,8 @@ ghost use Rattle.std.specs.List.{list_all, range_with_len};
 ghost use Rattle.std.specs.Prelude.{◌≡◌, ◌+◌, ◌<◌, ◌^◌, ◌++◌, [], Some, None, IfOk, if◌then◌else◌};
 
 use crate::place::are_pointers;
-use iges_fields::{ItemList, NoMemory, Values};
+use iges_base::{ItemList, NoMemory};
+use iges_fields::Values;
 use std::alloc::Global;
 use std::marker::Model;
 

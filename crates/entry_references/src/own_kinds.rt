@@ -11,7 +11,8 @@ use crate::group_places::{push_groups, push_tuples};
 use crate::own::{Own, places};
 use brep_lists::{EdgeList, EntityKind, VertexList};
 use brep_loops::{FaceRecord, LoopRecord, ShellRecord, SolidRecord};
-use iges_fields::{ItemList, NoMemory, Values};
+use iges_base::{ItemList, NoMemory};
+use iges_fields::Values;
 use std::alloc::Global;
 
 fn of_solid(alloc: Global, values: &Values) -> Result<Option<Own>, NoMemory>

@@ -10,7 +10,8 @@ ghost use Rattle.std.specs.Prelude.{◌≡◌, ◌+◌, ◌*◌, ◌≤◌, ◌=
 use crate::layout::Layout;
 use crate::own::{Own, places, places_from};
 use crate::place::{PointForm, count_in, form_in};
-use iges_fields::{ItemList, NoMemory, Values};
+use iges_base::{ItemList, NoMemory};
+use iges_fields::Values;
 use std::alloc::Global;
 
 // A row with so many values (IGES 5.3, chapter 4; the section of each type is in the table).

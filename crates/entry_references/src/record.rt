@@ -6,8 +6,9 @@ ghost use Rattle.iges_base.specs.declared.TheConstants.{FILE_LIMIT};
 ghost use Rattle.iges_params.specs.Named.{named};
 ghost use Rattle.std.specs.Prelude.{◌≡◌, ◌≤◌, None, Some, MatchOption, length, pos};
 
+use iges_base::EntryNo;
 use iges_directory::Entry;
-use iges_fields::{EntryNo, Values};
+use iges_fields::Values;
 use iges_params::File;
 
 /// An entry and the values of its record.

@@ -12,8 +12,9 @@ use crate::group::{Group, second_group};
 use crate::listed::{own_of, type_of};
 use crate::numbers::{followed, name_entries, push_names};
 use crate::own::Own;
+use iges_base::ItemList;
 use iges_directory::Entry;
-use iges_fields::{ItemList, Values};
+use iges_fields::Values;
 use iges_params::File;
 use std::alloc::Global;
 

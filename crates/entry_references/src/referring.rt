@@ -14,7 +14,7 @@ use crate::entry_set::{EntryList, EntrySet};
 use crate::fault::RefFault;
 use crate::record::record_of;
 use crate::reference_numbers::refs;
-use iges_fields::{EntryNo, ItemList, NoMemory};
+use iges_base::{EntryNo, ItemList, NoMemory};
 use iges_params::File;
 use std::alloc::Global;
 

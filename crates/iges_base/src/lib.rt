@@ -16,7 +16,7 @@ mod out;
 pub use bytes::Bytes;
 pub use column::column_number;
 pub use counting::about_count;
-pub use digits::{is_digits, unsigned};
+pub use digits::{is_digits, low_digit, unsigned};
 pub use entry_no::EntryNo;
 pub use front::{trimmed, without_front_spaces};
 pub use leading_digits::{LeadingDigits, digits_len, digits_of};

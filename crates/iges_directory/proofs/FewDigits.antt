@@ -1,5 +1,5 @@
 -- Spaces and two to six digits, as one number.
-use Rattle.std.proofs.Common.{◌≡◌, ℕ, ◌+◌, ◌*◌, ◌<◌, ◌^◌, true, List, [], ◌∷◌, ◌++◌, pos, Some, refl, sym, ap, ap₂, ◌∙◌, arith, w64, w32}
+use Rattle.std.proofs.Common.{◌≡◌, ℕ, ◌+◌, ◌*◌, ◌<◌, ◌^◌, true, List, [], ◌∷◌, ◌++◌, pos, Some, refl, sym, ap, ap₂, ◌∙◌, arith, w64}
 use mir.Val.{hbits, to_z}
 use Rattle.std.specs.Char.{is_ascii_digit, digit_value}
 use Rattle.std.specs.Int.{to_be_bytes}
@@ -30,8 +30,8 @@ spaced n b digits all first =
     let stays : after_spaces (b ∷ digits) ≡ b ∷ digits = after_spaces-other b digits (not-true _ (digit_is_not 32 b refl first)) in
     sym (spaced_digits (spaces n ++ b ∷ digits) (b ∷ digits) (sym (after_spaces-spaces n (b ∷ digits) ∙ stays)) all)
 
-read : (n : ℕ) → n < 1000000 → pos n ≡ to_z w32 n
-read n h = let small : n < 2 ^ hbits w32 = omega (arith, h) in sym (to_z_pos w32 n small)
+read : (n : ℕ) → n < 1000000 → pos n ≡ to_z w64 n
+read n h = let small : n < 2 ^ hbits w64 = omega (arith, h) in sym (to_z_pos w64 n small)
 
 module _ (word a b : ℕ) (ha : a < 10) (hb : b < 10) (is : word ≡ 2314885530818457648 + a * 256 + b) where
   bytes_2 : to_be_bytes w64 word ≡ spaces 6 ++ (48 + a) ∷ (48 + b) ∷ []
@@ -44,7 +44,7 @@ module _ (word a b : ℕ) (ha : a < 10) (hb : b < 10) (is : word ≡ 23148855308
   value_2 : digits_value 10 ((48 + a) ∷ (48 + b) ∷ []) ≡ a * 10 + b
   value_2 = omega (arith, value_of a ha, value_of b hb)
 
-  pub two_digits : (n : ℕ) → n ≡ a * 10 + b → column_number (to_be_bytes w64 word) ≡ Some (to_z w32 n)
+  pub two_digits : (n : ℕ) → n ≡ a * 10 + b → column_number (to_be_bytes w64 word) ≡ Some (to_z w64 n)
   two_digits n n_is =
       ap column_number bytes_2 ∙ spaced 6 (48 + a) ((48 + b) ∷ []) (and_from _ _ (is_digit a ha) (and_from _ _ (is_digit b hb) refl)) (is_digit a ha)
       ∙ ap (λ (k : ℕ). Some (pos k)) (value_2 ∙ sym n_is) ∙ ap Some (read n (omega (arith, n_is, ha, hb)))
@@ -60,7 +60,7 @@ module _ (word a b c : ℕ) (ha : a < 10) (hb : b < 10) (hc : c < 10) (is : word
   value_3 : digits_value 10 ((48 + a) ∷ (48 + b) ∷ (48 + c) ∷ []) ≡ a * 100 + b * 10 + c
   value_3 = omega (arith, value_of a ha, value_of b hb, value_of c hc)
 
-  pub three_digits : (n : ℕ) → n ≡ a * 100 + b * 10 + c → column_number (to_be_bytes w64 word) ≡ Some (to_z w32 n)
+  pub three_digits : (n : ℕ) → n ≡ a * 100 + b * 10 + c → column_number (to_be_bytes w64 word) ≡ Some (to_z w64 n)
   three_digits n n_is =
       ap column_number bytes_3 ∙ spaced 5 (48 + a) ((48 + b) ∷ (48 + c) ∷ [])
       (and_from _ _ (is_digit a ha) (and_from _ _ (is_digit b hb) (and_from _ _ (is_digit c hc) refl))) (is_digit a ha)
@@ -80,7 +80,7 @@ module _ (word a b c d : ℕ) (ha : a < 10) (hb : b < 10) (hc : c < 10) (hd : d 
   value_4 : digits_value 10 ((48 + a) ∷ (48 + b) ∷ (48 + c) ∷ (48 + d) ∷ []) ≡ a * 1000 + b * 100 + c * 10 + d
   value_4 = omega (arith, value_of a ha, value_of b hb, value_of c hc, value_of d hd)
 
-  pub four_digits : (n : ℕ) → n ≡ a * 1000 + b * 100 + c * 10 + d → column_number (to_be_bytes w64 word) ≡ Some (to_z w32 n)
+  pub four_digits : (n : ℕ) → n ≡ a * 1000 + b * 100 + c * 10 + d → column_number (to_be_bytes w64 word) ≡ Some (to_z w64 n)
   four_digits n n_is =
       ap column_number bytes_4 ∙ spaced 4 (48 + a) ((48 + b) ∷ (48 + c) ∷ (48 + d) ∷ [])
       (and_from _ _ (is_digit a ha) (and_from _ _ (is_digit b hb) (and_from _ _ (is_digit c hc) (and_from _ _ (is_digit d hd) refl)))) (is_digit a ha)
@@ -101,7 +101,7 @@ module _ (word a b c d e : ℕ) (ha : a < 10) (hb : b < 10) (hc : c < 10) (hd : 
   value_5 : digits_value 10 ((48 + a) ∷ (48 + b) ∷ (48 + c) ∷ (48 + d) ∷ (48 + e) ∷ []) ≡ a * 10000 + b * 1000 + c * 100 + d * 10 + e
   value_5 = omega (arith, value_of a ha, value_of b hb, value_of c hc, value_of d hd, value_of e he)
 
-  pub five_digits : (n : ℕ) → n ≡ a * 10000 + b * 1000 + c * 100 + d * 10 + e → column_number (to_be_bytes w64 word) ≡ Some (to_z w32 n)
+  pub five_digits : (n : ℕ) → n ≡ a * 10000 + b * 1000 + c * 100 + d * 10 + e → column_number (to_be_bytes w64 word) ≡ Some (to_z w64 n)
   five_digits n n_is =
       ap column_number bytes_5 ∙ spaced 3 (48 + a) ((48 + b) ∷ (48 + c) ∷ (48 + d) ∷ (48 + e) ∷ [])
       (and_from _ _ (is_digit a ha) (and_from _ _ (is_digit b hb)
@@ -123,7 +123,7 @@ module _ (word a b c d e f : ℕ) (ha : a < 10) (hb : b < 10) (hc : c < 10) (hd 
   value_6 : digits_value 10 ((48 + a) ∷ (48 + b) ∷ (48 + c) ∷ (48 + d) ∷ (48 + e) ∷ (48 + f) ∷ []) ≡ a * 100000 + b * 10000 + c * 1000 + d * 100 + e * 10 + f
   value_6 = omega (arith, value_of a ha, value_of b hb, value_of c hc, value_of d hd, value_of e he, value_of f hf)
 
-  pub six_digits : (n : ℕ) → n ≡ a * 100000 + b * 10000 + c * 1000 + d * 100 + e * 10 + f → column_number (to_be_bytes w64 word) ≡ Some (to_z w32 n)
+  pub six_digits : (n : ℕ) → n ≡ a * 100000 + b * 10000 + c * 1000 + d * 100 + e * 10 + f → column_number (to_be_bytes w64 word) ≡ Some (to_z w64 n)
   six_digits n n_is =
       ap column_number bytes_6 ∙ spaced 2 (48 + a) ((48 + b) ∷ (48 + c) ∷ (48 + d) ∷ (48 + e) ∷ (48 + f) ∷ [])
       (and_from _ _ (is_digit a ha) (and_from _ _ (is_digit b hb)

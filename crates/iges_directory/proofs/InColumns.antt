@@ -5,12 +5,12 @@ use Rattle.std.specs.Prelude.{◌==◌, nat_le, slice_index, neg_ℤ, IsTrue, If
 use Rattle.std.specs.Char.{is_ascii_digit}
 use Rattle.std.specs.List.{list_all}
 use Rattle.std.specs.Str.Parse.{digits_value, signed_digits_value, without_leading_plus, without_leading_sign, starts_with_minus}
-use Rattle.std.proofs.lemmas.Bool.{and_parts, and_from, cond-true, cond-false, le-leb, leb-true}
-use Rattle.std.proofs.lemmas.Int.{fits_signed_from_abs, to_z-of_z}
+use Rattle.std.proofs.lemmas.Bool.{and_parts, and_from, cond-true, cond-false, le-leb}
+use Rattle.std.proofs.lemmas.Int.{to_z-of_z}
 use Rattle.std.proofs.lemmas.List.{length-drop}
 use Rattle.std.proofs.lemmas.Option.{same_Some}
 use mir.Val.{SFits, of_z, to_z}
-use mir.Syntax.{w32, w64}
+use mir.Syntax.{w64}
 use Rattle.std.proofs.lemmas.Int.Digits.{digits_value-lt}
 use Rattle.std.proofs.Math.Nat.{one-le-pow, pow-le-pow_right}
 use Rattle.iges_base.specs.Word.{is_empty, trim, are_digits, is_integer, integer, column_number}
@@ -91,29 +91,15 @@ pub some_fits : (field : List ℕ) (o : Option ℤ) → length field ≤ 8 → o
 some_fits field None le e = tt
 some_fits field (Some z) le e = column_fits field z le (sym e)
 
--- a number in eight columns fits 32 bits
-narrow : (z : ℤ) → fits_columns z ≡ true → SFits w32 z
-narrow (pos n) h = fits_signed_from_abs w32 (pos n) (omega (arith, leb-true n 99999999 h))
-narrow (negsuc n) h = fits_signed_from_abs w32 (negsuc n) (omega (arith, leb-true n 9999998 (and_parts (nat_le n 9999998) true h).0))
+pub read_fits : (k : ℕ) (line : List ℕ) (z : ℤ) → SFits w64 z → Holds k line z → IsTrue (fits_columns (to_z w64 (of_z w64 z)))
+read_fits k line z fits e = subst (λ (n : ℤ). IsTrue (fits_columns n)) (sym (to_z-of_z w64 z fits)) (column_fits (field k line) z (field_short k line) e)
 
-pub spelled_fits : (field : List ℕ) (z : ℤ) → length field ≤ 8 → SFits w64 z → Some z ≡ column_number field → SFits w32 (to_z w64 (of_z w64 z))
-spelled_fits field z le fits e = subst (SFits w32) (sym (to_z-of_z w64 z fits)) (narrow z (column_fits field z le (sym e)))
-
--- such a number is the same in 32 bits
-pub spelled_is : (field : List ℕ) (z : ℤ) → length field ≤ 8 → SFits w64 z → Some z ≡ column_number field →
-    Some (to_z w32 (of_z w32 (to_z w64 (of_z w64 z)))) ≡ column_number field
-spelled_is field z le fits e =
-    ap (λ (n : ℤ). Some n) (to_z-of_z w32 (to_z w64 (of_z w64 z)) (spelled_fits field z le fits e) ∙ to_z-of_z w64 z fits) ∙ e
-
-pub read_fits : (k : ℕ) (line : List ℕ) (z : ℤ) → SFits w32 z → Holds k line z → IsTrue (fits_columns (to_z w32 (of_z w32 z)))
-read_fits k line z fits e = subst (λ (n : ℤ). IsTrue (fits_columns n)) (sym (to_z-of_z w32 z fits)) (column_fits (field k line) z (field_short k line) e)
-
-pub read_holds : (k : ℕ) (line : List ℕ) (z : ℤ) → SFits w32 z → Holds k line z → Holds k line (to_z w32 (of_z w32 z))
-read_holds k line z fits e = subst (Holds k line) (sym (to_z-of_z w32 z fits)) e
+pub read_holds : (k : ℕ) (line : List ℕ) (z : ℤ) → SFits w64 z → Holds k line z → Holds k line (to_z w64 (of_z w64 z))
+read_holds k line z fits e = subst (Holds k line) (sym (to_z-of_z w64 z fits)) e
 
 -- a number that the program has read stands in its field
-pub held : (k : ℕ) (line : List ℕ) (z : ℤ) → SFits w32 z → Some z ≡ column_number (field k line) → Holds k line (to_z w32 (of_z w32 z))
-held k line z fits e = subst (Holds k line) (sym (to_z-of_z w32 z fits)) (sym e)
+pub held : (k : ℕ) (line : List ℕ) (z : ℤ) → SFits w64 z → Some z ≡ column_number (field k line) → Holds k line (to_z w64 (of_z w64 z))
+held k line z fits e = subst (Holds k line) (sym (to_z-of_z w64 z fits)) (sym e)
 
 -- ---- an entry
 

@@ -6,7 +6,7 @@ use Rattle.std.specs.List.{list_all}
 use Rattle.std.specs.Ordering.{int_eq}
 use Rattle.std.specs.Cmp.{signed_Decides}
 use mir.Val.{SFits, of_z, to_z}
-use mir.Syntax.{w32}
+use mir.Syntax.{w64}
 use Rattle.std.proofs.lemmas.Bool.{and_from}
 use Rattle.std.proofs.lemmas.Int.{to_z-of_z}
 use Rattle.iges_base.specs.Word.{column_number}
@@ -48,12 +48,12 @@ unfolding three
 three_3 a b c e f g = ap (λ (t : Bool). three t b c) e ∙ ap (λ (t : Bool). three true t c) f ∙ ap (λ (t : Bool). three true true t) g
 
 -- the program's answer on three numbers that it has read
-pub lies_read : (n : ℕ) (kind first count : ℤ) (r v : Bool) → SFits w32 kind → SFits w32 first → SFits w32 count
-    → r ≡ has_record n (to_z w32 (of_z w32 kind)) (to_z w32 (of_z w32 first)) (to_z w32 (of_z w32 count)) → r ≡ v → has_record n kind first count ≡ v
+pub lies_read : (n : ℕ) (kind first count : ℤ) (r v : Bool) → SFits w64 kind → SFits w64 first → SFits w64 count
+    → r ≡ has_record n (to_z w64 (of_z w64 kind)) (to_z w64 (of_z w64 first)) (to_z w64 (of_z w64 count)) → r ≡ v → has_record n kind first count ≡ v
 lies_read n kind first count r v a b c is e =
-    ap (λ (z : ℤ). has_record n z first count) (sym (to_z-of_z w32 kind a)) ∙ ap (λ (z : ℤ). has_record n (to_z w32 (of_z w32 kind)) z count)
-    (sym (to_z-of_z w32 first b))
-    ∙ ap (λ (z : ℤ). has_record n (to_z w32 (of_z w32 kind)) (to_z w32 (of_z w32 first)) z) (sym (to_z-of_z w32 count c)) ∙ sym is ∙ e
+    ap (λ (z : ℤ). has_record n z first count) (sym (to_z-of_z w64 kind a)) ∙ ap (λ (z : ℤ). has_record n (to_z w64 (of_z w64 kind)) z count)
+    (sym (to_z-of_z w64 first b))
+    ∙ ap (λ (z : ℤ). has_record n (to_z w64 (of_z w64 kind)) (to_z w64 (of_z w64 first)) z) (sym (to_z-of_z w64 count c)) ∙ sym is ∙ e
 
 -- the first line fails
 pub first_fails : (n : ℕ) (first second : List ℕ) → IsFalse (first_fields first) → AnswersPair n first second (Err (First reason.Field))

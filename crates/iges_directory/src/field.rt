@@ -6,7 +6,7 @@ ghost use Rattle.std.specs.Int.{to_be_bytes, w64};
 ghost use Rattle.std.specs.List.{list_all};
 ghost use Rattle.std.specs.Prelude.{◌≡◌, ◌+◌, ◌%◌, ◌<◌, ◌≤◌, ◌==◌, Some, if◌then◌else◌, length, IsTrue, IsFalse, IfSome, IfNone};
 
-use iges_fields::column_number;
+use iges_base::{column_number, low_digit};
 use iges_lines::columns;
 
 // The k-th field of a line, from 1.
@@ -36,21 +36,11 @@ const ZERO_FIELD: u64 = 0x2020_2020_2020_2030;
 
 // The digit in the last of the eight bytes, where the others are spaces.
 #[inline(always)]
-fn lone_digit(word: u64) -> Option<i32>
+fn lone_digit(word: u64) -> Option<i64>
     ensures { IfSome result (λ n. column_number (to_be_bytes w64 word) ≡ Some n) }
 {
     let above = word.wrapping_sub(ZERO_FIELD);
-    if above < 10 { Some(above as i32) } else { None }
-}
-
-// The digit in the lowest byte.
-#[inline(always)]
-fn low_digit(word: u64) -> Option<u64>
-    ensures is { IfSome result (λ d. word % 256 ≡ 48 + d) }
-    ensures small { IfSome result (λ d. d < 10) }
-{
-    let digit = (word % 256).wrapping_sub(48);
-    if digit < 10 { Some(digit) } else { None }
+    if above < 10 { Some(above as i64) } else { None }
 }
 
 // Spaces and the digit 0 in seven columns, in six, in five, in four and in three.
@@ -66,34 +56,34 @@ const ZERO_IN_THREE: u64 = 0x0020_2030;
 
 // The number of two digits behind spaces.
 #[inline(always)]
-fn two_digits(word: u64) -> Option<i32>
+fn two_digits(word: u64) -> Option<i64>
     ensures { IfSome result (λ n. column_number (to_be_bytes w64 word) ≡ Some n) }
 {
     let ones = low_digit(word)?;
     let tens = (word / 0x100).wrapping_sub(ZERO_IN_SEVEN);
     if tens < 10 {
-        return Some((tens * 10 + ones) as i32);
+        return Some((tens * 10 + ones) as i64);
     }
     None
 }
 
 // The number of three digits behind spaces.
 #[inline(always)]
-fn three_digits(word: u64) -> Option<i32>
+fn three_digits(word: u64) -> Option<i64>
     ensures { IfSome result (λ n. column_number (to_be_bytes w64 word) ≡ Some n) }
 {
     let ones = low_digit(word)?;
     let tens = low_digit(word / 0x100)?;
     let hundreds = (word / 0x1_0000).wrapping_sub(ZERO_IN_SIX);
     if hundreds < 10 {
-        return Some((hundreds * 100 + tens * 10 + ones) as i32);
+        return Some((hundreds * 100 + tens * 10 + ones) as i64);
     }
     None
 }
 
 // The number of four digits behind spaces.
 #[inline(always)]
-fn four_digits(word: u64) -> Option<i32>
+fn four_digits(word: u64) -> Option<i64>
     ensures { IfSome result (λ n. column_number (to_be_bytes w64 word) ≡ Some n) }
 {
     let ones = low_digit(word)?;
@@ -101,14 +91,14 @@ fn four_digits(word: u64) -> Option<i32>
     let hundreds = low_digit(word / 0x1_0000)?;
     let thousands = (word / 0x100_0000).wrapping_sub(ZERO_IN_FIVE);
     if thousands < 10 {
-        return Some((thousands * 1000 + hundreds * 100 + tens * 10 + ones) as i32);
+        return Some((thousands * 1000 + hundreds * 100 + tens * 10 + ones) as i64);
     }
     None
 }
 
 // The number of five digits behind spaces.
 #[inline(always)]
-fn five_digits(word: u64) -> Option<i32>
+fn five_digits(word: u64) -> Option<i64>
     ensures { IfSome result (λ n. column_number (to_be_bytes w64 word) ≡ Some n) }
 {
     let ones = low_digit(word)?;
@@ -117,14 +107,14 @@ fn five_digits(word: u64) -> Option<i32>
     let thousands = low_digit(word / 0x100_0000)?;
     let over = (word / 0x1_0000_0000).wrapping_sub(ZERO_IN_FOUR);
     if over < 10 {
-        return Some((over * 10000 + thousands * 1000 + hundreds * 100 + tens * 10 + ones) as i32);
+        return Some((over * 10000 + thousands * 1000 + hundreds * 100 + tens * 10 + ones) as i64);
     }
     None
 }
 
 // The number of six digits behind spaces.
 #[inline(always)]
-fn six_digits(word: u64) -> Option<i32>
+fn six_digits(word: u64) -> Option<i64>
     ensures { IfSome result (λ n. column_number (to_be_bytes w64 word) ≡ Some n) }
 {
     let ones = low_digit(word)?;
@@ -135,14 +125,14 @@ fn six_digits(word: u64) -> Option<i32>
     let over = (word / 0x100_0000_0000).wrapping_sub(ZERO_IN_THREE);
     if over < 10 {
         let front = over * 100_000 + above * 10000;
-        return Some((front + thousands * 1000 + hundreds * 100 + tens * 10 + ones) as i32);
+        return Some((front + thousands * 1000 + hundreds * 100 + tens * 10 + ones) as i64);
     }
     None
 }
 
 // The number of two to six digits behind spaces.
 #[inline(always)]
-fn few_digits(word: u64) -> Option<i32>
+fn few_digits(word: u64) -> Option<i64>
     ensures { IfSome result (λ n. column_number (to_be_bytes w64 word) ≡ Some n) }
 {
     if let Some(number) = two_digits(word) {
@@ -163,7 +153,7 @@ fn few_digits(word: u64) -> Option<i32>
 /// The number in eight columns, of which the last is the lowest byte, where they are spaces and then one to six
 /// digits. None may also be said of others that hold a number.
 #[inline(always)]
-pub fn short_number(word: u64) -> Option<i32>
+pub fn short_number(word: u64) -> Option<i64>
     ensures { IfSome result (λ n. column_number (to_be_bytes w64 word) ≡ Some n) }
 {
     match lone_digit(word) {
@@ -174,19 +164,18 @@ pub fn short_number(word: u64) -> Option<i32>
 
 // The number in the k-th field of a line, from 1, however it is spelled.
 #[inline(never)]
-fn spelled_number(line: &[u8], k: usize) -> Option<i32>
+fn spelled_number(line: &[u8], k: usize) -> Option<i64>
     requires long { length line.now ≡ 80 }
     requires some { 0 < k }
     requires within { k ≤ 10 }
     ensures { result ≡ column_number (field k line.now) }
 {
-    let number = column_number(field(line, k))?;
-    Some(number as i32)
+    column_number(field(line, k))
 }
 
 // The number in the k-th field of a line, from 1, which mostly is that of a few digits.
 #[inline(never)]
-fn longer_number(line: &[u8], k: usize) -> Option<i32>
+fn longer_number(line: &[u8], k: usize) -> Option<i64>
     requires long { length line.now ≡ 80 }
     requires some { 0 < k }
     requires within { k ≤ 10 }
@@ -200,7 +189,7 @@ fn longer_number(line: &[u8], k: usize) -> Option<i32>
 
 /// The number in the k-th field of a line, from 1.
 #[inline(always)]
-pub fn number_in(line: &[u8], k: usize) -> Option<i32>
+pub fn number_in(line: &[u8], k: usize) -> Option<i64>
     requires long { length line.now ≡ 80 }
     requires some { 0 < k }
     requires within { k ≤ 10 }

@@ -38,7 +38,7 @@ fn first_half(line: &[u8]) -> Option<FirstHalf>
 
 // The entity type in the second line, of which the first holds this type.
 #[inline(always)]
-fn kind_again(first: &[u8], kind: i32, line: &[u8]) -> Option<i32>
+fn kind_again(first: &[u8], kind: i64, line: &[u8]) -> Option<i64>
     requires first { length first.now ≡ 80 }
     requires held { Holds 1 first.now kind }
     requires long { length line.now ≡ 80 }
@@ -51,7 +51,7 @@ fn kind_again(first: &[u8], kind: i32, line: &[u8]) -> Option<i32>
     number_in(line, 1)
 }
 
-fn second_half(first: &[u8], kind: i32, line: &[u8]) -> Option<SecondHalf>
+fn second_half(first: &[u8], kind: i64, line: &[u8]) -> Option<SecondHalf>
     requires first { length first.now ≡ 80 }
     requires held { Holds 1 first.now kind }
     requires long { length line.now ≡ 80 }
@@ -76,14 +76,16 @@ fn have_one_type(one: &FirstHalf, two: &SecondHalf) -> bool
 }
 
 // The number behind that of a record's last line.
-fn record_end(first: i32, count: i32) -> i64
+fn record_end(first: i64, count: i64) -> i64
+    requires first { IsTrue (fits_columns first) }
+    requires count { IsTrue (fits_columns count) }
     ensures { result ≡ first +ℤ count }
 {
-    i64::from(first) + i64::from(count)
+    first + count
 }
 
 // Whether the record lies among so many parameter lines, where there must be one.
-fn lies_within(params: usize, kind: i32, first: i32, count: i32) -> bool
+fn lies_within(params: usize, kind: i64, first: i64, count: i64) -> bool
     requires params { params < 2 ^ 62 }
     requires first { IsTrue (fits_columns first) }
     requires count { IsTrue (fits_columns count) }

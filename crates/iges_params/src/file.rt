@@ -10,8 +10,9 @@ ghost use Rattle.std.specs.Prelude.{◌≡◌, ◌+◌, ◌<◌, ◌≤◌, [], 
 mod taking;
 
 use crate::global::Global26;
+use iges_base::{EntryNo, FILE_LIMIT, NoMemory};
 use iges_directory::Entry;
-use iges_fields::{EntryNo, FILE_LIMIT, NoMemory, Values};
+use iges_fields::Values;
 use std::alloc::Global;
 use std::marker::Model;
 

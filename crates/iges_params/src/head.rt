@@ -2,7 +2,8 @@ ghost use Rattle.iges_params.specs.Global.{delimiter_at, behind_byte, head_with,
 ghost use Rattle.iges_params.specs.Heads.{IsHead};
 ghost use Rattle.std.specs.Prelude.{◌≡◌, Option, Some, List, ℕ, option_copied};
 
-use iges_fields::{Delimiters, without_front_spaces};
+use iges_base::without_front_spaces;
+use iges_fields::Delimiters;
 
 /// The delimiters that a global's text names, and the text of its values where values follow.
 #[derive(Clone, Copy)]

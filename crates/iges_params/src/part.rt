@@ -3,7 +3,7 @@ ghost use Rattle.iges_lines.specs.Lines.{columns};
 ghost use Rattle.iges_params.specs.Parts.{part_lines};
 ghost use Rattle.std.specs.Prelude.{◌≡◌, ◌+◌, ◌^◌, ◌<◌, ◌≤◌, ◌↔◌, IsSome, IfSome, IfOk, IsTrue, OnOk, flat_map, length, option_copied, slice_get, slice_range};
 
-use iges_fields::NoMemory;
+use iges_base::NoMemory;
 use iges_lines::{Sections, columns};
 
 /// A section with free text (IGES 5.3, 2.2.4.3 and 2.2.4.5).

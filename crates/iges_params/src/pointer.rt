@@ -4,6 +4,7 @@ ghost use Rattle.iges_params.specs.Records.{points_back};
 ghost use Rattle.std.specs.Int.{to_be_bytes, w64};
 ghost use Rattle.std.specs.Prelude.{◌≡◌, ◌+◌, ◌%◌, ◌^◌, ◌<◌, IfSome, IsTrue, Some, drop, length, pos};
 
+use iges_base::low_digit;
 use iges_directory::short_number;
 use iges_lines::{columns, holds_number};
 
@@ -21,16 +22,6 @@ fn word_of(bytes: [u8; 8]) -> u64
     ensures { to_be_bytes w64 result ≡ bytes }
 {
     u64::from_be_bytes(bytes)
-}
-
-// The digit in the lowest byte.
-#[inline(always)]
-fn low_digit(word: u64) -> Option<u64>
-    ensures is { IfSome result (λ d. word % 256 ≡ 48 + d) }
-    ensures small { IfSome result (λ d. d < 10) }
-{
-    let digit = (word % 256).wrapping_sub(48);
-    if digit < 10 { Some(digit) } else { None }
 }
 
 // The number in the last seven of eight columns, where it has two zeros and then five digits.
@@ -51,7 +42,7 @@ fn five_digits(word: u64) -> Option<u64>
 
 // The number in the last seven of eight columns, where they are spaces and then at most six digits.
 #[inline(always)]
-fn number_behind_spaces(word: u64) -> Option<i32>
+fn number_behind_spaces(word: u64) -> Option<i64>
     ensures { IfSome result (λ n. column_number (drop 1 (to_be_bytes w64 word)) ≡ Some n) }
 {
     if word / 0x100_0000_0000_0000 != 0x20 {
@@ -75,7 +66,7 @@ pub fn carries(line: &[u8], number: usize) -> bool
         }
     }
     if let Some(z) = number_behind_spaces(word) {
-        if i64::from(z) == number as i64 {
+        if z == number as i64 {
             return true;
         }
     }

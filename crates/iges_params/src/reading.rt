@@ -19,8 +19,8 @@ use crate::file::File;
 use crate::global::Global26;
 use crate::global_pass::read_global;
 use crate::record::{lines_above, read_record};
+use iges_base::{FILE_LIMIT, NoMemory};
 use iges_directory::{Directory, directory};
-use iges_fields::{FILE_LIMIT, NoMemory};
 use iges_lines::{Sections, columns, sections};
 use std::alloc::Global;
 

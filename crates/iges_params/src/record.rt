@@ -13,8 +13,9 @@ ghost use Rattle.std.specs.Prelude.{◌≡◌, ◌+◌, ◌-◌, ◌*◌, ◌<�
 use crate::part::{Part, put_text};
 use crate::passage::{Passage, bad, parted_passage};
 use crate::pointer::{carries, carries_too};
+use iges_base::{FILE_LIMIT, NoMemory};
 use iges_directory::{Entry, Placed};
-use iges_fields::{Delimiters, FILE_LIMIT, NoMemory, Value, Values};
+use iges_fields::{Delimiters, Value, Values};
 use iges_lines::{PassFault, Reason, Sections, columns};
 use std::alloc::Global;
 
@@ -95,17 +96,17 @@ fn record_text<'t>(
 }
 
 // Whether the value is this integer.
-fn is_number(n: &i32, value: &Value) -> bool
+fn is_number(n: &i64, value: &Value) -> bool
     ensures { result ≡ is_number n.now value.now }
 {
     match value {
-        Value::Int(m) => *m == i64::from(*n),
+        Value::Int(m) => m == n,
         _ => false,
     }
 }
 
 // A record's values after its first, which must be the type number.
-fn behind_type(first: u64, kind: &i32, number: &Value, others: Values) -> Result<Values, PassFault>
+fn behind_type(first: u64, kind: &i64, number: &Value, others: Values) -> Result<Values, PassFault>
     ensures { Gives result (without_type first kind.now (number.now ∷ others)) }
 {
     if !is_number(kind, number) {
@@ -122,7 +123,7 @@ pub fn lines_above(sections: &Sections) -> u64
     (sections.start_count() + sections.global_count() + sections.directory_count()) as u64
 }
 
-fn magnitude(n: &i32) -> usize
+fn magnitude(n: &i64) -> usize
     ensures { result ≡ unsigned_abs n.now }
 {
     n.unsigned_abs() as usize

@@ -6,11 +6,11 @@ ghost use Rattle.iges_params.specs.Solids.{is_solid, is_solid_at, numbers_of, so
 ghost use Rattle.std.specs.Prelude.{◌≡◌, ◌+◌, ◌*◌, ◌<◌, ◌++◌, None, IfOk, MatchOption, OnOk, drop, length, pos};
 
 use crate::file::File;
-use iges_fields::{EntryNo, ItemList, NoMemory};
+use iges_base::{EntryNo, ItemList, NoMemory};
 use std::alloc::Global;
 
 // The entity type of a manifold solid B-rep object (IGES 5.3, 4.49).
-const SOLID: i32 = 186;
+const SOLID: i64 = 186;
 
 impl File {
     /// The number of the i-th entry, i from 0 (IGES 5.3, 2.2.4.4).

@@ -6,7 +6,7 @@ ghost use Rattle.std.specs.Prelude.{◌≡◌, ◌++◌, IfOk, length};
 use crate::column::{count_field, put_spaces};
 use crate::fault::WriteFileFault;
 use crate::page::Page;
-use iges_fields::NoMemory;
+use iges_base::NoMemory;
 
 /// How many lines each section has.
 #[derive(Clone, Copy)]

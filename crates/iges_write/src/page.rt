@@ -10,7 +10,8 @@ ghost use Rattle.std.specs.Prelude.{◌≡◌, ◌+◌, ◌<◌, ◌≤◌, ◌^
 
 use crate::column::{count_field, finish_line, next_field};
 use crate::fault::WriteFileFault;
-use iges_fields::{Bytes, Delimiters, Value};
+use iges_base::Bytes;
+use iges_fields::{Delimiters, Value};
 use itoa::{Buffer, write_digits};
 use std::alloc::Global;
 use std::marker::Model;
@@ -313,7 +314,7 @@ impl Page {
     pub fn put_record(
         &mut self,
         number: u64,
-        kind: &i32,
+        kind: &i64,
         values: &[Value],
         delims: &Delimiters,
     ) -> Result<(), WriteFileFault>
@@ -323,7 +324,7 @@ impl Page {
             (fill self.old.width [] (parts self.old.width delims.now (value.Int kind.now ∷ values.now))))) }
     {
         self.set_tail(number);
-        self.fill_record(&i64::from(*kind), values, delims)?;
+        self.fill_record(kind, values, delims)?;
         self.clear_tail();
         Ok(())
     }

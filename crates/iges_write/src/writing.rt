@@ -16,7 +16,7 @@ use crate::entries::put_entries;
 use crate::fault::WriteFileFault;
 use crate::page::Page;
 use crate::start::put_start;
-use iges_fields::{Bytes, FILE_LIMIT};
+use iges_base::{Bytes, FILE_LIMIT};
 use iges_params::File;
 use std::alloc::Global;
 

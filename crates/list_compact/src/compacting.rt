@@ -16,7 +16,7 @@ use crate::dropping::dropped;
 use crate::fault::CompactFault;
 use crate::marking::{FileMarks, used_items};
 use brep_walk::{WalkFault, walk};
-use iges_fields::{EntryNo, NoMemory};
+use iges_base::{EntryNo, NoMemory};
 use iges_params::File;
 use solid_extract::{Extraction, extract_numbered, into_extract, into_extract_numbered};
 use std::alloc::Global;

@@ -3,7 +3,7 @@
 ghost use Rattle.list_compact.specs.Rows.{AreEnds, rows_from, start_of};
 ghost use Rattle.std.specs.Prelude.{◌≡◌, ◌+◌, ◌-◌, ◌<◌, ◌≤◌, ◌∷◌, ◌++◌, [], OnOk, Some, drop, length, replicate, set, slice_get, slice_index_or, take};
 
-use iges_fields::NoMemory;
+use iges_base::NoMemory;
 use std::alloc::Global;
 use std::marker::Model;
 

@@ -2,7 +2,7 @@
 
 use brep_walk::WalkFault;
 use entry_references::ExtractReason;
-use iges_fields::{EntryNo, NoMemory};
+use iges_base::{EntryNo, NoMemory};
 use solid_data::Failing;
 use solid_extract::ExtractFault;
 

@@ -10,8 +10,9 @@ use crate::record_at::record_at;
 use brep_lists::{EdgeList, EdgeTuple, EntityKind, VertexList};
 use brep_loops::{LoopRecord, LoopTuple};
 use entry_references::mark_at;
+use iges_base::NoMemory;
 use iges_directory::Entry;
-use iges_fields::{NoMemory, Values};
+use iges_fields::Values;
 use iges_params::File;
 use std::alloc::Global;
 

@@ -10,7 +10,7 @@ ghost use Rattle.std.specs.Prelude.{◌≡◌, ◌⊎◌, ◌+◌, ◌*◌, ◌�
 use crate::entry_rows::EntryRows;
 use crate::marks::Marks;
 use crate::place::place_of;
-use iges_fields::NoMemory;
+use iges_base::NoMemory;
 use std::alloc::Global;
 use std::marker::Model;
 

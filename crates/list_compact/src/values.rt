@@ -16,7 +16,8 @@ use crate::rank_table::Ranks;
 use brep_lists::{EdgeList, EdgeTuple, VertexList};
 use brep_loops::{LoopRecord, LoopTuple};
 use entry_references::mark_at;
-use iges_fields::{NoMemory, Value, Values};
+use iges_base::NoMemory;
+use iges_fields::{Value, Values};
 use std::alloc::Global;
 
 /// The ranks of a file's edges and of its vertices.

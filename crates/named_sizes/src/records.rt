@@ -10,7 +10,8 @@ ghost use Rattle.std.specs.Prelude.{◌≡◌, ◌+◌, ◌<◌, ◌≤◌, Bool
 
 use crate::{ENTRY, MOST};
 use brep_loops::{FaceRecord, ShellRecord, SolidRecord};
-use iges_fields::{ItemList, Values};
+use iges_base::ItemList;
+use iges_fields::Values;
 use iges_params::File;
 
 /// At the place of each number the size of its entry.

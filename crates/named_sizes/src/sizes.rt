@@ -5,7 +5,7 @@ ghost use Rattle.named_sizes.specs.Sizes.{AreSizes, capped, face_size as size_of
 ghost use Rattle.std.specs.Prelude.{◌≡◌, IfOk, map, pos};
 
 use crate::records::{Sizes, face_size, shell_size, solid_size};
-use iges_fields::{EntryNo, ItemList, NoMemory};
+use iges_base::{EntryNo, ItemList, NoMemory};
 use iges_params::File;
 use std::alloc::Global;
 

@@ -29,7 +29,7 @@ pub fn put_text(text: &mut Vec<u8>, piece: &[u8]) -> Result<(), NoMemory>
     Ok(())
 }
 
-fn put_number(text: &mut Vec<u8>, number: i32) -> Result<(), NoMemory>
+fn put_number(text: &mut Vec<u8>, number: i64) -> Result<(), NoMemory>
     ensures small { mag number < 2 ^ 63 }
     ensures text { OnOk result (text.new.items ≡ text.old.items ++ marked (signed_decimal number)) }
 {

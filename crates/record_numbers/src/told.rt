@@ -32,8 +32,8 @@ pub enum Part<'a> {
 /// What a record says, wherever it stands.
 #[derive(Drop)]
 pub struct Told<'a> {
-    pub kind: i32,
-    pub form: i32,
+    pub kind: i64,
+    pub form: i64,
     /// The matrix, and the own values in their order.
     pub parts: Vec<Part<'a>>,
 }
@@ -146,7 +146,7 @@ fn matrix_of(entry: &Entry) -> Part<'_>
     if entry.matrix == 0 {
         return Part::Pointer(None);
     }
-    Part::Pointer(Some(i64::from(entry.matrix)))
+    Part::Pointer(Some(entry.matrix))
 }
 
 // Puts the own values.

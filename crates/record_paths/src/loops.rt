@@ -10,7 +10,7 @@ use crate::path::{Path, Step};
 use crate::records::loop_record;
 use crate::tuples::search_tuples;
 use brep_loops::FaceRecord;
-use iges_fields::EntryNo;
+use iges_base::EntryNo;
 use iges_params::File;
 use solid_data::Failing;
 

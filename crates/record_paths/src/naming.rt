@@ -10,7 +10,7 @@ ghost use Rattle.solid_data.specs.Obligations.{obligation, entry_number};
 ghost use Rattle.solid_data.specs.declared.verdict.Rule.TheVariants.{BadGeometry};
 
 use brep_lists::EdgeTuple;
-use iges_fields::EntryNo;
+use iges_base::EntryNo;
 use solid_data::{Failing, Rule};
 
 // Whether the name means this item of this entity.

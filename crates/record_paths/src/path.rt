@@ -1,6 +1,6 @@
 //! Paths through the records of a solid.
 
-use iges_fields::EntryNo;
+use iges_base::EntryNo;
 
 /// A shell, a face or a loop, and the item of the record above that names it, from 1: of a solid's record the outer
 /// shell is item 1, and the voids follow.

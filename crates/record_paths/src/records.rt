@@ -6,7 +6,8 @@ ghost use Rattle.brep_walk.specs.Places.{Names, HasRecordOf, told};
 ghost use Rattle.iges_params.specs.Named.{values_of};
 
 use brep_loops::{FaceRecord, LoopRecord, ShellRecord, SolidRecord};
-use iges_fields::{EntryNo, Values};
+use iges_base::EntryNo;
+use iges_fields::Values;
 use iges_params::File;
 
 /// The entry that a number names, and the values of its record.

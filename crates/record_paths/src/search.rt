@@ -13,7 +13,7 @@ use crate::ended::Ended;
 use crate::path::Path;
 use crate::records::solid_record;
 use crate::shells::search_shells;
-use iges_fields::EntryNo;
+use iges_base::EntryNo;
 use iges_params::File;
 use solid_data::{Failing, Rule};
 

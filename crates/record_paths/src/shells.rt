@@ -10,7 +10,7 @@ use crate::naming::names_place;
 use crate::path::{Path, Step};
 use crate::records::shell_record;
 use brep_loops::SolidRecord;
-use iges_fields::EntryNo;
+use iges_base::EntryNo;
 use iges_params::File;
 use solid_data::Failing;
 

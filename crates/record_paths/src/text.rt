@@ -4,7 +4,7 @@ ghost use Rattle.record_paths.specs.Texts.{path_named, path_text, step_line, ste
 ghost use Rattle.std.specs.Prelude.{◌≡◌, ◌++◌, OnOk};
 
 use crate::path::{Path, Step};
-use iges_fields::{EntryNo, NoMemory, Out};
+use iges_base::{EntryNo, NoMemory, Out};
 use where_text::{EntryNumbers, put_number, put_word};
 
 // Appends the line of a step, where the path goes so far.

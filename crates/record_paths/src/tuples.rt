@@ -10,7 +10,7 @@ use crate::ended::Ended;
 use crate::naming::names_tuple;
 use crate::path::Path;
 use brep_loops::{LoopRecord, LoopTuple};
-use iges_fields::EntryNo;
+use iges_base::EntryNo;
 use iges_params::File;
 use solid_data::Failing;
 

@@ -10,8 +10,9 @@ ghost use Rattle.sample_solids.specs.Stages.{stage};
 use crate::values::{
     edge_values, face_values, loop_values, shell_values, values_of, vertex_values,
 };
+use iges_base::NoMemory;
 use iges_directory::Entry;
-use iges_fields::{Delimiters, NoMemory, Values};
+use iges_fields::{Delimiters, Values};
 use iges_params::{File, Global26};
 use std::alloc::Global;
 
@@ -27,7 +28,7 @@ fn plain(kind: u32, form: u32) -> Entry
     ensures bounded { IsBounded result }
 {
     Entry {
-        kind: kind as i32,
+        kind: kind as i64,
         structure: 0,
         font: 0,
         level: 0,
@@ -36,7 +37,7 @@ fn plain(kind: u32, form: u32) -> Entry
         display: 0,
         weight: 0,
         colour: 0,
-        form: form as i32,
+        form: form as i64,
         subscript: 0,
         status: *b"00000000",
         label: *b"        ",

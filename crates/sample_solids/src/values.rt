@@ -4,7 +4,8 @@ ghost use Rattle.std.specs.Prelude.{◌≡◌, ◌++◌, ◌<◌, ◌≤◌, IfO
 ghost use Rattle.sample_solids.specs.Sample.{whole, shell_record, vertex_record, edge_record, face_record, loop_record, edges_listed, use_record};
 
 use crate::index::{across_index, face_number, up_index, vertex_index};
-use iges_fields::{NoMemory, Value, Values};
+use iges_base::NoMemory;
+use iges_fields::{Value, Values};
 use std::alloc::Global;
 
 /// Puts integers at the end.

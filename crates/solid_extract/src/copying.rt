@@ -4,7 +4,8 @@ ghost use Rattle.iges_fields.specs.InLine.{is_value};
 ghost use Rattle.iges_params.specs.Global.{have_kinds};
 ghost use Rattle.std.specs.Prelude.{◌≡◌, ◌∷◌, ◌++◌, [], IfOk, IsTrue, OnOk};
 
-use iges_fields::{Delimiters, NoMemory, Value, Values};
+use iges_base::NoMemory;
+use iges_fields::{Delimiters, Value, Values};
 use iges_params::{File, Global26};
 use std::alloc::Global;
 

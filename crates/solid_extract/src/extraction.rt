@@ -17,7 +17,7 @@ use crate::new_values::new_values;
 use crate::reaching::reach;
 use crate::renaming::Renaming;
 use entry_references::{ExtractReason, record_of, shape_of};
-use iges_fields::{EntryNo, NoMemory};
+use iges_base::{EntryNo, NoMemory};
 use iges_params::File;
 use std::alloc::Global;
 

@@ -1,7 +1,7 @@
 //! Why a solid isn't extracted.
 
 use entry_references::ExtractReason;
-use iges_fields::{EntryNo, NoMemory};
+use iges_base::{EntryNo, NoMemory};
 
 /// An entity that has a fault, and its fault.
 #[derive(Clone, Copy)]

@@ -10,7 +10,8 @@ ghost use Rattle.std.specs.Prelude.{◌≡◌, ◌+◌, ◌∷◌, ◌++◌, ◌
 
 use crate::renaming::Renaming;
 use entry_references::{Group, Own, Shape, mark_at, push_names};
-use iges_fields::{ItemList, NoMemory, Value, Values};
+use iges_base::{ItemList, NoMemory};
+use iges_fields::{Value, Values};
 use iges_params::File;
 use std::alloc::Global;
 

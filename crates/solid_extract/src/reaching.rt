@@ -6,7 +6,7 @@ ghost use Rattle.std.specs.Prelude.{◌≡◌, IfOk, IsSome, OnOk, length, pos};
 
 use crate::fault::Refusal;
 use entry_references::{EntrySet, ExtractReason, RefFault, add_numbers, record_of, refs};
-use iges_fields::{EntryNo, NoMemory};
+use iges_base::{EntryNo, NoMemory};
 use iges_params::File;
 use std::alloc::Global;
 

@@ -9,8 +9,8 @@ ghost use Rattle.std.specs.List.{AllByRecursion};
 ghost use Rattle.std.specs.Prelude.{◌≡◌, ◌+◌, ◌*◌, ◌≤◌, ℕ, IfOk, IsTrue, if◌then◌else◌, int_lt, length, neg_ℤ, pos};
 
 use entry_references::EntryList;
+use iges_base::{EntryNo, NoMemory};
 use iges_directory::Entry;
-use iges_fields::{EntryNo, NoMemory};
 use std::alloc::Global;
 use std::marker::Model;
 
@@ -34,7 +34,7 @@ impl Model for Renaming {
 }
 
 // A negative number is a pointer to an entry that isn't kept (IGES 5.3, 2.2.4.4.4 and 2.2.4.4.5).
-fn if_number(number: i32) -> i32
+fn if_number(number: i64) -> i64
     ensures { result ≡ if_number number }
 {
     if number < 0 { 0 } else { number }
@@ -104,23 +104,15 @@ impl Renaming {
         number_of_place(self.place(number.unsigned_abs()))
     }
 
-    // The same of the number in a field.
-    fn renamed_field(&self, number: i32) -> i32
-        ensures is { result ≡ renamed self.now number }
-        ensures few { (n : ℕ) × (result ≡ pos n) × (n ≤ LINE_LIMIT) }
-    {
-        self.renamed(i64::from(number)) as i32
-    }
-
     // A colour field as it is kept: only a negative one is a pointer, and is renamed.
-    fn colour(&self, colour: i32) -> i32
+    fn colour(&self, colour: i64) -> i64
         requires { IsTrue (fits_columns colour) }
         ensures is { result ≡ if int_lt colour (pos 0) then neg_ℤ (renamed self.now (neg_ℤ colour))
             else colour }
         ensures fits { IsTrue (fits_columns result) }
     {
         if colour < 0 {
-            -self.renamed_field(-colour)
+            -self.renamed(-colour)
         } else {
             colour
         }
@@ -138,7 +130,7 @@ impl Renaming {
             display: 0,
             font: if_number(entry.font),
             level: if_number(entry.level),
-            matrix: self.renamed_field(entry.matrix),
+            matrix: self.renamed(entry.matrix),
             colour: self.colour(entry.colour),
             ..*entry
         }

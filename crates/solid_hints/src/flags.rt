@@ -8,7 +8,7 @@ ghost use Rattle.solid_hints.specs.Flags.{flags_hint, flags_sentence, has_unpair
 ghost use Rattle.std.specs.Prelude.{◌≡◌, ◌++◌, ◌<◌, ◌↔◌, IfOk, IfSome, IsTrue, OnOk, count_by, length, not, option_copied, slice_get};
 
 use crate::shell_faults::{AllFaults, shell_at};
-use iges_fields::{NoMemory, Out};
+use iges_base::{NoMemory, Out};
 use solid_data::{FaceUse, Solid};
 use solid_faults::{ShellFaults, is_closed_flagged};
 use std::alloc::Global;

@@ -8,7 +8,7 @@ ghost use Rattle.solid_hints.specs.ShellHints.{AreRemediesOf, IsHint, ShellRemed
 use crate::flags::{pair_fails, put_flags, tells_flags, unset_flags};
 use crate::remedies::{TriedSolid, put_each_tried};
 use crate::shell_faults::{AllFaults, belows};
-use iges_fields::{NoMemory, Out};
+use iges_base::{NoMemory, Out};
 use iges_params::File;
 use remedy_text::RemedyView;
 use shell_change::Known;

@@ -9,7 +9,7 @@ ghost use Rattle.tried_remedies.specs.Tried.{AreTried};
 ghost use Rattle.std.specs.List.{enumerate_from};
 ghost use Rattle.std.specs.Prelude.{◌≡◌, ◌≤◌, ◌+◌, ◌==◌, ◌++◌, All, IfOk, IfSome, List, OnOk, flat_map, length, slice_get, ℕ};
 
-use iges_fields::{ItemList, NoMemory, Out};
+use iges_base::{ItemList, NoMemory, Out};
 use remedy_text::{Heading, RemedyView, put_more_remedies, put_remedy, put_stuck};
 use shell_change::{Known, Remedy, item_at};
 use solid_data::{ShellAt, Solid};

@@ -8,7 +8,7 @@ ghost use Rattle.solid_hints.specs.AllFaults.{AreAllFaults, EachBelow, failing_s
 ghost use Rattle.solid_data.specs.declared.TheConstants.{PART_LIMIT};
 
 use edge_uses::rows;
-use iges_fields::{ItemList, NoMemory};
+use iges_base::{ItemList, NoMemory};
 use solid_data::{Shell, ShellAt, Solid};
 use solid_faults::{Linking, ShellFaults, below_next, faults_of};
 use std::alloc::Global;

@@ -7,7 +7,7 @@ ghost use Rattle.std.specs.Prelude.{IfErr, IfOk};
 
 use crate::reflagging::reflagged;
 use flag_choice::FlagLists;
-use iges_fields::{EntryNo, NoMemory};
+use iges_base::{EntryNo, NoMemory};
 use iges_params::File;
 use solid_extract::{ExtractFault, into_extract_numbered};
 use std::alloc::Global;

@@ -4,8 +4,9 @@ ghost use Rattle.iges_directory.specs.Bounds.{IsBounded, fits_columns};
 ghost use Rattle.std.specs.Prelude.{◌≡◌, ◌++◌, IsTrue, OnOk, option_copied};
 ghost use Rattle.where_entities.specs.Facts.{colour_fact, colour_word, colour_words, definition_of, definition_words, share_word, text_word};
 
+use iges_base::{NoMemory, Out};
 use iges_directory::Entry;
-use iges_fields::{NoMemory, Out, Value, Values};
+use iges_fields::{Value, Values};
 use iges_params::File;
 use where_text::{put_signed, put_text, put_value, put_word};
 
@@ -114,5 +115,5 @@ pub fn put_colour(out: &mut Out, file: &File, entry: &Entry) -> Result<(), NoMem
     requires { IsBounded entry.now }
     ensures { OnOk result (out.new ≡ out.old ++ colour_fact file.now entry.now.colour) }
 {
-    put_colour_fact(out, file, i64::from(entry.colour))
+    put_colour_fact(out, file, entry.colour)
 }

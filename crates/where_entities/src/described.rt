@@ -4,7 +4,7 @@ ghost use Rattle.entry_references.specs.Refs.{names_entry};
 ghost use Rattle.std.specs.Prelude.{◌≡◌, ◌+◌, ◌*◌, ◌<◌, ◌||◌, ◌&&◌, ◌==◌, ◌++◌, ◌∷◌, [], ℕ, false, pos, length, vec_len, IfOk, OnOk, filter, get_or};
 ghost use Rattle.where_entities.specs.Entities.{described, is_among, is_described, number_at};
 
-use iges_fields::{EntryNo, ItemList, NoMemory};
+use iges_base::{EntryNo, ItemList, NoMemory};
 use iges_params::File;
 use std::alloc::Global;
 use where_text::EntryNumbers;

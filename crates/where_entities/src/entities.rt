@@ -8,8 +8,9 @@ use crate::described::described;
 use crate::facts::put_facts;
 use brep_lists::{EntityKind, int_at};
 use entry_references::record_of;
+use iges_base::{EntryNo, NoMemory, Out};
 use iges_directory::Entry;
-use iges_fields::{EntryNo, NoMemory, Out, Values};
+use iges_fields::Values;
 use iges_params::File;
 use std::alloc::Global;
 use where_places::PlacedFile;
@@ -59,7 +60,7 @@ fn put_head(
 {
     out.put(b"entity")?;
     put_number(out, u64::from(no.0))?;
-    put_type_word(out, i64::from(entry.kind))?;
+    put_type_word(out, entry.kind)?;
     put_surface(out, file, entry, values)?;
     out.put(b"\n")
 }

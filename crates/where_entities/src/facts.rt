@@ -9,8 +9,9 @@ use crate::colour::put_colour;
 use crate::label::put_label;
 use crate::names::put_names;
 use entry_references::record_of;
+use iges_base::{EntryNo, NoMemory, Out};
 use iges_directory::Entry;
-use iges_fields::{EntryNo, NoMemory, Out, Values};
+use iges_fields::Values;
 use iges_params::File;
 use std::alloc::Global;
 use where_places::PlacedFile;
@@ -35,9 +36,9 @@ fn put_fields(out: &mut Out, file: &File, entry: &Entry) -> Result<(), NoMemory>
     requires { IsBounded entry.now }
     ensures { OnOk result (out.new ≡ out.old ++ field_facts file.now entry.now) }
 {
-    put_number_fact(out, "level", i64::from(entry.level))?;
+    put_number_fact(out, "level", entry.level)?;
     put_colour(out, file, entry)?;
-    put_number_fact(out, "matrix", i64::from(entry.matrix))
+    put_number_fact(out, "matrix", entry.matrix)
 }
 
 // What an entity is called (IGES 5.3, 2.2.4.4.18 and 2.2.4.4.19).
@@ -46,7 +47,7 @@ fn put_labels(out: &mut Out, entry: &Entry) -> Result<(), NoMemory>
     ensures { OnOk result (out.new ≡ out.old ++ label_facts entry.now) }
 {
     put_label(out, &entry.label)?;
-    put_number_fact(out, "subscript", i64::from(entry.subscript))
+    put_number_fact(out, "subscript", entry.subscript)
 }
 
 /// Appends the facts of an entry and its record: its level, colour, matrix, label, subscript and names, each where it is

@@ -3,8 +3,7 @@
 ghost use Rattle.std.specs.Prelude.{◌≡◌, ◌++◌, OnOk};
 ghost use Rattle.where_entities.specs.Facts.{label_fact};
 
-use iges_base::trimmed;
-use iges_fields::{NoMemory, Out};
+use iges_base::{NoMemory, Out, trimmed};
 use where_text::put_masked;
 
 /// Appends the fact of a label, which is eight bytes, without the spaces at its ends; nothing where it is of spaces alone

@@ -10,14 +10,15 @@ ghost use Rattle.where_entities.specs.Facts.{entity_names, has_text, is_of_solid
 
 use brep_lists::EntityKind;
 use entry_references::{Group, RefFault, push_names, shape_of};
+use iges_base::{ItemList, NoMemory, Out};
 use iges_directory::Entry;
-use iges_fields::{ItemList, NoMemory, Out, Value, Values};
+use iges_fields::{Value, Values};
 use iges_params::File;
 use std::alloc::Global;
 use where_text::{Listing, put_more_facts, put_text, shown_members};
 
 // Whether the type is one of which a solid is made (IGES 5.3, 4.49 and 4.145 to 4.149).
-fn is_of_solids(kind: i32) -> bool
+fn is_of_solids(kind: i64) -> bool
     ensures { result ≡ is_of_solids kind }
 {
     EntityKind::of_type(kind).is_some()

@@ -10,7 +10,7 @@ use crate::line_kinds::kind_of_line;
 use crate::look::{FileKind, LineKind};
 use crate::texts::{put_file_kind, put_line_kind};
 use crate::whole::kind_of_file;
-use iges_fields::{NoMemory, Out};
+use iges_base::{NoMemory, Out};
 use iges_lines::{LineFault, Reason};
 use where_places::{from_line, has_lf, line_of};
 

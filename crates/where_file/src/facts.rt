@@ -4,7 +4,7 @@ ghost use Rattle.std.specs.Prelude.{◌≡◌, ◌<◌, ◌++◌, ◌∷◌, OnO
 ghost use Rattle.where_file.specs.LineFacts.{column_fact, end_word, hex_byte, hex_digit, hex_fact, hex_words, field_mark, line_facts, line_head, start_of};
 
 use crate::fields::Field;
-use iges_fields::{NoMemory, Out};
+use iges_base::{NoMemory, Out};
 use value_lines::{put_mark, put_text};
 use where_places::{has_cr, has_lf, line_of};
 use where_text::{put_number, put_word};

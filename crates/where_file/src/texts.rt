@@ -4,7 +4,7 @@ ghost use Rattle.std.specs.Prelude.{◌≡◌, ◌++◌, OnOk};
 ghost use Rattle.where_file.specs.Looks.{file_kind_text, line_kind_text};
 
 use crate::look::{FileKind, LineKind};
-use iges_fields::{NoMemory, Out};
+use iges_base::{NoMemory, Out};
 
 #[tactic(auto, unfolding(crate::specs::Looks::file_kind_text))]
 fn file_kind_text(kind: FileKind) -> &'static str

@@ -10,7 +10,7 @@ ghost use Rattle.where_overview.specs.Overview.{AreVerdicts, has_room, is_judged
 
 use crate::recalling::{Judged, LastNaming, lone_shell, recalled};
 use brep_walk::{WalkFault, Walker};
-use iges_fields::{EntryNo, ItemList, NoMemory};
+use iges_base::{EntryNo, ItemList, NoMemory};
 use iges_params::File;
 use named_sizes::solid_sizes;
 use solid_data::{Solid, Verdict};

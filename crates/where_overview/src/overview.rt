@@ -7,7 +7,7 @@ ghost use Rattle.where_unjudged.specs.Unjudged.{unjudged_text};
 ghost use Rattle.where_text.specs.Spelled.{space_word};
 
 use crate::judging::verdicts;
-use iges_fields::{Bytes, EntryNo, ItemList, NoMemory, Out};
+use iges_base::{Bytes, EntryNo, ItemList, NoMemory, Out};
 use iges_params::File;
 use solid_data::Verdict;
 use std::alloc::Global;

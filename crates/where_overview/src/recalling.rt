@@ -10,8 +10,8 @@ ghost use Rattle.where_overview.specs.Recalled.{IsOfOther, IsSolidOf};
 
 use brep_lists::EntityKind;
 use brep_loops::SolidRecord;
+use iges_base::{EntryNo, NoMemory};
 use iges_directory::Entry;
-use iges_fields::{EntryNo, NoMemory};
 use iges_params::File;
 use solid_data::Verdict;
 use std::alloc::Global;
@@ -35,7 +35,7 @@ pub struct Judged<'a> {
 fn is_solid(entry: &Entry) -> bool
     ensures { IsTrue result → (entry.now.kind ≡ type_number solid) × HasForm solid entry.now.form }
 {
-    entry.kind == EntityKind::Solid.type_number() && EntityKind::Solid.has_form(entry.form)
+    EntityKind::Solid.is_of(entry.kind, entry.form)
 }
 
 /// The only shell of a solid, and its flag. None where the entry is no solid, its record doesn't fit, or it has voids.

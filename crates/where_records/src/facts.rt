@@ -7,7 +7,8 @@ ghost use Rattle.where_text.specs.Spelled.{space_word};
 
 use crate::why::why;
 use brep_lists::int_at;
-use iges_fields::{EntryNo, NoMemory, Out, Value};
+use iges_base::{EntryNo, NoMemory, Out};
+use iges_fields::Value;
 use iges_params::File;
 use record_values::{BadValue, Due, Naming, entry_named, first_naming, item_count};
 use solid_data::{Failing, Rule};
@@ -113,7 +114,7 @@ fn put_named(out: &mut Out, file: &File, number: i64) -> Result<(), NoMemory>
     put_signed(out, number)?;
     put_type(out, file, number)?;
     out.put(b" form")?;
-    put_signed(out, i64::from(entry.form))?;
+    put_signed(out, entry.form)?;
     out.put(b"\n")
 }
 

@@ -4,7 +4,7 @@ ghost use Rattle.std.specs.Prelude.{◌≡◌, ◌++◌, OnOk};
 ghost use Rattle.where_records.specs.RecordText.{head_lines, path_entries, path_lines, record_named, record_text};
 
 use crate::facts::put_bad_facts;
-use iges_fields::{EntryNo, NoMemory, Out};
+use iges_base::{EntryNo, NoMemory, Out};
 use record_paths::{Path, put_path};
 use record_values::bad_value;
 use solid_data::Failing;

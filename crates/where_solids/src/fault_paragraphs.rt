@@ -10,7 +10,7 @@ ghost use Rattle.shell_facts.specs.FaceTable.{touches_of};
 ghost use Rattle.where_solids.specs.ShellTexts.{fault_faces, fault_paragraphs, linking_named, linking_text};
 
 use edge_uses::{PairFault, Paired, Rows, pair};
-use iges_fields::NoMemory;
+use iges_base::NoMemory;
 use solid_faults::{Linking, ShellFaults};
 use std::alloc::Global;
 use where_shells::{Page, ShellView, put_apart, put_join, put_link, put_pair, put_reach};

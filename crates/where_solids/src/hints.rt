@@ -7,7 +7,7 @@ ghost use Rattle.where_text.specs.declared.listing.Listing.TheVariants.{Few};
 ghost use Rattle.where_text.specs.Listing.{more_words, shown};
 ghost use Rattle.where_text.specs.Spelled.{space_word};
 
-use iges_fields::{EntryNo, NoMemory, Out};
+use iges_base::{EntryNo, NoMemory, Out};
 use where_text::{EntryNumbers, Listing, put_more_words, put_number, shown_members};
 
 const SOLIDS: &str = "  The solids of this file are these. Take one of their numbers.\n";

@@ -5,7 +5,7 @@ ghost use Rattle.where_text.specs.Spelled.{space_word};
 ghost use Rattle.where_solids.specs.Lines.{count_words, counted, failing_words, link_word, shell_words, shells_line, units_line, verdict_line};
 
 use edge_uses::Rows;
-use iges_fields::{EntryNo, NoMemory, Out};
+use iges_base::{EntryNo, NoMemory, Out};
 use iges_params::File;
 use solid_data::{Failing, Shell, ShellAt, Verdict};
 use solid_faults::{Linking, ShellFaults};

@@ -5,7 +5,7 @@ ghost use Rattle.where_solids.specs.Told.{record_rest, record_start};
 
 use crate::hints::put_solids_hint;
 use crate::lines::put_units;
-use iges_fields::{ItemList, NoMemory, Out};
+use iges_base::{ItemList, NoMemory, Out};
 use iges_params::File;
 use std::alloc::Global;
 use where_entities::put_entities;

@@ -13,7 +13,7 @@ use crate::fault_paragraphs::put_faults;
 use crate::gaps::gap_listing;
 use crate::lines::put_shell_line;
 use edge_uses::rows;
-use iges_fields::{NoMemory, Out};
+use iges_base::{NoMemory, Out};
 use shell_facts::{VertexFaces, faces_by_vertex};
 use solid_data::{Shell, ShellAt};
 use solid_faults::ShellFaults;

@@ -16,7 +16,7 @@ use crate::record_texts::put_record_rest;
 use crate::shell_texts::{put_paragraphs, put_shell_lines, spelled};
 use crate::verdicts::verdict;
 use brep_walk::{WalkFault, walk};
-use iges_fields::{Bytes, EntryNo, ItemList, NoMemory, Out};
+use iges_base::{Bytes, EntryNo, ItemList, NoMemory, Out};
 use record_paths::path_of;
 use solid_data::{Failing, Solid, Verdict};
 use solid_hints::{AllFaults, HintedSolid, all_faults, failing_shells, put_hint};

@@ -4,7 +4,7 @@ ghost use Rattle.std.specs.Prelude.{◌≡◌, ◌<◌, ◌≤◌, ◌++◌, OnO
 ghost use Rattle.where_text.specs.Spelled.{continues, cut_mark, cut_place, kept, may_cut, shortened, text_shown};
 
 use crate::masking::put_masked;
-use iges_fields::{NoMemory, Out};
+use iges_base::{NoMemory, Out};
 
 /// How many bytes of a word are written where it stands by itself.
 pub const WORD_LIMIT: usize = 100;

@@ -3,7 +3,7 @@
 ghost use Rattle.std.specs.Prelude.{◌≡◌, ◌≤◌, ◌++◌, [], codes, OnOk};
 ghost use Rattle.where_text.specs.Listing.{left_line, left_words, shown, shown_count};
 
-use iges_fields::{EntryNo, ItemList, NoMemory, Out, write_number};
+use iges_base::{EntryNo, ItemList, NoMemory, Out, write_number};
 
 /// How many members of a list are written where only few are.
 const LIMIT: usize = 20;

@@ -3,7 +3,7 @@
 ghost use Rattle.std.specs.Prelude.{◌≡◌, ◌++◌, OnOk};
 ghost use Rattle.where_text.specs.Spelled.{masked, masked_byte};
 
-use iges_fields::{NoMemory, Out};
+use iges_base::{NoMemory, Out};
 
 // A control character is shown as a question mark.
 fn masked_byte(b: u8) -> u8

@@ -10,8 +10,7 @@ use crate::listing::EntryNumbers;
 use crate::types::put_type;
 use crate::words::put_listed;
 use brep_lists::int_at;
-use iges_base::put_number;
-use iges_fields::{EntryNo, NoMemory, Out};
+use iges_base::{EntryNo, NoMemory, Out, put_number};
 use iges_params::File;
 use solid_data::VertexKey;
 

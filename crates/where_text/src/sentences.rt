@@ -3,7 +3,7 @@
 ghost use Rattle.std.specs.Prelude.{◌≡◌, ◌++◌, OnOk};
 ghost use Rattle.where_text.specs.Sentences.{reason_sentence, rule_sentence};
 
-use iges_fields::{NoMemory, Out};
+use iges_base::{NoMemory, Out};
 use iges_lines::Reason;
 use solid_data::Rule;
 

@@ -6,7 +6,7 @@ ghost use Rattle.where_text.specs.Spelled.{signed, space_word};
 ghost use Rattle.where_text.specs.Types.{type_of, type_word};
 
 use crate::type_names::known_word;
-use iges_fields::{NoMemory, Out};
+use iges_base::{NoMemory, Out};
 use iges_params::File;
 use itoa::Buffer;
 
@@ -43,7 +43,7 @@ pub fn put_type(out: &mut Out, file: &File, number: i64) -> Result<(), NoMemory>
         return out.put(b" -");
     };
     match file.entry(no) {
-        Some(entry) => put_type_word(out, i64::from(entry.kind)),
+        Some(entry) => put_type_word(out, entry.kind),
         None => out.put(b" -"),
     }
 }

@@ -4,7 +4,8 @@ ghost use Rattle.std.specs.Prelude.{◌≡◌, ◌≤◌, ◌++◌, OnOk, option
 ghost use Rattle.where_text.specs.Spelled.{listed_if, signed, space_word, spelled_if, spelled_within};
 
 use crate::cutting::{LIST_LIMIT, WORD_LIMIT, put_shortened, put_text};
-use iges_fields::{NoMemory, Out, Value};
+use iges_base::{NoMemory, Out};
+use iges_fields::Value;
 use itoa::Buffer;
 
 /// Appends a space and the word.

@@ -6,7 +6,7 @@ ghost use Rattle.std.specs.Ordering.{int_eq};
 ghost use Rattle.std.specs.Prelude.{◌≡◌, ◌+◌, ◌<◌, ◌^◌, ◌==◌, ℕ, Some, IfOk, IsTrue, get_or, if◌then◌else◌, length, option_map, pos, slice_get, vec_len};
 ghost use Rattle.where_unjudged.specs.Counts.{AreTypeCounts, count_of_type};
 
-use iges_fields::NoMemory;
+use iges_base::NoMemory;
 use iges_params::File;
 use std::alloc::Global;
 
@@ -48,7 +48,7 @@ fn kind_at(file: &File, i: usize) -> i64
     requires { i < length file.now.entries }
     ensures { option_map kind_of (slice_get file.now.entries i) ≡ Some result }
 {
-    i64::from(file.entry_at(i).unwrap().kind)
+    file.entry_at(i).unwrap().kind
 }
 
 // Counts the entities of a file, at the places of their types.

@@ -8,7 +8,7 @@ ghost use Rattle.where_unjudged.specs.Hints.{faces_hint, has_shell_form, has_som
 
 use crate::counting::count_of;
 use crate::lines::form_of;
-use iges_fields::{EntryNo, NoMemory, Out};
+use iges_base::{EntryNo, NoMemory, Out};
 use iges_params::File;
 use where_text::EntryNumbers;
 

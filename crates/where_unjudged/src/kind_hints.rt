@@ -7,7 +7,7 @@ ghost use Rattle.std.specs.Prelude.{◌≡◌, ◌++◌, OnOk, pos};
 ghost use Rattle.where_unjudged.specs.KindHints.{empty_hint, form_hint, form_line, form_sentence, hint_of, is_empty_solid, is_no_entry, is_shell, kind_hint, shell_hint, shells_hint};
 
 use brep_lists::int_at;
-use iges_fields::{EntryNo, NoMemory, Out};
+use iges_base::{EntryNo, NoMemory, Out};
 use iges_params::File;
 use solid_data::{Failing, Rule};
 use where_text::put_signed;
@@ -51,18 +51,18 @@ fn put_shell_hint(out: &mut Out) -> Result<(), NoMemory>
     out.put(SHELL.as_bytes())
 }
 
-fn is_shell(kind: i32, form: i32) -> bool
+fn is_shell(kind: i64, form: i64) -> bool
     ensures { result ≡ is_shell kind form }
 {
     kind == 514 && (form == 1 || form == 2)
 }
 
 #[tactic(auto, unfolding(crate::specs::KindHints::kind_hint))]
-fn put_hint_of_kind(out: &mut Out, kind: i32, form: i32) -> Result<(), NoMemory>
+fn put_hint_of_kind(out: &mut Out, kind: i64, form: i64) -> Result<(), NoMemory>
     ensures { OnOk result (out.new ≡ out.old ++ kind_hint kind form) }
 {
     if kind == 186 {
-        return put_form_hint(out, i64::from(form));
+        return put_form_hint(out, form);
     }
     if is_shell(kind, form) {
         return put_shell_hint(out);

@@ -12,7 +12,8 @@ use crate::counting::count_of;
 use crate::loose::type_of_members;
 use crate::marking::shell_of;
 use crate::member::Member;
-use iges_fields::{EntryNo, NoMemory, Out, Values};
+use iges_base::{EntryNo, NoMemory, Out};
+use iges_fields::Values;
 use iges_params::File;
 use where_text::{
     EntryNumbers, Listing, put_more_facts, put_number, put_signed, put_type_word, put_word,
@@ -20,12 +21,12 @@ use where_text::{
 };
 
 #[tactic(auto, unfolding(crate::specs::Lines::unjudged_line))]
-fn put_line(out: &mut Out, count: usize, kind: i32) -> Result<(), NoMemory>
+fn put_line(out: &mut Out, count: usize, kind: i64) -> Result<(), NoMemory>
     ensures { OnOk result (out.new ≡ out.old ++ unjudged_line count kind) }
 {
     out.put(b"unjudged")?;
     put_number(out, count as u64)?;
-    put_type_word(out, i64::from(kind))?;
+    put_type_word(out, kind)?;
     out.put(b"\n")
 }
 
@@ -34,7 +35,7 @@ pub fn form_of(file: &File, no: EntryNo) -> i64
     ensures { result ≡ form_of file.now no }
 {
     match file.entry(no) {
-        Some(entry) => i64::from(entry.form),
+        Some(entry) => entry.form,
         None => 0,
     }
 }
@@ -129,7 +130,7 @@ fn put_count(out: &mut Out, count: usize, kind: u16) -> Result<(), NoMemory>
     if count == 0 {
         return Ok(());
     }
-    put_line(out, count, i32::from(kind))
+    put_line(out, count, i64::from(kind))
 }
 
 /// Appends how many entities there are of each of these types, where there are any.

@@ -6,7 +6,7 @@ ghost use Rattle.where_unjudged.specs.Listed.{is_form_0, solids_of, true_solids}
 ghost use Rattle.iges_params.specs.Named.{named};
 ghost use Rattle.iges_base.specs.declared.entry_no.EntryNo.{EntryNo as AnyEntryNo};
 
-use iges_fields::{EntryNo, ItemList, NoMemory};
+use iges_base::{EntryNo, ItemList, NoMemory};
 use iges_params::File;
 use std::alloc::Global;
 use where_text::EntryNumbers;

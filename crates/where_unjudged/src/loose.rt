@@ -9,13 +9,13 @@ ghost use Rattle.where_unjudged.specs.Named.{is_at, names_members, type_of_membe
 use crate::marking::mark_members;
 use crate::member::Member;
 use brep_lists::EntityKind;
-use iges_fields::{EntryNo, ItemList, NoMemory};
+use iges_base::{EntryNo, ItemList, NoMemory};
 use iges_params::File;
 use std::alloc::Global;
 use where_text::EntryNumbers;
 
 /// The type of such members (IGES 5.3, 4.148 and 4.149).
-pub fn type_of_members(member: Member) -> i32
+pub fn type_of_members(member: Member) -> i64
     ensures { result ≡ type_of_members member }
 {
     match member {
@@ -24,7 +24,7 @@ pub fn type_of_members(member: Member) -> i32
     }
 }
 
-fn names_members(member: Member, kind: i32, form: i32) -> bool
+fn names_members(member: Member, kind: i64, form: i64) -> bool
     ensures { result ≡ names_members member kind form }
 {
     match member {

@@ -14,7 +14,7 @@ use crate::hints::{
 use crate::lines::{put_members, put_types};
 use crate::loose::loose;
 use crate::member::Member;
-use iges_fields::{NoMemory, Out};
+use iges_base::{NoMemory, Out};
 use iges_params::File;
 use std::alloc::Global;
 use where_text::EntryNumbers;

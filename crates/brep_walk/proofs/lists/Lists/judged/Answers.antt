@@ -1,6 +1,6 @@
 use Rattle.std.proofs.Common.{sym, subst}
 use Rattle.brep_walk.specs.Known.{HasItsRecord, LacksItsRecord}
-use Rattle.brep_walk.specs.declared.marks.Mark.TheVariants as marks
+use Rattle.brep_numbering.specs.declared.marks.Mark.TheVariants as marks
 use Rattle.brep_walk.proofs.Knowing.{marked, has_its_record, lacks_its_record, record_found, no_record_found}
 use Rattle.brep_walk.proofs.lists.Lists.judged.Goals as goal
 

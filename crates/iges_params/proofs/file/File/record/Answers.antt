@@ -8,5 +8,5 @@ pub returns-else-record-eq0-clause-named : goal.returns-else-record-eq0-clause-n
 returns-else-record-eq0-clause-named c =
     let at = slice_get_read c.self.inside.entries.items c.len.result _ _
     (omega (arith, c.self.inside.entries.ok.0)) c.if-place-len.false c.index-record.ensures in
-    let zero_bits = λ (z : ℤ) (e : z ≡ pos 0). ap (mir.Val.of_z mir.Syntax.w32) e in
+    let zero_bits = λ (z : ℤ) (e : z ≡ pos 0). ap (mir.Val.of_z mir.Syntax.w64) e in
     rw (← c.self.view_is) (named_used kind_of c.self.inside.entries.items c.args.no.0 _ c.if-no-eq0.false at (λ e. c.if-record-eq0.false (zero_bits _ e)))

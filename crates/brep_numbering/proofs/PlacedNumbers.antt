@@ -3,7 +3,7 @@ use Rattle.std.specs.Prelude.{◌↔◌, ℤ, false, true, IsTrue, nat_eq, ◌�
 use Rattle.std.proofs.Common.{sym, ◌∙◌, ap, subst, inl, inr, arith, length-append, get_or}
 use Rattle.std.proofs.lemmas.List.{length-map, get_or-map, get_or_append_left, get_or_at}
 use Rattle.std.proofs.lemmas.Bool.{cases_lt, eqb-true, eq-eqb}
-use Rattle.brep_walk.specs.Placed.{ArePlaced}
+use Rattle.brep_numbering.specs.Placed.{ArePlaced}
 
 -- a number among the others, with its place
 pub among_placed : (ns : List ℕ) (n : ℕ) → Contains (map pos ns) (pos n) → (p : ℕ) × (p < length ns) × (slice_index ns p ≡ n)

@@ -1,7 +1,7 @@
 -- Private: marks by the numbers of entries.
 use Rattle.std.specs.Prelude.{ℕ, List, get_or}
-use Rattle.brep_walk.specs.declared.marks.Mark.{Mark}
-use Rattle.brep_walk.specs.declared.marks.Mark.TheVariants.{Unknown}
+use Rattle.brep_numbering.specs.declared.marks.Mark.{Mark}
+use Rattle.brep_numbering.specs.declared.marks.Mark.TheVariants.{Unknown}
 
 abbrev pub mark_of : List Mark → ℕ → Mark
 mark_of marks n = get_or marks n Unknown

@@ -1,5 +1,5 @@
-use Rattle.brep_walk.proofs.PlacedNumbers.{has_at, none_at}
-use Rattle.brep_walk.proofs.once.Once.has.Goals as goal
+use Rattle.brep_numbering.proofs.PlacedNumbers.{has_at, none_at}
+use Rattle.brep_numbering.proofs.number_set.NumberSet.has.Goals as goal
 
 pub returns-in-Some : goal.returns-in-Some
 returns-in-Some c =

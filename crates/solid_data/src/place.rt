@@ -2,8 +2,8 @@
 
 ghost use Rattle.std.specs.Prelude.{◌≡◌};
 
-use iges_fields::EntryNo;
-use solid_data::{Failing, Rule};
+use crate::verdict::{Failing, Rule};
+use iges_base::EntryNo;
 
 /// A place that may name an entry: an item of an entity's record, from 1, or 0 for the entity itself.
 #[derive(Clone, Copy)]

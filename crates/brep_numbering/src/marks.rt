@@ -1,9 +1,9 @@
 //! What is known of entries, by their numbers.
 
 ghost use Rattle.std.specs.Prelude.{◌≡◌, ◌≢◌, [], ℕ, OnOk, OnErr};
-ghost use Rattle.brep_walk.specs.Marked.{mark_of};
+ghost use Rattle.brep_numbering.specs.Marked.{mark_of};
 
-use iges_fields::{EntryNo, NoMemory};
+use iges_base::{EntryNo, NoMemory};
 use std::alloc::Global;
 use std::marker::Model;
 
@@ -28,7 +28,7 @@ pub struct Marks {
 
 impl Model for Marks {
     ghost use Rattle.std.specs.Prelude.{List};
-    ghost use Rattle.brep_walk.specs.declared.marks.Mark.{Mark as OneMark};
+    ghost use Rattle.brep_numbering.specs.declared.marks.Mark.{Mark as OneMark};
 
     ghost Value = { List OneMark };
 

@@ -1,6 +1,6 @@
 use Rattle.std.proofs.Common.{◌∙◌, rules}
-use Rattle.brep_walk.proofs.PlacedNumbers.{still_placed, placed_more, not_there}
-use Rattle.brep_walk.proofs.once.Once.note.Goals as goal
+use Rattle.brep_numbering.proofs.PlacedNumbers.{still_placed, placed_more, not_there}
+use Rattle.brep_numbering.proofs.number_set.NumberSet.insert.Goals as goal
 
 pub invariant_of-self-in_err-push : goal.invariant_of-self-in_err-push
 invariant_of-self-in_err-push c =
