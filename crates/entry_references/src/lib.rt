@@ -21,7 +21,7 @@ pub use adding::add_numbers;
 pub use entry_set::{EntryList, EntrySet, mark_at};
 pub use fault::{ExtractReason, RefFault};
 pub use group::Group;
-pub use numbers::push_names;
+pub use numbers::{names_entry, push_names};
 pub use own::Own;
 pub use record::{Record, record_of};
 pub use reference_numbers::{Shape, refs, shape_of};

@@ -19,7 +19,8 @@ use iges_fields::Values;
 use iges_params::File;
 use std::alloc::Global;
 
-fn names_entry(file: &File, number: i64) -> bool
+/// Whether an entry has the number.
+pub fn names_entry(file: &File, number: i64) -> bool
     ensures { result ≡ names_entry file.now number }
 {
     match file.entry_no_of(number) {

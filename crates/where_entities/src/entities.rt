@@ -1,13 +1,12 @@
 //! The paragraphs of entities.
 
-ghost use Rattle.entry_references.specs.Refs.{names_entry};
 ghost use Rattle.std.specs.Prelude.{◌≡◌, ◌++◌, OnOk, flat_map};
 ghost use Rattle.where_entities.specs.Entities.{entities_text, entity_text, paragraphs, record_head, record_text, surface_named, surface_words};
 
 use crate::described::described;
 use crate::facts::put_facts;
 use brep_lists::{EntityKind, int_at};
-use entry_references::record_of;
+use entry_references::{names_entry, record_of};
 use iges_base::{EntryNo, NoMemory, Out};
 use iges_directory::Entry;
 use iges_fields::Values;
@@ -15,15 +14,6 @@ use iges_params::File;
 use std::alloc::Global;
 use where_places::PlacedFile;
 use where_text::{EntryNumbers, put_number, put_signed, put_type, put_type_word};
-
-fn names_entry(file: &File, number: i64) -> bool
-    ensures { result ≡ names_entry file.now number }
-{
-    match file.entry_no_of(number) {
-        Some(no) => file.entry(no).is_some(),
-        None => false,
-    }
-}
 
 // The surface of a face, where its number names an entry.
 fn put_surface_named(out: &mut Out, file: &File, surface: i64) -> Result<(), NoMemory>

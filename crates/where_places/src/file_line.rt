@@ -3,8 +3,9 @@
 ghost use Rattle.std.specs.List.{prefix_len};
 ghost use Rattle.std.specs.Io.BufRead.{drop_through};
 ghost use Rattle.std.specs.Prelude.{◌≡◌, ◌≤◌, ◌==◌, length, not};
-ghost use Rattle.std.specs.Str.Lines.{strip_carriage_return};
 ghost use Rattle.where_places.specs.FileLine.{from_line, has_cr, has_lf, line_of, piece_of};
+
+use iges_lines::stripped;
 
 fn piece_len(bytes: &[u8]) -> usize
     ensures is { result ≡ prefix_len (λ b. not (b == 10)) bytes.now }
@@ -49,15 +50,6 @@ pub fn from_line(bytes: &[u8], count: u64) -> &[u8]
         left -= 1;
     }
     rest
-}
-
-fn stripped(piece: &[u8]) -> &[u8]
-    ensures { result.now ≡ strip_carriage_return piece.now }
-{
-    match piece {
-        [before @ .., b'\r'] => before,
-        _ => piece,
-    }
 }
 
 /// The first line of these bytes, without its end.
