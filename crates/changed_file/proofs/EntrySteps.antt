@@ -18,7 +18,7 @@ use Rattle.iges_params.proofs.NamedEntries.{named_used}
 use Rattle.entry_references.specs.Refs.{Record}
 use Rattle.entry_references.proofs.NamedRecords.{named_place}
 use Rattle.solid_data.proofs.Members.{get_some}
-use Rattle.changed_records.proofs.Copies.{one_more}
+use Rattle.iges_params.proofs.Copies.{one_more}
 use Rattle.changed_file.specs.Emptied.{AreMarksOf, emptied, emptied_record, all_refs, names_number, refs_of, unless_gone}
 
 half : (i : ℕ) → (2 * i + 1) / 2 ≡ i

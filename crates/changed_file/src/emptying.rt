@@ -7,13 +7,12 @@ ghost use Rattle.iges_params.specs.Contents.{value_count};
 ghost use Rattle.std.specs.List.{enumerate_from};
 ghost use Rattle.std.specs.Prelude.{◌≡◌, ◌<◌, ◌∷◌, ◌++◌, ◌&&◌, ℤ, List, [], Some, IfOk, OnOk, false, get_or, length, map, not, slice_get};
 
-use crate::copying::begun;
 use crate::marking::{all_refs, marks_of};
 use crate::rewriting::{push_within, values_at};
 use changed_records::ChangeFault;
 use iges_directory::Entry;
 use iges_fields::Values;
-use iges_params::File;
+use iges_params::{File, begun};
 use std::alloc::Global;
 
 fn of_no_type(entry: Entry) -> Entry

@@ -5,7 +5,6 @@
 #![tactic(auto)]
 
 mod changing;
-mod copying;
 mod draft;
 mod emptying;
 mod faces;

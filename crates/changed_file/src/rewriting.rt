@@ -6,13 +6,12 @@ ghost use Rattle.iges_params.specs.Contents.{value_count};
 ghost use Rattle.std.specs.List.{enumerate_from};
 ghost use Rattle.std.specs.Prelude.{◌≡◌, ◌<◌, ◌∷◌, ◌++◌, [], None, Some, IfOk, OnOk, flat_map, length, map, option_copied, option_map, slice_get, slice_index_or, unwrap_or};
 
-use crate::copying::{begun, copied_values};
 use crate::draft::{Draft, NewEntry};
 use changed_records::ChangeFault;
 use iges_base::{ENTRY_LIMIT, EntryNo, FILE_LIMIT, NoMemory};
 use iges_directory::Entry;
 use iges_fields::Values;
-use iges_params::File;
+use iges_params::{File, begun, copied_values};
 use std::alloc::Global;
 
 /// Puts an entry into a file that has so many values, and gives how many it has then.

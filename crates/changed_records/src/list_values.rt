@@ -3,12 +3,12 @@
 ghost use Rattle.changed_records.specs.Lists.{coordinates, curve, edge_list_values, edge_source, new_edge_values, new_vertex_values, vertex_list_values, vertex_source};
 ghost use Rattle.std.specs.Prelude.{◌≡◌, ◌++◌, IfOk, OnOk, flat_map};
 
-use crate::copying::{push_copies, push_number};
 use crate::fault::ChangeFault;
 use crate::named::{Item, NewLists, push_item, vertex_item};
+use crate::putting::push_number;
 use iges_base::EntryNo;
 use iges_fields::Values;
-use iges_params::File;
+use iges_params::{File, push_copies};
 use shell_change::{NewEdge, NewVertex};
 use solid_data::Solid;
 use std::alloc::Global;

@@ -3,12 +3,13 @@
 ghost use Rattle.changed_records.specs.Loops.{curve_values, loop_values, tuple_now, tuples_now, use_values};
 ghost use Rattle.std.specs.Prelude.{◌≡◌, ◌++◌, IfOk, OnOk, length};
 
-use crate::copying::{push_copies, push_flag, push_number};
 use crate::fault::ChangeFault;
 use crate::named::{NewLists, edge_item, push_item, vertex_item};
+use crate::putting::{push_flag, push_number};
 use crate::tuples::{cut_at, tuple_cuts};
 use iges_base::NoMemory;
 use iges_fields::Values;
+use iges_params::push_copies;
 use shell_change::{LoopNow, UseNow};
 use solid_data::Solid;
 use std::alloc::Global;

@@ -3,8 +3,8 @@
 ghost use Rattle.std.specs.Prelude.{◌≡◌, ◌+◌, ◌++◌, IfOk, OnOk};
 ghost use Rattle.changed_records.specs.Items.{edge_item, item_values, vertex_item};
 
-use crate::copying::push_number;
 use crate::fault::ChangeFault;
+use crate::putting::push_number;
 use iges_base::NoMemory;
 use iges_fields::Values;
 use shell_change::{EdgeName, VertexName};

@@ -4,12 +4,13 @@ ghost use Rattle.brep_lists.specs.Record.{count_at as counted};
 ghost use Rattle.changed_records.specs.Shells.{new_shell_values, new_solid_values, pair_values, shell_values, solid_values};
 ghost use Rattle.std.specs.Prelude.{◌≡◌, ◌≤◌, ◌^◌, ◌++◌, IfOk, OnOk, flat_map, length};
 
-use crate::copying::{push_copies, push_flag, push_number};
 use crate::fault::ChangeFault;
 use crate::list_values::short_count;
+use crate::putting::{push_flag, push_number};
 use brep_lists::count_at;
 use iges_base::NoMemory;
 use iges_fields::Values;
+use iges_params::push_copies;
 use std::alloc::Global;
 
 /// A face of a shell, or a shell of a solid: its directory number, and its flag there.

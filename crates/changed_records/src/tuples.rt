@@ -5,11 +5,11 @@ ghost use Rattle.changed_records.specs.Loops.{behind_tuples, cut_at, tuple_cuts,
 ghost use Rattle.iges_base.specs.declared.TheConstants.{FILE_LIMIT};
 ghost use Rattle.std.specs.Prelude.{◌≡◌, ◌+◌, ◌<◌, ◌*◌, ◌≤◌, IfOk, OnOk, Some, drop, length, slice_get, take};
 
-use crate::copying::push_copies;
 use crate::fault::ChangeFault;
 use brep_lists::count_at;
 use iges_base::{FILE_LIMIT, ItemList};
 use iges_fields::Values;
+use iges_params::push_copies;
 use std::alloc::Global;
 
 /// The tuples of a loop, and the place of what comes after them.

@@ -16,4 +16,5 @@ pub mod GlobalExact
 pub mod RecordsExact
 pub mod FileExact
 pub mod FilePass
+pub mod Copies
 mod Pointers

@@ -1,6 +1,7 @@
 //! A file: its start lines, its global and its entries with their values.
 #![tactic(auto)]
 
+mod copying;
 mod fault;
 mod file;
 mod global;
@@ -15,6 +16,7 @@ mod reading;
 mod record;
 mod solids;
 
+pub use copying::{begun, copied_values, push_copies};
 pub use fault::ReadFileFault;
 pub use file::File;
 pub use global::Global26;

@@ -19,7 +19,7 @@ use Rattle.brep_lists.specs.Record.{items_of}
 use Rattle.brep_lists.specs.declared.entity_kind.EntityKind.TheVariants.{EdgeList as edges, VertexList as vertices}
 use Rattle.solid_data.proofs.Members.{Has, All-at}
 use Rattle.entry_references.specs.Refs.{Record}
-use Rattle.solid_extract.proofs.Copies.{one_more}
+use Rattle.iges_params.proofs.Copies.{one_more}
 use Rattle.list_compact.specs.Used.{is_kind, edges_in, vertices_in, is_used_edge, is_used_vertex}
 use Rattle.list_compact.specs.Dropped.{dropped_values, dropped_record, dropped}
 use Rattle.list_compact.specs.Compacted.{IsCompacted, IsMisplaced}

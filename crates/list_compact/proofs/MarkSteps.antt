@@ -16,7 +16,8 @@ use Rattle.brep_lists.specs.declared.entity_kind.EntityKind.{EntityKind}
 use Rattle.brep_lists.specs.declared.entity_kind.EntityKind.TheVariants.{Loop as «loop», EdgeList as edges, VertexList as vertices}
 use Rattle.brep_lists.specs.declared.edge_list.EdgeTuple.{EdgeTuple}
 use Rattle.entry_references.specs.Refs.{Record}
-use Rattle.solid_extract.proofs.Copies.{all_at, one_more}
+use Rattle.iges_params.proofs.Copies.{one_more}
+use Rattle.solid_extract.proofs.Copies.{all_at}
 use Rattle.list_compact.specs.Used.{is_kind, tuples_in, edges_in, vertices_in, used_from, names_edge, names_vertex, has_end}
 use Rattle.list_compact.specs.Marking.{AreMarks, IsOfItsKind, MarksItems, is_at, sizes}
 use Rattle.solid_data.proofs.Members.{get_some}

@@ -15,7 +15,7 @@ use Rattle.list_compact.specs.Used.{edges_in, vertices_in, edge_count, vertex_co
 use Rattle.list_compact.specs.Used.{is_used_vertex}
 use Rattle.list_compact.specs.Marking.{AreMarks, AreRanks, HasPlace, Covers, IsRankAt, ranks_of, sizes, edge_sizes, vertex_sizes}
 use Rattle.std.proofs.lemmas.List.{map-append}
-use Rattle.solid_extract.proofs.Copies.{one_more}
+use Rattle.iges_params.proofs.Copies.{one_more}
 use Rattle.list_compact.proofs.Ranks.{rank_low}
 
 -- ---- one row

@@ -10,7 +10,7 @@ use Rattle.brep_lists.specs.declared.entity_kind.EntityKind.TheVariants.{Loop as
 use Rattle.brep_lists.specs.declared.edge_list.EdgeTuple.{EdgeTuple}
 use Rattle.brep_lists.proofs.OnlyRead.{missing}
 use Rattle.entry_references.proofs.KindPlaces.{due_few, tuple_length}
-use Rattle.solid_extract.proofs.Copies.{one_more}
+use Rattle.iges_params.proofs.Copies.{one_more}
 use Rattle.list_compact.specs.Marking.{int_value, edge_spelled}
 use Rattle.list_compact.specs.Dropped.{edge_index, vertex_index, tuple_index, reindexed_tuple, with_indices}
 
@@ -21,31 +21,6 @@ vertex_tuple g t z j ez ej v = ap (λ w. vertex_index g w j) ez ∙ (ap (vertex_
 pub edge_tuple : (g : Contents) (t : LoopTuple) (z j : ℤ) → z ≡ t.list → j ≡ t.index → t.is_vertex ≡ false
     → edge_index g z j ≡ tuple_index g t.is_vertex t.list t.index
 edge_tuple g t z j ez ej v = ap (λ w. edge_index g w j) ez ∙ (ap (edge_index g t.list) ej ∙ sym (ap (λ b. tuple_index g b t.list t.index) v))
-
--- ---- copies
-
-get_drop : {X : Type 0} (xs : List X) (n i : ℕ) → slice_get (drop n xs) i ≡ slice_get xs (n + i)
-get_drop xs zero i = let none : i ≡ 0 + i = omega arith in ap (slice_get xs) none
-get_drop [] (suc n) i = refl
-get_drop (x ∷ xs) (suc n) i = let on : suc (n + i) ≡ suc n + i = omega arith in get_drop xs n i ∙ ap (slice_get (x ∷ xs)) on
-
-pub copy_more : (vs : List Value) (from i : ℕ) (v : Value) (start list new : List Value) → slice_get vs (from + i) ≡ Some v
-    → list ≡ start ++ take i (drop from vs) → new ≡ list ++ v ∷ [] → new ≡ start ++ take (i + 1) (drop from vs)
-copy_more vs from i v start list new at e en =
-    en ∙ (ap (λ zs. zs ++ v ∷ []) e
-    ∙ (append_assoc start (take i (drop from vs)) (v ∷ []) ∙ ap (λ zs. start ++ zs) (sym (one_more (drop from vs) i v (get_drop vs from i ∙ at)))))
-
-pub copy_end : (vs : List Value) (from count left i : ℕ) (start list : List Value) → left ≡ length vs - from → i ≡ min count left
-    → list ≡ start ++ take i (drop from vs) → list ≡ start ++ take count (drop from vs)
-copy_end vs from count left i start list el ei e =
-    e ∙ ap (λ zs. start ++ zs) (cut (drop from vs) count i (ei ∙ ap (min count) (el ∙ sym (length-drop from vs))))
-  where
-    cut : (xs : List Value) (n m : ℕ) → m ≡ min n (length xs) → take m xs ≡ take n xs
-    cut [] zero m h = ap (λ k. take k []) (let z : m ≡ 0 = omega (arith, h) in z)
-    cut [] (suc n) m h = let z : m ≡ 0 = omega (arith, h) in ap (λ k. take k []) z
-    cut (x ∷ xs) zero m h = let z : m ≡ 0 = omega (arith, h) in ap (λ k. take k (x ∷ xs)) z
-    cut (x ∷ xs) (suc n) zero h = absurd (omega (arith, h))
-    cut (x ∷ xs) (suc n) (suc m) h = ap (λ ys. x ∷ ys) (cut xs n m (omega (arith, h)))
 
 -- ---- edges
 

@@ -18,6 +18,7 @@ use brep_loops::{LoopRecord, LoopTuple};
 use entry_references::mark_at;
 use iges_base::NoMemory;
 use iges_fields::{Value, Values};
+use iges_params::push_copies;
 use std::alloc::Global;
 
 /// The ranks of a file's edges and of its vertices.
@@ -27,38 +28,6 @@ pub struct FileRanks {
     pub edges: Ranks,
     /// Of the items of vertex lists.
     pub vertices: Ranks,
-}
-
-fn push_copy(list: &mut Values, alloc: Global, value: &Value) -> Result<(), NoMemory>
-    requires { IsTrue (is_value value.now) }
-    ensures { OnOk result (list.new ≡ list.old ++ value.now ∷ []) }
-{
-    match value {
-        Value::Default => list.push(Value::Default),
-        Value::Int(n) => list.push(Value::Int(*n)),
-        _ => {
-            let copy = value.copy(alloc)?;
-            list.push(copy)
-        }
-    }
-}
-
-// Puts copies of so many values from a place on, as far as they are there.
-fn push_copies(
-    list: &mut Values,
-    alloc: Global,
-    values: &Values,
-    from: usize,
-    count: usize,
-) -> Result<(), NoMemory>
-    ensures { OnOk result (list.new ≡ list.old ++ take count (drop from values.now)) }
-{
-    let left = values.len().saturating_sub(from);
-    let end = count.min(left);
-    'values: for i in 0..end {
-        push_copy(list, alloc, values.get(from + i).unwrap())?;
-    }
-    Ok(())
 }
 
 // The new index of the edge or the vertex that a tuple names.

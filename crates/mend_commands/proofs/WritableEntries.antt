@@ -12,7 +12,7 @@ use Rattle.iges_params.specs.Made.{IsMade}
 use Rattle.iges_params.specs.Named.{named}
 use Rattle.iges_write.specs.Writable.{IsHeld}
 use Rattle.entry_references.specs.Refs.{Record}
-use Rattle.changed_records.proofs.Copies.{one_more}
+use Rattle.iges_params.proofs.Copies.{one_more}
 use Rattle.changed_file.proofs.EntrySteps.{at_named, at_unnamed}
 
 pub held_named : (f : Contents) (i m : ℕ) (r : Record) (vs : List Value) → m ≡ 2 * i + 1 → Some vs ≡ option_map (λ (e : Record). e.1) (named f (pos m))

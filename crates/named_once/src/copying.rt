@@ -4,9 +4,10 @@ ghost use Rattle.changed_file.specs.Folds.{fold_items, fold_pairs};
 ghost use Rattle.named_once.specs.Once.{kept_count, kept_numbers, once_values, with_kept_number, with_one, with_pair};
 ghost use Rattle.std.specs.Prelude.{◌≡◌, ◌+◌, [], IfOk, OnOk, length};
 
-use changed_records::{push_copies, push_number};
+use changed_records::push_number;
 use iges_base::{ItemList, NoMemory};
 use iges_fields::Values;
+use iges_params::push_copies;
 use std::alloc::Global;
 
 /// Values that are copied from a record, and the place of the next ones.

@@ -30,10 +30,3 @@ filter_map_few {B = B} h (x ∷ xs) = by_option (h x) (filter_map_few h xs)
     by_option : (o : Option B) → length (filter_map h xs) ≤ length xs → length (cons_option o (filter_map h xs)) ≤ suc (length xs)
     by_option None on = omega (arith, on)
     by_option (Some y) on = omega (arith, on)
-
-pub one_more : {A : Type 0} (xs : List A) (i : ℕ) (x : A) → slice_get xs i ≡ Some x → take (i + 1) xs ≡ take i xs ++ x ∷ []
-one_more {A} xs i x at = take_more xs i x (slice_get_within xs i x at) ∙ ap (λ (y : A). take i xs ++ y ∷ []) (get_or_from_slice_get xs i x x at)
-
-pub copied : {A : Type 0} (xs : List A) (i : ℕ) (x : A) (list new : List A) → slice_get xs i ≡ Some x → list ≡ take i xs → new ≡ list ++ x ∷ []
-    → new ≡ take (i + 1) xs
-copied {A} xs i x list new at inv en = en ∙ (ap (λ (zs : List A). zs ++ x ∷ []) inv ∙ sym (one_more xs i x at))

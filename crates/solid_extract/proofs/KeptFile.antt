@@ -34,7 +34,8 @@ use Rattle.solid_extract.specs.Extracted.{Reaches, here, further, IsExtracted, I
 use Rattle.solid_extract.specs.Flooding.{fault_at, IsFlooded, IsLeastFault}
 use Rattle.solid_extract.specs.Making.{records_of, IsFaultless, IsExtractFault, GivesFile, GivesRefusal}
 use Rattle.solid_extract.specs.Taking.{IsKept}
-use Rattle.solid_extract.proofs.Copies.{one_more, all_at, zip_length, filter_map_few}
+use Rattle.iges_params.proofs.Copies.{one_more}
+use Rattle.solid_extract.proofs.Copies.{all_at, zip_length, filter_map_few}
 use Rattle.solid_extract.proofs.KeptValues.{values_few}
 use Rattle.solid_extract.proofs.One.{IsExtracted-unique, IsRefused-unique, IsExtracted-IsRefused}
 

@@ -11,14 +11,14 @@ ghost use Rattle.std.specs.List.{AllByRecursion};
 ghost use Rattle.std.specs.List.Sorted.{IsStrictlyIncreasing};
 ghost use Rattle.std.specs.Prelude.{◌≡◌, ◌+◌, ◌∷◌, ◌++◌, ◌<◌, ◌≤◌, ℕ, [], IfErr, IfOk, IsSome, OnOk, length, map, pos};
 
-use crate::copying::{begun, blank, copied_values};
+use crate::blank_file::blank;
 use crate::fault::ExtractFault;
 use crate::new_values::new_values;
 use crate::reaching::reach;
 use crate::renaming::Renaming;
 use entry_references::{ExtractReason, record_of, shape_of};
 use iges_base::{EntryNo, NoMemory};
-use iges_params::File;
+use iges_params::{File, begun, copied_values};
 use std::alloc::Global;
 
 /// The file of a solid, and the number that the solid has in it.

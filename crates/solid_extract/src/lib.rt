@@ -1,7 +1,7 @@
 //! The file of one solid.
 #![tactic(auto)]
 
-mod copying;
+mod blank_file;
 mod extraction;
 mod fault;
 mod law;
@@ -9,7 +9,7 @@ mod new_values;
 mod reaching;
 mod renaming;
 
-pub use copying::blank;
+pub use blank_file::blank;
 pub use entry_references::{EntryList, ExtractReason, RefFault, references};
 pub use extraction::{Extraction, extract, extract_numbered, into_extract, into_extract_numbered};
 pub use fault::ExtractFault;

@@ -7,7 +7,7 @@ use Rattle.std.proofs.lemmas.List.FromFn.{length-enumerate_from}
 use Rattle.std.proofs.lemmas.Option.{none-some}
 use Rattle.solid_data.specs.SolidData.{SolidData}
 use Rattle.solid_data.specs.declared.solid.Shell.{Shell}
-use Rattle.changed_records.proofs.Copies.{one_more}
+use Rattle.iges_params.proofs.Copies.{one_more}
 use Rattle.solid_mend.specs.Failing.{Keeps, AreOfFailing, OneEach, SoFar}
 
 pub one_keeps : {X : Type 0} (at : X → ℕ) (s : SolidData) (hs : List (ℕ × Shell)) (h : ℕ × Shell) (xs : List X) → AreOfFailing at s hs xs → Keeps s h

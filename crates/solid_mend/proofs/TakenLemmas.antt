@@ -17,7 +17,7 @@ use Rattle.change_fits.specs.Fits.{Fits}
 use Rattle.tried_remedies.specs.Tried.{IsTried}
 use Rattle.solid_geometry.specs.Known.{IsGeometryOf}
 use Rattle.changed_file.specs.Changed.{changed}
-use Rattle.changed_records.proofs.Copies.{one_more}
+use Rattle.iges_params.proofs.Copies.{one_more}
 use Rattle.solid_mend.specs.Failing.{AreOfFailing, OneEach}
 use Rattle.solid_mend.specs.Mended.{AreClosed, AreRemediesOf, AreTriedOf, IsMended, IsTakenOf, IsWhole, shell_of_change, shell_of_remedies}
 use Rattle.solid_mend.specs.declared.shells.ShellRemedies.{ShellRemedies}

@@ -12,7 +12,8 @@ use Rattle.iges_params.specs.Contents.{Contents, value_count}
 use Rattle.iges_params.specs.Made.{IsMade, IsMadeEntry}
 use Rattle.entry_references.specs.Refs.{Record}
 use Rattle.entry_references.proofs.NamedRecords.{named_pair}
-use Rattle.solid_extract.proofs.Copies.{all_at, one_more}
+use Rattle.iges_params.proofs.Copies.{one_more}
+use Rattle.solid_extract.proofs.Copies.{all_at}
 use Rattle.solid_extract.proofs.Taken.{get_later}
 use Rattle.solid_reorient.specs.Steps.{list_numbered}
 use Rattle.solid_reorient.specs.Reflagged.{flags_for, reflagged_values, reflagged_record, reflagged_entries, reflagged}

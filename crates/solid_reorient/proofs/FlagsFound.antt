@@ -7,7 +7,7 @@ use Rattle.std.proofs.lemmas.Bool.{cond-true, cond-false}
 use Rattle.std.proofs.lemmas.Bool.Decides.{Decides-int_eq}
 use Rattle.std.proofs.lemmas.List.{drop_all, map-append}
 use Rattle.iges_base.proofs.Lists.{open_at, some_at}
-use Rattle.solid_extract.proofs.Copies.{one_more}
+use Rattle.iges_params.proofs.Copies.{one_more}
 use Rattle.solid_reorient.specs.Reflagged.{flags_for}
 
 pub not_equal : (a b : ℤ) → ¬ (a ≡ b) → int_eq a b ≡ false

@@ -1,5 +1,5 @@
 use Rattle.std.proofs.Common.{◌≡◌, take, []}
-use Rattle.solid_extract.proofs.copying.begun.Given as goal
+use Rattle.iges_params.proofs.copying.begun.Given as goal
 
 abbrev pub invariant-lines : goal.invariant-lines
 invariant-lines l = record {

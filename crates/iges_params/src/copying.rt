@@ -1,20 +1,44 @@
-//! Copies of a file's parts.
+//! Copies of values and of a file's front.
 
 ghost use Rattle.iges_fields.specs.InLine.{is_value};
-ghost use Rattle.iges_params.specs.Global.{have_kinds};
-ghost use Rattle.std.specs.Prelude.{◌≡◌, ◌∷◌, ◌++◌, [], IfOk, IsTrue, OnOk};
+ghost use Rattle.std.specs.Prelude.{◌≡◌, ◌+◌, ◌∷◌, ◌++◌, [], IfOk, IsTrue, OnOk, drop, take};
 
+use crate::file::File;
+use crate::global::Global26;
 use iges_base::NoMemory;
-use iges_fields::{Delimiters, Value, Values};
-use iges_params::{File, Global26};
+use iges_fields::{Value, Values};
 use std::alloc::Global;
 
 fn push_copy(list: &mut Values, alloc: Global, value: &Value) -> Result<(), NoMemory>
     requires { IsTrue (is_value value.now) }
     ensures { OnOk result (list.new ≡ list.old ++ value.now ∷ []) }
 {
-    let copy = value.copy(alloc)?;
-    list.push(copy)
+    match value {
+        Value::Default => list.push(Value::Default),
+        Value::Int(n) => list.push(Value::Int(*n)),
+        _ => {
+            let copy = value.copy(alloc)?;
+            list.push(copy)
+        }
+    }
+}
+
+/// Puts copies of so many values from a place on, as far as they are there.
+pub fn push_copies(
+    list: &mut Values,
+    alloc: Global,
+    values: &Values,
+    from: usize,
+    count: usize,
+) -> Result<(), NoMemory>
+    ensures { OnOk result (list.new ≡ list.old ++ take count (drop from values.now)) }
+{
+    let left = values.len().saturating_sub(from);
+    let end = count.min(left);
+    'values: for i in 0..end {
+        push_copy(list, alloc, values.get(from + i).unwrap())?;
+    }
+    Ok(())
 }
 
 /// A copy of values.
@@ -22,9 +46,7 @@ pub fn copied_values(alloc: Global, values: &Values) -> Result<Values, NoMemory>
     ensures { IfOk result (λ list. list ≡ values.now) }
 {
     let mut list = Values::with_room(alloc, values.len())?;
-    'values: for i in 0..values.len() {
-        push_copy(&mut list, alloc, values.get(i).unwrap())?;
-    }
+    push_copies(&mut list, alloc, values, 0, values.len())?;
     Ok(list)
 }
 
@@ -48,15 +70,4 @@ pub fn begun(alloc: Global, file: &File) -> Result<File, NoMemory>
         new.push_start(file.start(i).unwrap())?;
     }
     Ok(new)
-}
-
-/// A file with these delimiters, a blank start line and no entry, which is to take the front of another.
-pub fn blank(alloc: Global, delims: Delimiters) -> Result<File, NoMemory>
-    ensures { IfOk result (λ new. new.entries ≡ []) }
-{
-    let global = Global26 {
-        delims,
-        values: Values::new(alloc),
-    };
-    File::new(alloc, &[b' '; 72], global)
 }

@@ -1,8 +1,8 @@
 use Rattle.std.proofs.Common.{sym, ap, ◌∙◌}
 use Rattle.std.specs.Prelude.{option_copied}
 use Rattle.iges_params.specs.Contents.{Contents}
-use Rattle.solid_extract.proofs.Copies.{copied}
-use Rattle.solid_extract.proofs.copying.begun.Goals as goal
+use Rattle.iges_params.proofs.Copies.{copied}
+use Rattle.iges_params.proofs.copying.begun.Goals as goal
 
 pub lines-preserved : goal.lines-preserved
 lines-preserved c =

@@ -1,5 +1,5 @@
 use Rattle.std.proofs.Common.{◌≡◌, ◌++◌, take, drop}
-use Rattle.list_compact.proofs.values.push_copies.Given as goal
+use Rattle.iges_params.proofs.copying.push_copies.Given as goal
 
 abbrev pub invariant-values : goal.invariant-values
 invariant-values l = l.list ≡ l.fn.list ++ take l.i (drop l.from l.values)

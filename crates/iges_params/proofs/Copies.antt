@@ -1,4 +1,4 @@
--- Values that are copied one by one.
+-- Lists that are copied item by item.
 use Rattle.std.specs.Prelude.{◌≡◌, ℕ, zero, suc, ◌+◌, List, [], ◌∷◌, ◌++◌, take, drop, Some, slice_get}
 use Rattle.std.proofs.Common.{refl, sym, ◌∙◌, ap, arith, append_assoc}
 use Rattle.std.proofs.lemmas.List.{take_more}
@@ -18,3 +18,7 @@ pub copy_more : (vs : List Value) (from i : ℕ) (v : Value) (start list new : L
 copy_more vs from i v start list new at e en =
     en ∙ (ap (λ zs. zs ++ v ∷ []) e
     ∙ (append_assoc start (take i (drop from vs)) (v ∷ []) ∙ ap (λ zs. start ++ zs) (sym (one_more (drop from vs) i v (get_drop vs from i ∙ at)))))
+
+pub copied : {A : Type 0} (xs : List A) (i : ℕ) (x : A) (list new : List A) → slice_get xs i ≡ Some x → list ≡ take i xs → new ≡ list ++ x ∷ []
+    → new ≡ take (i + 1) xs
+copied {A} xs i x list new at inv en = en ∙ (ap (λ (zs : List A). zs ++ x ∷ []) inv ∙ sym (one_more xs i x at))

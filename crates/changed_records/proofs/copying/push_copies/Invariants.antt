@@ -1,5 +1,0 @@
-use Rattle.std.proofs.Common.{◌≡◌, ◌++◌, take, drop}
-use Rattle.changed_records.proofs.copying.push_copies.Given as goal
-
-abbrev pub invariant-values : goal.invariant-values
-invariant-values l = l.list ≡ l.fn.list ++ take l.i (drop l.from l.values)
