@@ -23,6 +23,7 @@ pub use fault::{ExtractReason, RefFault};
 pub use group::Group;
 pub use numbers::{names_entry, push_names};
 pub use own::Own;
+pub use place::number_of;
 pub use record::{Record, record_of};
 pub use reference_numbers::{Shape, refs, shape_of};
 pub use referring::references;

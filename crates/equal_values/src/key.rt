@@ -8,7 +8,8 @@ use iges_base::NoMemory;
 use iges_fields::Value;
 use std::alloc::Global;
 
-fn put_marked(text: &mut Vec<u8>, piece: &[u8]) -> Result<(), NoMemory>
+/// Appends a text to a key, so that more can stand behind it.
+pub fn put_text(text: &mut Vec<u8>, piece: &[u8]) -> Result<(), NoMemory>
     ensures { OnOk result (text.new.items ≡ text.old.items ++ marked piece.now) }
 {
     'bytes: for byte in piece {
@@ -26,5 +27,5 @@ pub fn put_key(alloc: Global, text: &mut Vec<u8>, value: &Value) -> Result<(), N
 {
     let mut canonical = Vec::new(alloc);
     put_canonical(&mut canonical, value)?;
-    put_marked(text, canonical.as_slice())
+    put_text(text, canonical.as_slice())
 }

@@ -12,5 +12,5 @@ mod law;
 mod word;
 
 pub use canonical::put_canonical;
-pub use key::put_key;
+pub use key::{put_key, put_text};
 pub use law::{canonical_texts_decide, keys_decide};

@@ -10,24 +10,12 @@ ghost use Rattle.std.specs.Prelude.{◌≡◌, ◌<◌, ◌^◌, ◌++◌, IfOk,
 
 use crate::marks::{Mark, mark_of};
 use crate::told::{Part, Told, told_of};
-use equal_values::put_key;
+use equal_values::{put_key, put_text};
 use iges_base::NoMemory;
 use iges_fields::Value;
 use iges_params::File;
 use itoa::Buffer;
 use std::alloc::Global;
-
-/// Appends a text to a key, so that more can stand behind it.
-pub fn put_text(text: &mut Vec<u8>, piece: &[u8]) -> Result<(), NoMemory>
-    ensures { OnOk result (text.new.items ≡ text.old.items ++ marked piece.now) }
-{
-    'bytes: for byte in piece {
-        text.push(1)?;
-        text.push(*byte)?;
-    }
-    text.push(0)?;
-    Ok(())
-}
 
 fn put_number(text: &mut Vec<u8>, number: i64) -> Result<(), NoMemory>
     ensures small { mag number < 2 ^ 63 }

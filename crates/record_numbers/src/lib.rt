@@ -11,6 +11,5 @@ mod numbering;
 mod search;
 mod told;
 
-pub use key::put_text;
 pub use keys::{KeyNumbers, number_by_key};
 pub use numbering::record_numbers;

@@ -1,7 +1,6 @@
 //! What a record says.
 
 ghost use Rattle.entry_references.specs.EntrySets.{is_among};
-ghost use Rattle.entry_references.specs.Refs.{number_of};
 ghost use Rattle.iges_base.specs.declared.TheConstants.{FILE_LIMIT};
 ghost use Rattle.iges_directory.specs.Bounds.{IsBounded};
 ghost use Rattle.iges_params.specs.Named.{named};
@@ -10,7 +9,7 @@ ghost use Rattle.record_numbers.specs.Parts.{AreMarkedPlaces, is_faultless, part
 ghost use Rattle.std.specs.List.{enumerate_from};
 ghost use Rattle.std.specs.Prelude.{◌≡◌, ◌≢◌, ◌≤◌, ◌<◌, ◌++◌, IfOk, MatchOption, OnOk, Some, None, length, map, take};
 
-use entry_references::{Own, Record, RefFault, mark_at, record_of, refs, shape_of};
+use entry_references::{Own, Record, RefFault, mark_at, number_of, record_of, refs, shape_of};
 use iges_base::NoMemory;
 use iges_directory::Entry;
 use iges_fields::{Value, Values};
@@ -117,15 +116,6 @@ fn marked_places(alloc: Global, places: &[usize], count: usize) -> Result<Vec<bo
         set_mark(&mut marks, *place);
     }
     Ok(marks)
-}
-
-fn number_of(value: &Value) -> Option<i64>
-    ensures { result ≡ number_of value.now }
-{
-    match value {
-        Value::Int(n) if *n != 0 => Some(*n),
-        _ => None,
-    }
 }
 
 fn part_of(value: &Value, is_pointer: bool, is_cut: bool) -> Part<'_>

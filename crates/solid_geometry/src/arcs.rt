@@ -1,11 +1,12 @@
 //! What is known of arcs.
 
 use crate::values::put_at;
+use equal_values::put_text;
 use iges_base::{ItemList, NoMemory};
 use iges_directory::Entry;
 use iges_params::File;
 use itoa::Buffer;
-use record_numbers::{KeyNumbers, number_by_key, put_text};
+use record_numbers::{KeyNumbers, number_by_key};
 use shell_change::ArcKnown;
 use std::alloc::Global;
 use std::collections::BTreeMap;

@@ -9,10 +9,11 @@ ghost use Rattle.std.specs.List.{AllZip};
 ghost use Rattle.std.specs.Prelude.{◌≡◌, ◌↔◌, ◌++◌, ◌+◌, ◌≤◌, ◌<◌, ◌^◌, IfOk, IsTrue, OnOk};
 
 use crate::values::put_at;
+use equal_values::put_text;
 use iges_base::NoMemory;
 use iges_params::File;
 use itoa::Buffer;
-use record_numbers::{KeyNumbers, number_by_key, put_text};
+use record_numbers::{KeyNumbers, number_by_key};
 use std::alloc::Global;
 
 // Whether the entry is a line (IGES 5.3, 4.13) without a matrix.

@@ -5,11 +5,11 @@ ghost use Rattle.equal_values.specs.Keys.{key_of};
 ghost use Rattle.iges_params.specs.Named.{named, values_of};
 ghost use Rattle.std.specs.Prelude.{◌≡◌, ◌++◌, OnOk, option_copied, option_map, unwrap_or};
 
-use equal_values::put_key;
 use iges_base::NoMemory;
 use iges_fields::{Value, Values};
 use iges_params::File;
 use std::alloc::Global;
+use vertex_places::put_value;
 
 /// The values of the entry that a number names.
 pub fn values_at(file: &File, number: i64) -> Option<&Values>
@@ -28,16 +28,6 @@ pub fn int_of(value: Option<&Value>) -> i64
     match value {
         Some(Value::Int(n)) => *n,
         _ => 0,
-    }
-}
-
-fn put_value(alloc: Global, key: &mut Vec<u8>, value: Option<&Value>) -> Result<(), NoMemory>
-    ensures { OnOk result (key.new.items
-        ≡ key.old.items ++ key_of (unwrap_or (option_copied value.entry) Value.Default)) }
-{
-    match value {
-        Some(value) => put_key(alloc, key, value),
-        None => put_key(alloc, key, &Value::Default),
     }
 }
 

@@ -12,7 +12,8 @@ use iges_params::File;
 use solid_data::VertexKey;
 use std::alloc::Global;
 
-fn put_value(alloc: Global, key: &mut Vec<u8>, value: Option<&Value>) -> Result<(), NoMemory>
+/// Appends the key of a value, which is a default where there is none.
+pub fn put_value(alloc: Global, key: &mut Vec<u8>, value: Option<&Value>) -> Result<(), NoMemory>
     ensures { OnOk result (key.new.items
         ≡ key.old.items ++ key_of (unwrap_or (option_copied value.entry) Value.Default)) }
 {

@@ -5,3 +5,4 @@ mod finding;
 mod key;
 
 pub use finding::vertex_places;
+pub use key::put_value;

@@ -1,6 +1,6 @@
 use Rattle.std.proofs.Common.{◌≡◌, ◌++◌, drop}
 use Rattle.equal_values.specs.Keys.{marked}
-use Rattle.record_numbers.proofs.key.put_text.Given as goal
+use Rattle.equal_values.proofs.key.put_text.Given as goal
 
 abbrev pub invariant-bytes : goal.invariant-bytes
 invariant-bytes l = l.text.items ++ marked (drop l.byte-index l.piece) ≡ l.fn.text.items ++ marked l.piece
