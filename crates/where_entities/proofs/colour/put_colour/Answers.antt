@@ -6,10 +6,10 @@ use Rattle.where_entities.proofs.colour.put_colour.Goals as goal
 
 pub put_colour_fact-requires : goal.put_colour_fact-requires
 put_colour_fact-requires c =
-    let is : to_z w64 (of_z w64 c.from.result) ≡ c.args.entry.now.colour = search rules in
+    let is : to_z w64 (of_z w64 c.args.entry.now.colour) ≡ c.args.entry.now.colour = search rules in
     subst (λ n. IsTrue (fits_columns n)) (sym is) c.requires.colour
 
 pub returns : goal.returns
 returns c =
-    let is : to_z w64 (of_z w64 c.from.result) ≡ c.args.entry.now.colour = search rules in
+    let is : to_z w64 (of_z w64 c.args.entry.now.colour) ≡ c.args.entry.now.colour = search rules in
     subst (λ n. OnOk c.put_colour_fact.result (c.put_colour_fact.new.out ≡ c.args.out.now ++ colour_fact c.args.file.now n)) is c.put_colour_fact.ensures

@@ -7,8 +7,8 @@ pub returns : goal.returns
 unfolding field_facts
 returns c =
     let e = c.args.entry.now in
-    let level : to_z w64 (of_z w64 c.from.result) ≡ e.level = search rules in
-    let matrix : to_z w64 (of_z w64 c.from-2.result) ≡ e.matrix = search rules in
+    let level : to_z w64 (of_z w64 e.level) ≡ e.level = search rules in
+    let matrix : to_z w64 (of_z w64 e.matrix) ≡ e.matrix = search rules in
     three_pieces _ c.args.out.now _ _ _ (number_fact (codes "level") e.level) (colour_fact c.args.file.now e.colour) (number_fact (codes "matrix") e.matrix)
     (c.in_ok-put_number_fact.ensures ∙ ap (λ n. c.args.out.now ++ number_fact (codes "level") n) level) c.in_ok-put_colour.ensures
     (subst (λ n. OnOk c.put_number_fact-2.result (c.put_number_fact-2.new.out ≡ c.put_colour.new.out ++ number_fact (codes "matrix") n)) matrix

@@ -12,7 +12,7 @@ returns-in_err-fill_record c =
     let t = c.set_tail.new.self in
     let lines = λ (n : ℕ). fill n [] (parts n c.args.delims.now (value.Int c.args.kind.now ∷ c.args.values.now)) in
     let is = c.set_tail.ensures in
-    let kind : to_z w64 (of_z w64 c.from.result) ≡ c.args.kind.now = search rules in
+    let kind : to_z w64 (of_z w64 c.args.kind.now) ≡ c.args.kind.now = search rules in
     let filled = subst (λ (z : ℤ). Fails c.in_err-fill_record.field-0.0 (put_lines t (fill t.width [] (parts t.width c.args.delims.now
     (value.Int z ∷ c.args.values.now))))) kind (c.in_err-fill_record.ensures {u = tt}) in
     same_fails c.from_residual.result _ _ _
@@ -27,7 +27,7 @@ returns c =
     let t = c.set_tail.new.self in
     let lines = λ (n : ℕ). fill n [] (parts n c.args.delims.now (value.Int c.args.kind.now ∷ c.args.values.now)) in
     let is = c.set_tail.ensures in
-    let kind : to_z w64 (of_z w64 c.from.result) ≡ c.args.kind.now = search rules in
+    let kind : to_z w64 (of_z w64 c.args.kind.now) ≡ c.args.kind.now = search rules in
     let filled = subst (λ (z : ℤ). c.fill_record.new.self ≡ put_lines t (fill t.width [] (parts t.width c.args.delims.now (value.Int z ∷ c.args.values.now))))
     kind (c.in_ok-fill_record.ensures {u = tt}) in
     c.clear_tail.ensures ∙ record_done s t c.fill_record.new.self (record_tail c.args.number) (lines t.width) c.requires.empty c.requires.no_tail is filled
