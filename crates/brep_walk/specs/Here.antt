@@ -6,7 +6,7 @@ use Rattle.brep_lists.specs.Record.{LoopTuple}
 use Rattle.brep_lists.specs.declared.entity_kind.EntityKind.{EntityKind}
 use Rattle.brep_lists.specs.declared.entity_kind.EntityKind.TheVariants.{EdgeList as edges, VertexList as vertices}
 use Rattle.brep_lists.specs.declared.edge_list.EdgeTuple.{EdgeTuple}
-use Rattle.brep_walk.specs.declared.place.Place.{Place}
+use Rattle.solid_data.specs.declared.place.Place.{Place}
 use Rattle.brep_walk.specs.Places.{told, record_places, item_places, edge_places, used_places, tuple_at, tuple_places}
 use Rattle.solid_data.specs.Obligations.{Obligation, after_each}
 

@@ -8,7 +8,7 @@ use Rattle.brep_walk.specs.Numbered.{IsMadeBy, keys_after}
 use Rattle.brep_walk.specs.Places.{faces, loops, numbers, loop_at, loop_places, face_at, face_places, shell_at, shell_places}
 use Rattle.brep_walk.specs.Stands.{Stands}
 use Rattle.brep_walk.specs.declared.fault.WalkFault.{WalkFault}
-use Rattle.brep_walk.specs.declared.place.Place.{Place}
+use Rattle.solid_data.specs.declared.place.Place.{Place}
 use Rattle.brep_walk.specs.declared.state.WalkState.{WalkState}
 use Rattle.solid_data.specs.Obligations.{Obligation, after_each}
 
