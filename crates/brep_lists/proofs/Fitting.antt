@@ -18,11 +18,11 @@ use Rattle.brep_lists.proofs.Stride.{pair_shape, edge_shape, vertex_shape, point
 use Rattle.brep_lists.proofs.Stride.{face_tested}
 use Rattle.brep_lists.proofs.Tuples.{loop_tested}
 
-and_left : (a b : Bool) → (a && b) ≡ true → a ≡ true
+pub and_left : (a b : Bool) → (a && b) ≡ true → a ≡ true
 and_left true b e = refl
 and_left false b e = e
 
-and_right : (a b : Bool) → (a && b) ≡ true → b ≡ true
+pub and_right : (a b : Bool) → (a && b) ≡ true → b ≡ true
 and_right true b e = e
 and_right false b e = absurd cc
 

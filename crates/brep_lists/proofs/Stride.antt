@@ -151,7 +151,7 @@ middle_last true false r = refl
 middle_last false true r = refl
 middle_last false false r = refl
 
-middle_first : (a m f r s : Bool) → r ≡ s → (a && (m && (f && r))) ≡ (m && ((a && true) && ((f && true) && s)))
+pub middle_first : (a m f r s : Bool) → r ≡ s → (a && (m && (f && r))) ≡ (m && ((a && true) && ((f && true) && s)))
 middle_first true true true r s e = e
 middle_first true true false r s e = refl
 middle_first true false f r s e = refl

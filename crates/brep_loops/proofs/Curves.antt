@@ -13,6 +13,7 @@ use Rattle.brep_lists.specs.declared.groups.Slot.TheVariants.{Whole, Flag}
 use Rattle.brep_lists.proofs.Places.{may_count}
 use Rattle.brep_lists.proofs.Tuples.{curve_shape}
 use Rattle.brep_lists.proofs.Views.{value_after, item_at, items_past, read_at}
+use Rattle.brep_lists.proofs.Fitting.{and_left, and_right}
 
 past_value : (vs : List Value) (i : ℕ) → length vs ≤ i → value_or_default vs i ≡ Default
 past_value [] i h = refl
@@ -120,14 +121,6 @@ pub first_flag_in : (vs : List Value) (at : ℕ) → flag_at vs at ≡ flag_at (
 first_flag_in vs at = let e : at ≡ at + 0 = omega arith in ap (flag_at vs) e ∙ flag_in vs at 0
 
 -- ---- a tuple that was checked stands within the record
-
-and_left : (a b : Bool) → (a && b) ≡ true → a ≡ true
-and_left true b e = refl
-and_left false b e = e
-
-and_right : (a b : Bool) → (a && b) ≡ true → b ≡ true
-and_right true b e = e
-and_right false b e = absurd cc
 
 curves_fit : (n : ℕ) (vs : List Value) → groups_pass curve_shape n vs ≡ true → n * 2 ≤ length vs
 curves_fit zero vs e = omega arith

@@ -66,34 +66,34 @@ earlier_of [] = []
 earlier_of (zero ∷ is) = earlier_of is
 earlier_of (suc i ∷ is) = i ∷ earlier_of is
 
-earlier_has : (is : List ℕ) (i : ℕ) → Has (earlier_of is) i → Has is (suc i)
+pub earlier_has : (is : List ℕ) (i : ℕ) → Has (earlier_of is) i → Has is (suc i)
 earlier_has [] i h = absurd h
 earlier_has (zero ∷ is) i h = inr (earlier_has is i h)
 earlier_has (suc j ∷ is) i (inl e) = inl (ap suc e)
 earlier_has (suc j ∷ is) i (inr h) = inr (earlier_has is i h)
 
-earlier_none : (is : List ℕ) → NoRepeat is → NoRepeat (earlier_of is)
+pub earlier_none : (is : List ℕ) → NoRepeat is → NoRepeat (earlier_of is)
 earlier_none [] h = tt
 earlier_none (zero ∷ is) h = earlier_none is h.1
 earlier_none (suc i ∷ is) h = ((λ m. h.0 (earlier_has is i m)), earlier_none is h.1)
 
 -- without the first place
-taken_later : (w : ℕ) (ws is : List ℕ) → (Has is 0 → ⊥) → taken (w ∷ ws) is ≡ taken ws (earlier_of is)
+pub taken_later : (w : ℕ) (ws is : List ℕ) → (Has is 0 → ⊥) → taken (w ∷ ws) is ≡ taken ws (earlier_of is)
 taken_later w ws [] h = refl
 taken_later w ws (zero ∷ is) h = absurd (h (inl refl))
 taken_later w ws (suc i ∷ is) h = omega (arith, taken_later w ws is (λ m. h (inr m)))
 
-taken_step : (w : ℕ) (ws is : List ℕ) → NoRepeat is → taken (w ∷ ws) is ≤ w + taken ws (earlier_of is)
+pub taken_step : (w : ℕ) (ws is : List ℕ) → NoRepeat is → taken (w ∷ ws) is ≤ w + taken ws (earlier_of is)
 taken_step w ws [] h = omega arith
 taken_step w ws (zero ∷ is) h = omega (arith, taken_later w ws is h.0)
 taken_step w ws (suc i ∷ is) h = omega (arith, taken_step w ws is h.1)
 
-taken_none : (is : List ℕ) → taken [] is ≡ 0
+pub taken_none : (is : List ℕ) → taken [] is ≡ 0
 taken_none [] = refl
 taken_none (zero ∷ is) = omega (arith, taken_none is)
 taken_none (suc i ∷ is) = omega (arith, taken_none is)
 
-taken_most : (ws is : List ℕ) → NoRepeat is → taken ws is ≤ total (λ w. w) ws
+pub taken_most : (ws is : List ℕ) → NoRepeat is → taken ws is ≤ total (λ w. w) ws
 taken_most [] is h = let e = taken_none is in omega (arith, e)
 taken_most (w ∷ ws) is h = omega (arith, taken_step w ws is h, taken_most ws (earlier_of is) (earlier_none is h))
 
@@ -152,7 +152,7 @@ name_parts f (pos n) h = by_test (n % 2 == 1) refl (slice_get f.entries (n / 2))
 
 -- All uses together are no more than all values.
 
-loop_name : (f : Contents) (c : ℤ) (v d : List ℤ) (l : ℤ) → AllHold (loop_places f c v d l) → Names f l
+pub loop_name : (f : Contents) (c : ℤ) (v d : List ℤ) (l : ℤ) → AllHold (loop_places f c v d l) → Names f l
 unfolding loop_places
 loop_name f c v d l all = all.0
 
@@ -174,12 +174,12 @@ has_last : {A : Type 0} (xs : List A) (x : A) → Has (xs ++ x ∷ []) x
 has_last [] x = inl refl
 has_last (z ∷ xs) x = inr (has_last xs x)
 
-fresh_apart : (e xs : List ℤ) (y : ℤ) → Fresh e xs → Has xs y → Has e y → ⊥
+pub fresh_apart : (e xs : List ℤ) (y : ℤ) → Fresh e xs → Has xs y → Has e y → ⊥
 fresh_apart e [] y f h k = h
 fresh_apart e (x ∷ xs) y f (inl same) k = f.0 (subst (Has e) (sym same) k)
 fresh_apart e (x ∷ xs) y f (inr h) k = fresh_apart (e ++ x ∷ []) xs y f.1 h (has_left e (x ∷ []) y k)
 
-same_number : (f : Contents) (x y : ℤ) → IsNamed f x → IsNamed f y → place_of_number x ≡ place_of_number y → x ≡ y
+pub same_number : (f : Contents) (x y : ℤ) → IsNamed f x → IsNamed f y → place_of_number x ≡ place_of_number y → x ≡ y
 same_number f x y a b h =
     let at : a.number / 2 ≡ b.number / 2 = sym (ap place_of_number a.is) ∙ (h ∙ ap place_of_number b.is) in
     let m : a.number ≡ b.number = omega (arith, div-add-mod a.number 2, div-add-mod b.number 2, a.odd, b.odd, at) in

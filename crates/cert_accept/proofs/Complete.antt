@@ -128,7 +128,7 @@ points_low s h x m =
       subst (λ (a : LoopAt). a.place < length (placed_loops h)) (sym at) (omega (arith, here, g.1, below, few, sizes)),
     )
 
-has_place : {A : Type 0} (xs : List A) (x : A) → Has xs x → (k : ℕ) × (slice_get xs k ≡ Some x)
+pub has_place : {A : Type 0} (xs : List A) (x : A) → Has xs x → (k : ℕ) × (slice_get xs k ≡ Some x)
 has_place [] x h = absurd h
 has_place (y ∷ xs) x (inl e) = (zero, ap Some e)
 has_place (y ∷ xs) x (inr h) = let k = has_place xs x h in (suc k.0, k.1)

@@ -45,7 +45,7 @@ two_not : starts_with (words (head One)) (spelling (head Two)) ≡ false
 unfolding digits
 two_not = refl
 
-three_not : starts_with (words (head One)) (spelling (head Three)) ≡ false
+pub three_not : starts_with (words (head One)) (spelling (head Three)) ≡ false
 unfolding digits
 three_not = refl
 

@@ -28,7 +28,7 @@ use Rattle.brep_walk.specs.SolidOf.{all_tuples, use_of, loop_by, face_by, shell_
 use Rattle.brep_walk.proofs.Numbered.{all_uses}
 use Rattle.brep_walk.proofs.Found.{shells_of, shells_hold, faces_hold, loops_hold, loop_record}
 use Rattle.brep_walk.proofs.Fresh.{Fresh, loops_fresh}
-use Rattle.brep_walk.proofs.Few.{IsNamed, name_parts, each_some}
+use Rattle.brep_walk.proofs.Few.{IsNamed, name_parts, each_some, earlier_has, earlier_none, taken_later, taken_step, taken_none, taken_most, loop_name, fresh_apart, same_number}
 use Rattle.cert_accept.proofs.Bytes.{value_room, values_room, entry_room}
 use Rattle.cert_accept.proofs.Lines.{face_total}
 
@@ -87,37 +87,6 @@ earlier_of [] = []
 earlier_of (zero ∷ is) = earlier_of is
 earlier_of (suc i ∷ is) = i ∷ earlier_of is
 
-earlier_has : (is : List ℕ) (i : ℕ) → Has (earlier_of is) i → Has is (suc i)
-earlier_has [] i h = absurd h
-earlier_has (zero ∷ is) i h = inr (earlier_has is i h)
-earlier_has (suc j ∷ is) i (inl e) = inl (ap suc e)
-earlier_has (suc j ∷ is) i (inr h) = inr (earlier_has is i h)
-
-earlier_none : (is : List ℕ) → NoRepeat is → NoRepeat (earlier_of is)
-earlier_none [] h = tt
-earlier_none (zero ∷ is) h = earlier_none is h.1
-earlier_none (suc i ∷ is) h = ((λ m. h.0 (earlier_has is i m)), earlier_none is h.1)
-
--- without the first place
-taken_later : (w : ℕ) (ws is : List ℕ) → (Has is 0 → ⊥) → taken (w ∷ ws) is ≡ taken ws (earlier_of is)
-taken_later w ws [] h = refl
-taken_later w ws (zero ∷ is) h = absurd (h (inl refl))
-taken_later w ws (suc i ∷ is) h = omega (arith, taken_later w ws is (λ m. h (inr m)))
-
-taken_step : (w : ℕ) (ws is : List ℕ) → NoRepeat is → taken (w ∷ ws) is ≤ w + taken ws (earlier_of is)
-taken_step w ws [] h = omega arith
-taken_step w ws (zero ∷ is) h = omega (arith, taken_later w ws is h.0)
-taken_step w ws (suc i ∷ is) h = omega (arith, taken_step w ws is h.1)
-
-taken_none : (is : List ℕ) → taken [] is ≡ 0
-taken_none [] = refl
-taken_none (zero ∷ is) = omega (arith, taken_none is)
-taken_none (suc i ∷ is) = omega (arith, taken_none is)
-
-taken_most : (ws is : List ℕ) → NoRepeat is → taken ws is ≤ total (λ w. w) ws
-taken_most [] is h = let e = taken_none is in omega (arith, e)
-taken_most (w ∷ ws) is h = omega (arith, taken_step w ws is h, taken_most ws (earlier_of is) (earlier_none is h))
-
 -- ---- where the numbers of loops lead
 
 -- the loops of the solid, face by face
@@ -128,10 +97,6 @@ loop_numbers f n = flat_map (loops f) (flat_map (λ s. numbers (faces f s)) (num
 record IsKnown (f : Contents) (l : ℤ) : Type 0 where
   name : IsNamed f l
   told : HasRecordOf «loop» f l
-
-loop_name : (f : Contents) (c : ℤ) (v d : List ℤ) (l : ℤ) → AllHold (loop_places f c v d l) → Names f l
-unfolding loop_places
-loop_name f c v d l all = all.0
 
 loops_known : (f : Contents) (n : ℕ) → AllHold (places f n) → (l : ℤ) → Has (loop_numbers f n) l → IsKnown f l
 loops_known f n all l here =
@@ -153,17 +118,6 @@ place_of_number (negsuc n) = 0
 has_end : {A : Type 0} (xs : List A) (x : A) → Has (xs ++ x ∷ []) x
 has_end [] x = inl refl
 has_end (z ∷ xs) x = inr (has_end xs x)
-
-fresh_apart : (e xs : List ℤ) (y : ℤ) → Fresh e xs → Has xs y → Has e y → ⊥
-fresh_apart e [] y f h k = h
-fresh_apart e (x ∷ xs) y f (inl same) k = f.0 (subst (Has e) (sym same) k)
-fresh_apart e (x ∷ xs) y f (inr h) k = fresh_apart (e ++ x ∷ []) xs y f.1 h (has_left e (x ∷ []) y k)
-
-same_number : (f : Contents) (x y : ℤ) → IsNamed f x → IsNamed f y → place_of_number x ≡ place_of_number y → x ≡ y
-same_number f x y a b h =
-    let at : a.number / 2 ≡ b.number / 2 = sym (ap place_of_number a.is) ∙ (h ∙ ap place_of_number b.is) in
-    let m : a.number ≡ b.number = omega (arith, div-add-mod a.number 2, div-add-mod b.number 2, a.odd, b.odd, at) in
-    a.is ∙ (ap pos m ∙ sym b.is)
 
 places_differ : (f : Contents) (e xs : List ℤ) → Fresh e xs → ((x : ℤ) → Has xs x → IsNamed f x) → NoRepeat (map place_of_number xs)
 places_differ f e [] fresh named_all = tt

@@ -18,7 +18,7 @@ use Rattle.cert_lines.proofs.LineKinds.{head_decided, solid_decided}
 spelled_decided : (bytes : List ℕ) (l : CertLine) → Decided (IsSpelled bytes l)
 spelled_decided bytes l = decided_both (has_spelling_decided l) (decided_by _ (bytes_eq-Decides bytes (spelling l)))
 
-spaced_longer : (ns : List ℕ) → length ns ≤ length (spaced ns)
+pub spaced_longer : (ns : List ℕ) → length ns ≤ length (spaced ns)
 spaced_longer [] = omega arith
 spaced_longer (n ∷ ns) = omega (arith, spaced_longer ns, length-append (32 ∷ decimal n) (spaced ns))
 

@@ -44,6 +44,8 @@ use Rattle.vertex_link.specs.Corners.{LiesAt}
 use Rattle.cert_maker.specs.Certified.{AreItsRows, IsPart, AreParts}
 use Rattle.cert_maker.specs.Certified.{ClosedHasText}
 use Rattle.cert_maker.proofs.Certifying.{certificate_made}
+use Rattle.cert_accept.proofs.Complete.{has_place}
+use Rattle.vertex_link.proofs.Walks.{listed_at}
 
 -- Where each item has one that agrees with it, so has the list.
 some_zip : {A B : Type 0} (R : A → B → Type 0) (xs : List A) → ((x : A) → Has xs x → (y : B) × R x y) → (ys : List B) × AllZip R xs ys
@@ -60,12 +62,6 @@ rows_at d v = starting v 0 d.rows
 
 at_listed : (d : ShellRows) (v x : ℕ) → StartsAt d v x → Has (rows_at d v) x
 at_listed d v x (row, at, e) = let zero_more : 0 + x ≡ x = omega arith in subst (Has (rows_at d v)) zero_more (starting_has v 0 x d.rows row at e)
-
-listed_at : (d : ShellRows) (v x : ℕ) → Has (rows_at d v) x → StartsAt d v x
-listed_at d v x h =
-    let t = starting_is v 0 x d.rows h in
-    let e : t.0 ≡ x = omega (arith, t.2) in
-    (t.1, ap (λ k. slice_get d.rows k) (sym e) ∙ t.3, t.4)
 
 some_cycle : (d : ShellRows) (v : ℕ) → ArePaired d → IsCorner d v → (r : ℕ) × (rs : List ℕ) × IsCycle d v r rs
 some_cycle d v whole corner =
@@ -141,11 +137,6 @@ some_part d loops whole some reached linked =
         loops = refl;
       },
     )
-
-has_place : {A : Type 0} (xs : List A) (x : A) → Has xs x → (k : ℕ) × (slice_get xs k ≡ Some x)
-has_place [] x h = absurd h
-has_place (y ∷ xs) x (inl e) = (zero, ap Some e)
-has_place (y ∷ xs) x (inr h) = let k = has_place xs x h in (suc k.0, k.1)
 
 some_parts : (s : SolidData) → IsNumberedSolid s → IsClosedSolid s → (parts : List ShellPart) × AreParts s s.shells parts
 some_parts s numbered closed = some_zip (λ (h : Shell) (part : ShellPart). IsPart (shell_rows s h) (loops_of (Some h)) part) s.shells each

@@ -58,7 +58,7 @@ tally_decided s k t =
 
 -- Edge lines.
 
-above_decided : (last : Option ℕ) (n : ℕ) → Decided (IsAbove last n)
+pub above_decided : (last : Option ℕ) (n : ℕ) → Decided (IsAbove last n)
 above_decided None n = inl tt
 above_decided (Some m) n = decided_below m n
 
@@ -92,18 +92,18 @@ edge_decided d at a b = by_rows (row_named d a) (row_named d b) refl refl
 mate_decided : (mates : List (ℕ × ℕ)) (r m : ℕ) → Decided (IsMate mates r m)
 mate_decided mates r m = decided_either (decided_contains decided_pair mates (r, m)) (decided_contains decided_pair mates (m, r))
 
-follows_decided : (d : ShellRows) (r s : ℕ) → Decided (FollowsAsNamed d r s)
+pub follows_decided : (d : ShellRows) (r s : ℕ) → Decided (FollowsAsNamed d r s)
 follows_decided d zero s = inr (λ h. h)
 follows_decided d (suc r) zero = inr (λ h. h)
 follows_decided d (suc r) (suc s) = decided_some (slice_get d.follows r) s
 
-follows_below : (d : ShellRows) (r s : ℕ) → FollowsAsNamed d r s → r < suc (length d.follows)
+pub follows_below : (d : ShellRows) (r s : ℕ) → FollowsAsNamed d r s → r < suc (length d.follows)
 follows_below d zero s h = omega arith
 follows_below d (suc r) zero h = absurd h
 follows_below d (suc r) (suc s) h = omega (arith, slice_get_within d.follows r s h)
 
 -- a mate is searched for among the rows that another follows
-turns_decided : (d : ShellRows) (mates : List (ℕ × ℕ)) (r s : ℕ) → Decided (TurnsTo d mates r s)
+pub turns_decided : (d : ShellRows) (mates : List (ℕ × ℕ)) (r s : ℕ) → Decided (TurnsTo d mates r s)
 turns_decided d mates r s =
     decided_alike (λ (m, lt, (is, follows)). (m, is, follows)) (λ (m, is, follows). (m, follows_below d m s follows, (is, follows)))
     (decided_bounded (λ m. IsMate mates r m × FollowsAsNamed d m s) (λ m. decided_both (mate_decided mates r m) (follows_decided d m s))

@@ -31,7 +31,7 @@ pub record EdgeFits (k : ShellCheckState) (a b e : ℕ) : Type 0 where
 progress_at : Option ℕ → Progress
 progress_at last = progress_of false 0 (due_of 0 0 0 0) [] last None []
 
-progress_at_last : (last : Option ℕ) → (progress_at last).last_edge ≡ last
+pub progress_at_last : (last : Option ℕ) → (progress_at last).last_edge ≡ last
 unfolding progress_at
 progress_at_last last = refl
 

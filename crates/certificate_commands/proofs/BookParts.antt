@@ -38,6 +38,7 @@ use Rattle.certificate_commands.specs.Due.{OfCertificate, opened, part_bad, part
 use Rattle.certificate_commands.specs.Books.{BeginsPart}
 use Rattle.cert_accept.proofs.CheckedParts.{checked_certified}
 use Rattle.certificate_commands.proofs.CutText.{cut_behind, joined, joined_cut, some_bytes}
+use Rattle.cert_accept.proofs.UpgradedLaw.{three_not}
 
 -- ---- numbers that rise
 
@@ -163,10 +164,6 @@ opened_front c n rest o =
         names = o.names;
       },
     )
-
-three_not : starts_with (words (head One)) (spelling (head Three)) ≡ false
-unfolding digits
-three_not = refl
 
 kept_three : (s : SolidData) (c : List ℕ) (lines : List (List ℕ)) → IsHeaded c Three lines → upgraded s c ≡ c
 kept_three s c lines h = sym (kept_other s c h.first lines h.cut (ap (starts_with (words (head One))) h.is_head.1.1 ∙ three_not))

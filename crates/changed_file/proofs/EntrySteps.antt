@@ -48,7 +48,7 @@ at_unnamed f i r made at none = by_kind (int_eq r.0.kind (pos 0)) refl
 
 -- ---- entries
 
-get_enumerated : {X : Type 0} (n : ℕ) (xs : List X) (i : ℕ) (x : X) → slice_get xs i ≡ Some x → slice_get (enumerate_from n xs) i ≡ Some (n + i, x)
+pub get_enumerated : {X : Type 0} (n : ℕ) (xs : List X) (i : ℕ) (x : X) → slice_get xs i ≡ Some x → slice_get (enumerate_from n xs) i ≡ Some (n + i, x)
 get_enumerated n [] i x at = absurd (none-some x at)
 get_enumerated n (y ∷ ys) zero x at = let none : n ≡ n + 0 = omega arith in let same : y ≡ x = cc in ap (λ k. Some (k, y)) none ∙ ap (λ z. Some (n + 0, z)) same
 get_enumerated n (y ∷ ys) (suc i) x at = let on : n + 1 + i ≡ n + suc i = omega arith in get_enumerated (n + 1) ys i x at ∙ ap (λ k. Some (k, x)) on

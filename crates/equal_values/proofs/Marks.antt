@@ -7,7 +7,7 @@ use Rattle.equal_values.specs.Equal.{AreEqualValues}
 use Rattle.equal_values.specs.Keys.{marked, key_of, keys_of}
 use Rattle.equal_values.proofs.Texts.{texts_decide}
 
-marks_part : (a b x y : List ℕ) → marked a ++ x ≡ marked b ++ y → (a ≡ b) × (x ≡ y)
+pub marks_part : (a b x y : List ℕ) → marked a ++ x ≡ marked b ++ y → (a ≡ b) × (x ≡ y)
 marks_part [] [] x y e = (refl, ap (drop 1) e)
 marks_part [] (c ∷ b) x y e = absurd (let no = ap (λ (t : List ℕ). get_or t 0 0) e in omega (arith, no))
 marks_part (c ∷ a) [] x y e = absurd (let no = ap (λ (t : List ℕ). get_or t 0 0) e in omega (arith, no))

@@ -34,6 +34,7 @@ use Rattle.solid_extract.proofs.NewNumbers.{new_named}
 use Rattle.solid_extract.proofs.Places.{place_found}
 use Rattle.extraction_laws.proofs.Zips.{OptionZip}
 use Rattle.extraction_laws.proofs.Renames.{AllPointers, IsEntity, IsPointer, IsSameKind, Renames}
+use Rattle.list_compact.proofs.Pointers.{agrees_later, agrees_itself}
 
 -- ---- the values of a record by their places
 
@@ -41,17 +42,6 @@ use Rattle.extraction_laws.proofs.Renames.{AllPointers, IsEntity, IsPointer, IsS
 abbrev Agrees : (ℕ → Value) → ℕ → List Value → Type 0
 Agrees v k [] = Unit {0}
 Agrees v k (x ∷ xs) = (v k ≡ x) × Agrees v (k + 1) xs
-
-agrees_later : (v w : ℕ → Value) (k : ℕ) (xs : List Value) → 1 ≤ k → ((i : ℕ) → 1 ≤ i → v (i + 1) ≡ w i) → Agrees w k xs → Agrees v (k + 1) xs
-agrees_later v w k [] low same h = tt
-agrees_later v w k (x ∷ xs) low same h = (same k low ∙ h.0, agrees_later v w (k + 1) xs (omega (arith, low)) same h.1)
-
-agrees_itself : (xs : List Value) → Agrees (value_at xs) 1 xs
-agrees_itself [] = tt
-agrees_itself (x ∷ xs) = (refl, agrees_later (value_at (x ∷ xs)) (value_at xs) 1 xs (omega arith) next (agrees_itself xs))
-  where
-    next : (i : ℕ) → 1 ≤ i → value_at (x ∷ xs) (i + 1) ≡ value_at xs i
-    next i low = let e : i + 1 - 1 ≡ suc (i - 1) = omega (arith, low) in ap (λ j. slice_index_or (x ∷ xs) j value.Default) e
 
 module _ (P : ℤ → Type 0) (v : ℕ → Value) where
   -- the pointers other than 0 at the places of a record's pointers

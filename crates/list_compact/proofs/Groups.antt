@@ -10,6 +10,7 @@ use Rattle.iges_fields.specs.declared.value.Value.TheVariants as value
 use Rattle.entry_references.specs.Layout.{is_pointer}
 use Rattle.entry_references.specs.Refs.{group_at, is_group, is_left_out}
 use Rattle.solid_extract.specs.NewValues.{new_numbers, names_behind}
+use Rattle.solid_extract.proofs.AgainRecord.{numbers_point}
 
 -- the groups of what stands behind, in a record of these values
 abbrev pub groups_pass : List Value → List Value → Bool
@@ -17,10 +18,6 @@ groups_pass vs tail = is_group vs (group_at tail) && is_group vs (group_at (grou
 
 abbrev counted : List Value → List Value
 counted names = value.Int (pos 0) ∷ value.Int (pos (length names)) ∷ names
-
-numbers_point : (kept : List ℕ) (zs : List ℤ) → list_all is_pointer (new_numbers kept zs) ≡ true
-numbers_point kept [] = refl
-numbers_point kept (z ∷ zs) = numbers_point kept zs
 
 none_counted : (vs : List Value) → nat_le 0 (length vs) ≡ true
 none_counted vs = le-leb 0 (length vs) (omega arith)

@@ -29,11 +29,11 @@ abbrev Agrees : (ℕ → Value) → ℕ → List Value → Type 0
 Agrees v k [] = Unit {0}
 Agrees v k (x ∷ xs) = (v k ≡ x) × Agrees v (k + 1) xs
 
-agrees_later : (v w : ℕ → Value) (k : ℕ) (xs : List Value) → 1 ≤ k → ((i : ℕ) → 1 ≤ i → v (i + 1) ≡ w i) → Agrees w k xs → Agrees v (k + 1) xs
+pub agrees_later : (v w : ℕ → Value) (k : ℕ) (xs : List Value) → 1 ≤ k → ((i : ℕ) → 1 ≤ i → v (i + 1) ≡ w i) → Agrees w k xs → Agrees v (k + 1) xs
 agrees_later v w k [] low same h = tt
 agrees_later v w k (x ∷ xs) low same h = (same k low ∙ h.0, agrees_later v w (k + 1) xs (omega (arith, low)) same h.1)
 
-agrees_itself : (xs : List Value) → Agrees (value_at xs) 1 xs
+pub agrees_itself : (xs : List Value) → Agrees (value_at xs) 1 xs
 agrees_itself [] = tt
 agrees_itself (x ∷ xs) = (refl, agrees_later (value_at (x ∷ xs)) (value_at xs) 1 xs (omega arith) next (agrees_itself xs))
   where

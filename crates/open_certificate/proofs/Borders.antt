@@ -71,7 +71,7 @@ goes_one d alone apart a b c ((x, y, at_x, at_y, meet), in_a, in_b) ((u, z, at_u
     let same : x ≡ u = same_Some x u (sym at_x ∙ at_u) in
     apart b c y z in_b in_c at_y at_z (sym meet ∙ (ap (λ (r : Row). r.to) same ∙ join))
 
-ring_trail : (d : ShellRows) (alone : List ℕ) (r : ℕ) (rs : List ℕ) (z : ℕ) → AllByRecursion (Contains alone) (r ∷ rs) → Contains alone z
+pub ring_trail : (d : ShellRows) (alone : List ℕ) (r : ℕ) (rs : List ℕ) (z : ℕ) → AllByRecursion (Contains alone) (r ∷ rs) → Contains alone z
     → AllZip (GoesOnTo d) (r ∷ rs) (rs ++ z ∷ []) → Trail (Goes d alone) r rs z
 ring_trail d alone r [] z all last h = (h.0, all.0, last)
 ring_trail d alone r (w ∷ ws) z all last h = ((h.0, all.0, all.1.0), ring_trail d alone w ws z all.1 last h.1)
@@ -142,7 +142,7 @@ ring_step d alone firsts rows r rs starts facts all goes least rises =
     }
 
 -- all lines that fit
-rings_of : (s : SolidData) (alone : List ℕ) (lines : List OpenLine) → StartApart (shell_of s) alone → AllFit s lines
+pub rings_of : (s : SolidData) (alone : List ℕ) (lines : List OpenLine) → StartApart (shell_of s) alone → AllFit s lines
     → ((a : ℕ) → Contains (filter_map lone_in lines) a → Contains alone a)
     → RingFacts (shell_of s) alone (filter_map border_in lines) (flat_map border_rows lines)
 unfolding progress_from_latest

@@ -20,7 +20,7 @@ use Rattle.cert_text.specs.declared.fault.Illegal.{Illegal}
 use Rattle.cert_text.specs.declared.fault.Illegal.TheVariants.{Misspelt, Unfit, Missing}
 use Rattle.cert_state.specs.Progress.{Progress, row_named, row_start, start_count, IsAbove, IsMate, FollowsAsNamed, TurnsTo, FitsEdge, FitsCorner, FitsPoint}
 use Rattle.cert_state.specs.Progress.{FitsReach}
-use Rattle.cert_state.proofs.FitsDecided.{line_decided as closed_line_decided}
+use Rattle.cert_state.proofs.FitsDecided.{line_decided as closed_line_decided, above_decided, follows_decided, follows_below, turns_decided}
 use Rattle.open_certificate.specs.Line.{OpenLine, head, shell, edge, lone, cycle, path, point, reach, border, end, spelling, numbers_of, HasRows, HasSpelling}
 use Rattle.open_certificate.specs.Line.{IsSpelled, IsMisspelt}
 use Rattle.open_certificate.specs.Progress.{OpenProgress, shell_of, shared, progress_from_latest, FitsShell, ListsAll, FitsLone, IsChain, last_of, FitsPath}
@@ -28,6 +28,7 @@ use Rattle.open_certificate.specs.Progress.{GoesOnTo}
 use Rattle.open_certificate.specs.Progress.{FitsBorder, CornerDue, ReachDue, BorderDue, IsDone, FitsOpen, FitsLine}
 use Rattle.open_certificate.specs.Legal.{IsLegalAfter, IsFirstBadAfter, IsOpenLegal, IsOpenFirstBad}
 use Rattle.open_certificate.proofs.Spelling.{kind_of, prefix_of, line_from, rebuilt, spelling_parts}
+use Rattle.cert_lines.proofs.Decided.{spaced_longer}
 
 -- Spelling.
 
@@ -59,10 +60,6 @@ kind_below (point face l) = omega arith
 kind_below (reach r) = omega arith
 kind_below (border rs) = omega arith
 kind_below end = omega arith
-
-spaced_longer : (ns : List ℕ) → length ns ≤ length (spaced ns)
-spaced_longer [] = omega arith
-spaced_longer (n ∷ ns) = omega (arith, spaced_longer ns, length-append (32 ∷ decimal n) (spaced ns))
 
 -- a line has no more numbers than bytes
 few_numbers : (bytes : List ℕ) (l : OpenLine) → IsSpelled bytes l → length (numbers_of l) ≤ length bytes
@@ -173,10 +170,6 @@ reach_decided s at r =
 
 -- Lines that only open shells' certificates have.
 
-above_decided : (last : Option ℕ) (n : ℕ) → Decided (IsAbove last n)
-above_decided None n = inl tt
-above_decided (Some m) n = decided_below m n
-
 shell_decided : (s : SolidData) (n rows edges corners faces : ℕ) → Decided (FitsShell s n rows edges corners faces)
 shell_decided s n rows edges corners faces =
     decided_alike (λ (names, r, (e, c, f)). record { names = names; rows_counted = r; edges_counted = e; corners_counted = c; faces_counted = f })
@@ -195,23 +188,6 @@ lone_decided d at a =
 
 mate_decided : (mates : List (ℕ × ℕ)) (r m : ℕ) → Decided (IsMate mates r m)
 mate_decided mates r m = decided_either (decided_contains decided_pair mates (r, m)) (decided_contains decided_pair mates (m, r))
-
-follows_decided : (d : ShellRows) (r s : ℕ) → Decided (FollowsAsNamed d r s)
-follows_decided d zero s = inr (λ h. h)
-follows_decided d (suc r) zero = inr (λ h. h)
-follows_decided d (suc r) (suc s) = decided_some (slice_get d.follows r) s
-
-follows_below : (d : ShellRows) (r s : ℕ) → FollowsAsNamed d r s → r < suc (length d.follows)
-follows_below d zero s h = omega arith
-follows_below d (suc r) zero h = absurd h
-follows_below d (suc r) (suc s) h = omega (arith, slice_get_within d.follows r s h)
-
--- a mate is searched for among the rows that another follows
-turns_decided : (d : ShellRows) (mates : List (ℕ × ℕ)) (r s : ℕ) → Decided (TurnsTo d mates r s)
-turns_decided d mates r s =
-    decided_alike (λ (m, lt, (is, follows)). (m, is, follows)) (λ (m, is, follows). (m, follows_below d m s follows, (is, follows)))
-    (decided_bounded (λ m. IsMate mates r m × FollowsAsNamed d m s) (λ m. decided_both (mate_decided mates r m) (follows_decided d m s))
-    (suc (length d.follows)))
 
 chain_decided : (R : ℕ → ℕ → Type 0) → ((r s : ℕ) → Decided (R r s)) → (r : ℕ) (rs : List ℕ) → Decided (IsChain R r rs)
 chain_decided R each r [] = inl tt

@@ -20,7 +20,7 @@ use Rattle.edge_uses.specs.RowRelations.{point_count, AreMates, Follows, Turns, 
 use Rattle.edge_uses.specs.Around.{IsPoint, IsReached}
 use Rattle.edge_uses.specs.Joins.{loop_obligations, join_obligations}
 use Rattle.shell_rules.specs.ShellObligations.{reach_obligations}
-use Rattle.shell_rules.proofs.Decided.{edge_id_decided, paired_decided, reached_decided}
+use Rattle.shell_rules.proofs.Decided.{edge_id_decided, paired_decided, reached_decided, follows_decided, turns_decided, turns_below, some_start, point_decided}
 use Rattle.open_certificate.specs.Sound.{row_total, IsOnce, IsFan, IsFanned}
 use Rattle.open_certificate.specs.Obligations.{OpenObligation, AllHold, FirstFalse, as_open, edge_obligation, fan_obligation, open_shell_obligations, of_shells}
 use Rattle.open_certificate.specs.Obligations.{open_obligations}
@@ -39,21 +39,8 @@ mates_decided d r m =
     (λ row. decided_found (slice_get d.rows m) (λ (mate : Row). (row.edge ≡ mate.edge) × (row.along ≡ not mate.along))
     (λ mate. decided_both (edge_id_decided row.edge mate.edge) (decided_bool row.along (not mate.along)))))
 
-follows_decided : (d : ShellRows) (r s : ℕ) → Decided (Follows d r s)
-follows_decided d r s = decided_alike (λ (x, e, same). subst (λ z. slice_get d.follows r ≡ Some z) same e) (λ e. (s, e, refl))
-    (decided_found (slice_get d.follows r) (λ x. x ≡ s) (λ x. decided_same x s))
-
-turns_decided : (d : ShellRows) (r s : ℕ) → Decided (Turns d r s)
-turns_decided d r s =
-    decided_alike (λ (m, lt, (mates, follows)). (m, mates, follows)) (λ (m, mates, follows). (m, slice_get_within d.follows m s follows, (mates, follows)))
-    (decided_bounded (λ m. AreMates d r m × Follows d m s) (λ m. decided_both (mates_decided d r m) (follows_decided d m s)) (length d.follows))
-
 number : ℕ → ℕ
 number n = n
-
-turns_below : (d : ShellRows) (r s : ℕ) → Turns d r s → s < above_all number d.follows
-unfolding number
-turns_below d r s (m, mates, follows) = below_all number d.follows m s follows
 
 chains_decided : (d : ShellRows) (r s : ℕ) → Decided (LeadsTo (Turns d) r s)
 chains_decided d r s = leads_decided (Turns d) (turns_decided d) (above_all number d.follows) (turns_below d) r s
@@ -65,10 +52,6 @@ starts_decided d v r = decided_found (slice_get d.rows r) (λ (row : Row). row.f
 
 starts_within : (d : ShellRows) (v r : ℕ) → StartsAt d v r → r < length d.rows
 starts_within d v r (row, at_r, e) = slice_get_within d.rows r row at_r
-
-some_start : (d : ShellRows) (v : ℕ) → Decided ((r : ℕ) × StartsAt d v r)
-some_start d v = decided_alike (λ (r, lt, h). (r, h)) (λ (r, h). (r, starts_within d v r h, h))
-    (decided_bounded (StartsAt d v) (starts_decided d v) (length d.rows))
 
 -- two rows at the vertex are in one fan
 abbrev InOneFan : ShellRows → ℕ → ℕ → ℕ → Type 0
@@ -87,11 +70,6 @@ fan_decided d v =
     (λ h. (h.some, (λ r lt s below at_r at_s. h.one_fan r s at_r at_s), h.no_point))
     (decided_three (some_start d v) (decided_each (λ r. (s : ℕ) → s < length d.rows → InOneFan d v r s) (one_fan_from d v) (length d.rows))
     (decided_same (point_count d v) 0))
-
-point_decided : (d : ShellRows) (v : ℕ) → Decided (IsPoint d v)
-point_decided d v =
-    decided_alike (λ (none, one). record { no_row = λ r h. none (r, h); one_point = one }) (λ h. ((λ (r, at_r). h.no_row r at_r), h.one_point))
-    (decided_both (decided_not (some_start d v)) (decided_same (point_count d v) 1))
 
 fanned_decided : (d : ShellRows) (v : ℕ) → Decided (IsFanned d v)
 fanned_decided d v = decided_either (fan_decided d v) (point_decided d v)

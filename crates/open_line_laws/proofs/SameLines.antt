@@ -13,7 +13,7 @@ use Rattle.open_certificate.specs.Sound.{IsOnce}
 use Rattle.open_certificate.specs.Line.{OpenLine, head, shell, edge, lone, cycle, path, point, reach, border, end}
 use Rattle.open_certificate.specs.Progress.{OpenProgress, progress_from_latest, shell_of, FitsOpen, lone_in, mates_in, edge_in, vertex_in, border_in}
 use Rattle.open_certificate.specs.Progress.{border_rows, is_shell, is_edge, is_corner, is_reach, is_border, is_last, number_of, asked}
-use Rattle.open_certificate.proofs.Borders.{AreBorder, StartApart, Goes, RingFacts, start_apart, goes_one, keeps_steps, no_rings, ring_step}
+use Rattle.open_certificate.proofs.Borders.{AreBorder, StartApart, Goes, RingFacts, start_apart, goes_one, keeps_steps, no_rings, ring_step, rings_of}
 use Rattle.open_certificate.proofs.Facts.{AllFit, FitsAll, facts_listed, proper_of}
 use Rattle.open_certificate.proofs.Once.{AreListed, once_rows, lone_border}
 use Rattle.open_line_laws.proofs.LineLists.{all_of_one, falls_same, keyed_same, keys_of_passing, passing, least_of, some_here, some_later}
@@ -21,29 +21,6 @@ use Rattle.open_line_laws.proofs.SameParts.{EdgeIs, CornerIs, BorderIs, ring, on
 use Rattle.open_line_laws.proofs.SameParts.{FitsAt, fit_at}
 
 -- ---- the border lines, the latest first
-
--- what all lines show of the rows that border lines list
-rings_of : (s : SolidData) (alone : List ℕ) (lines : List OpenLine) → StartApart (shell_of s) alone → AllFit s lines
-    → ((a : ℕ) → Contains (filter_map lone_in lines) a → Contains alone a)
-    → RingFacts (shell_of s) alone (filter_map border_in lines) (flat_map border_rows lines)
-unfolding progress_from_latest
-rings_of s alone [] starts fit into = no_rings (shell_of s) alone
-rings_of s alone (head ∷ lines) starts fit into = absurd fit.0.1
-rings_of s alone (shell n a b c d e ∷ lines) starts fit into = rings_of s alone lines starts fit.1 into
-rings_of s alone (edge a b ∷ lines) starts fit into = rings_of s alone lines starts fit.1 into
-rings_of s alone (lone a ∷ lines) starts fit into =
-    rings_of s alone lines starts fit.1
-    (λ x c. into x (Contains-from_Has (a ∷ filter_map lone_in lines) x (inr (Has-from_Contains (filter_map lone_in lines) x c))))
-rings_of s alone (cycle rs ∷ lines) starts fit into = rings_of s alone lines starts fit.1 into
-rings_of s alone (path rs ∷ lines) starts fit into = rings_of s alone lines starts fit.1 into
-rings_of s alone (point a b ∷ lines) starts fit into = rings_of s alone lines starts fit.1 into
-rings_of s alone (reach a ∷ lines) starts fit into = rings_of s alone lines starts fit.1 into
-rings_of s alone (border [] ∷ lines) starts fit into = absurd fit.0.1
-rings_of s alone (border (r ∷ rs) ∷ lines) starts fit into =
-    let h = fit.0.1.1 in
-    ring_step (shell_of s) alone (filter_map border_in lines) (flat_map border_rows lines) r rs starts (rings_of s alone lines starts fit.1 into)
-    (All-from (Contains alone) (r ∷ rs) (λ x m. into x (All-at (Contains (filter_map lone_in lines)) (r ∷ rs) h.lone x m))) h.goes_on h.least h.rises
-rings_of s alone (end ∷ lines) starts fit into = rings_of s alone lines starts fit.1 into
 
 -- a border line of this first row
 first_line : (lines : List OpenLine) (r : ℕ) → Has (filter_map border_in lines) r → (rs : List ℕ) × Has lines (border (r ∷ rs))

@@ -27,7 +27,7 @@ use Rattle.open_certificate.specs.Progress.{progress_from_latest, shell_of, Fits
 use Rattle.open_certificate.specs.Progress.{border_in}
 use Rattle.open_certificate.specs.Progress.{is_edge}
 use Rattle.open_certificate.specs.Progress.{is_corner, is_border}
-use Rattle.open_certificate.proofs.Borders.{AreBorder, StartApart, Goes, goes_one}
+use Rattle.open_certificate.proofs.Borders.{AreBorder, StartApart, Goes, goes_one, ring_trail}
 use Rattle.open_certificate.proofs.Facts.{AllFit}
 use Rattle.open_certificate.proofs.Fans.{counted_way, both_ways_counted, turns_one, lone_no_turn, chain_no_repeat}
 use Rattle.open_certificate.proofs.Once.{OnceRows, way_one}
@@ -287,11 +287,6 @@ trail_weaker R S h x (y ∷ ys) z t = (h x y t.0, trail_weaker R S h y ys z t.1)
 chain_weaker : (R S : ℕ → ℕ → Type 0) → ((x y : ℕ) → R x y → S x y) → (x : ℕ) (xs : List ℕ) → IsChain R x xs → IsChain S x xs
 chain_weaker R S h x [] c = tt
 chain_weaker R S h x (y ∷ ys) c = (h x y c.0, chain_weaker R S h y ys c.1)
-
-ring_trail : (d : ShellRows) (alone : List ℕ) (r : ℕ) (rs : List ℕ) (z : ℕ) → AllByRecursion (Contains alone) (r ∷ rs) → Contains alone z
-    → AllZip (GoesOnTo d) (r ∷ rs) (rs ++ z ∷ []) → Trail (Goes d alone) r rs z
-ring_trail d alone r [] z all last h = (h.0, all.0, last)
-ring_trail d alone r (w ∷ ws) z all last h = ((h.0, all.0, all.1.0), ring_trail d alone w ws z all.1 last h.1)
 
 has_filter_map : {B : Type 0} (g : OpenLine → Option B) (lines : List OpenLine) (x : OpenLine) (y : B) → Has lines x → g x ≡ Some y → Has (filter_map g lines) y
 has_filter_map g [] x y m e = absurd m

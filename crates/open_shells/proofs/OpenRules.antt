@@ -28,13 +28,10 @@ use Rattle.open_certificate.specs.declared.verdict.OpenFailing.{OpenFailing}
 use Rattle.open_certificate.specs.declared.verdict.OpenRule.TheVariants.{Join, Reach}
 use Rattle.open_certificate.proofs.OpenLists.{hold_append, false_front, false_rest, hold_map, first_map, as_open_hold, as_open_false}
 use Rattle.open_shells.proofs.Placed.{IsPlace}
+use Rattle.shell_rules.proofs.Rules.{FirstNot-has, open_place, face_there, unreached_there}
 
 abbrev pub failing : Rule → ℕ → ℕ → Failing
 failing rule entity place = record { rule = rule; entity = record { 0 = entity }; place = place }
-
-FirstNot-has : {A : Type 0} (P : A → Type 0) (xs : List A) (x : A) → FirstNot P xs x → Has xs x
-FirstNot-has P [] x h = h
-FirstNot-has P (y ∷ xs) x h = ⊎_elim (λ bad. inl (sym bad.1)) (λ rest. inr (FirstNot-has P xs x rest.1)) h
 
 of_each_fails : {A : Type 0} (P : A → Type 0) (f : A → List Obligation) → ((y : A) → P y → AllHoldClosed (f y)) → (xs : List A) (y : A) (x : Failing)
     → FirstNot P xs y → FirstFalseClosed (f y) x → FirstFalseClosed (of_each f xs) x
@@ -42,11 +39,6 @@ of_each_fails P f holds [] y x h bad = absurd h
 of_each_fails P f holds (z ∷ xs) y x h bad =
     ⊎_elim (λ here. FirstFalse-append_front (f z) (of_each f xs) x (subst (λ w. FirstFalseClosed (f w) x) here.1 bad))
     (λ rest. FirstFalse-append_rest (f z) (of_each f xs) x (holds z rest.0) (of_each_fails P f holds xs y x rest.1 bad)) h
-
--- the open loop stands in the shell
-pub open_place : (s : SolidData) (h : Shell) (at : LoopAt) (place : ℕ) → IsFirstUnjoined s h at place → IsPlace h at
-open_place s h at place u =
-    (u.placed, Contains-from_Has (placed_loops h) u.placed (FirstNot-has (λ (p : PlacedLoop). IsJoined s p.loop) (placed_loops h) u.placed u.first), u.is_at)
 
 joins_fail : (s : SolidData) (h : Shell) (at : LoopAt) (place : ℕ) (x : Failing) → IsFirstUnjoined s h at place
     → ((p : PlacedLoop) → Contains (placed_loops h) p → at ≡ p.at → x ≡ failing Unjoined p.loop.entity.0 place) → FirstFalseClosed (join_obligations s h) x
@@ -83,20 +75,6 @@ reaches_fail : (h : Shell) (d : ShellRows) (f : ℕ) (x : Failing) → d.face_co
 reaches_fail h d f x count bad named =
     faces_fail d 0 h.faces f x (subst (λ n. FirstNot (IsReached d) (numbers_from 0 n) f) count bad)
     (λ g i e at. let same : i ≡ f = omega (arith, e) in named g (subst (λ n. slice_get h.faces n ≡ Some g) same at))
-
-face_there : (P : ℕ → Type 0) (base : ℕ) (fs : List FaceUse) (f : ℕ) → FirstNot P (numbers_from base (length fs)) f → (i : ℕ) × (f ≡ base + i) × (g : FaceUse)
-    × (slice_get fs i ≡ Some g)
-face_there P base [] f h = absurd h
-face_there P base (g ∷ fs) f h =
-    ⊎_elim (λ here. (0, omega (arith, here.1), g, refl)) (λ rest. let k = face_there P (base + 1) fs f rest.1 in (suc k.0, omega (arith, k.1), k.2, k.3)) h
-
--- the unreached face is one of the shell
-pub unreached_there : (h : Shell) (d : ShellRows) (f : ℕ) → d.face_count ≡ length h.faces → FirstNot (IsReached d) (numbers_from 0 d.face_count) f
-    → (g : FaceUse) × (slice_get h.faces f ≡ Some g)
-unreached_there h d f count bad =
-    let k = face_there (IsReached d) 0 h.faces f (subst (λ n. FirstNot (IsReached d) (numbers_from 0 n) f) count bad) in
-    let same : k.0 ≡ f = omega (arith, k.1) in
-    (k.2, subst (λ n. slice_get h.faces n ≡ Some k.2) same k.3)
 
 pub if_some : {A : Type 0} (P : A → Type 0) (o : Option A) (x : A) → o ≡ Some x → IfSome o P → P x
 if_some {A = A} P o x e h = let Q : Option A → Type 0 = λ z. IfSome z P in subst Q e h

@@ -27,13 +27,9 @@ use Rattle.topo_certificate.proofs.Build.{found_point, PointsDiffer}
 use Rattle.cert_state.proofs.PointOrder.{faces_of_rows}
 use Rattle.open_certificate.specs.Sound.{IsOnce, IsFanned, IsSoundShell}
 use Rattle.open_certificate.proofs.Once.{total_uses}
+use Rattle.shell_rules.proofs.Placed.{enum_get}
 
 -- Two loops at one place are one.
-
-pub enum_get : {A : Type 0} (base : ℕ) (xs : List A) (f : ℕ × A) → Has (enumerate_from base xs) f → (k : ℕ) × (f.0 ≡ base + k) × (slice_get xs k ≡ Some f.1)
-enum_get base [] f h = absurd h
-enum_get base (x ∷ xs) f (inl e) = let n : f.0 ≡ base = ap (λ p. p.0) (sym e) in (zero, omega (arith, n), ap (λ p. Some p.1) e)
-enum_get base (x ∷ xs) f (inr h) = let g = enum_get (base + 1) xs f h in (suc g.0, omega (arith, g.1), g.2)
 
 enum_one : {A : Type 0} (xs : List A) (f g : ℕ × A) → Has (enumerate_from 0 xs) f → Has (enumerate_from 0 xs) g → f.0 ≡ g.0 → f ≡ g
 enum_one xs f g h k e =

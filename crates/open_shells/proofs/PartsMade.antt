@@ -20,7 +20,7 @@ use Rattle.edge_uses.specs.Around.{AreNeighbours, IsReached}
 use Rattle.edge_uses.proofs.Counting.{found_row}
 use Rattle.edge_uses.proofs.Cycle.{same_or_not}
 use Rattle.edge_uses.proofs.Turns.{mates_back, follows_onto}
-use Rattle.topo_certificate.proofs.Build.{found_point}
+use Rattle.topo_certificate.proofs.Build.{found_point, decide_has, outsider, leaving}
 use Rattle.open_certificate.specs.Sound.{IsBorder, IsOnce, IsFan, IsFanned}
 use Rattle.open_shells.specs.Mating.{AreRowsOf, AreOnce}
 use Rattle.open_shells.specs.FanParts.{LiesAt, IsCycleOf, IsPathOf, IsHeadOf}
@@ -166,22 +166,6 @@ corners_made d whole [] h = ([], tt)
 corners_made d whole (v ∷ vs) h = let o = corner_made d whole v h.0 in let rest = corners_made d whole vs h.1 in (o.0 ∷ rest.0, (o.1, rest.1))
 
 -- The faces.
-
-decide_has : (xs : List ℕ) (x : ℕ) → Has xs x ⊎ (Has xs x → ⊥)
-decide_has [] x = inr (λ h. h)
-decide_has (y ∷ xs) x = ⊎_elim (λ e. inl (inl e)) (λ ne. ⊎_elim (λ h. inl (inr h)) (λ none. inr (λ m. ⊎_elim ne none m)) (decide_has xs x)) (same_or_not y x)
-
-outsider : (xs ys : List ℕ) → ((x : ℕ) × Has xs x × (Has ys x → ⊥)) ⊎ ((x : ℕ) → Has xs x → Has ys x)
-outsider [] ys = inr (λ x m. absurd m)
-outsider (x ∷ xs) ys =
-    ⊎_elim
-    (λ h. ⊎_elim (λ o. inl (o.0, inr o.1, o.2)) (λ all. inr (λ z m. ⊎_elim (λ e. subst (Has ys) e h) (λ k. all z k) m)) (outsider xs ys))
-    (λ none. inl (x, inl refl, none))
-    (decide_has ys x)
-
-leaving : (R : ℕ → ℕ → Type 0) (xs : List ℕ) (n a b : ℕ) → Steps R n a b → Has xs a → (Has xs b → ⊥) → (g : ℕ) × (h : ℕ) × Has xs g × (Has xs h → ⊥) × R g h
-leaving R xs zero a b e m none = absurd (none (subst (Has xs) e m))
-leaving R xs (suc n) a b (c, r, rest) m none = ⊎_elim (λ k. leaving R xs n c b rest k none) (λ k. (a, c, m, k, r)) (decide_has xs c)
 
 reach_more : (d : ShellRows) → AreOnce d → AllByRecursion (IsReached d) (numbers_from 0 d.face_count) → (left : ℕ) (known : List ℕ) → Has known 0
     → length known + left ≡ d.face_count → (rows : List ℕ) × ReachFrom d known rows × (length rows ≡ left)

@@ -9,7 +9,7 @@ use Rattle.orient_certificate.specs.declared.line.OrientLineFault.{OrientLineFau
 use Rattle.cert_text.specs.Text.{IsShort, spaced, AreNumbers, Begins}
 use Rattle.orient_certificate.specs.Line.{HasSpelling, IsSpelled, IsLineFault, flag_number, spelling}
 use Rattle.orient_certificate.specs.Spells.{Spells}
-use Rattle.cert_text.proofs.Spacing.{rest_of, spaced_one}
+use Rattle.cert_text.proofs.Spacing.{rest_of, spaced_one, same_front}
 use Rattle.cert_text.proofs.Digits.{begins_cons, begins_tail, numbers_begin}
 
 -- A line is its kind and its numbers.
@@ -35,12 +35,12 @@ abbrev line_from : ℕ → List ℕ → OrientLine
 line_from k ns = if k == 0 then Head (record { 0 = get_or ns 0 0 }) else
     (if k == 1 then Flags (get_or ns 0 0) (map flag_back (rest_of ns)) else (if k == 2 then Ring (get_or ns 0 0) (rest_of ns) else End))
 
-flags_back : (flags : List Bool) → map flag_back (map flag_number flags) ≡ flags
+pub flags_back : (flags : List Bool) → map flag_back (map flag_number flags) ≡ flags
 flags_back [] = refl
 flags_back (true ∷ bs) = ap (λ fs. true ∷ fs) (flags_back bs)
 flags_back (false ∷ bs) = ap (λ fs. false ∷ fs) (flags_back bs)
 
-rebuilt : (l : OrientLine) → line_from (kind_of l) (numbers_in l) ≡ l
+pub rebuilt : (l : OrientLine) → line_from (kind_of l) (numbers_in l) ≡ l
 rebuilt (Head solid) = refl
 rebuilt (Flags shell flags) = ap (Flags shell) (flags_back flags)
 rebuilt (Ring shell rows) = refl
@@ -57,7 +57,7 @@ flags_short [] = tt
 flags_short (true ∷ bs) = (omega arith, flags_short bs)
 flags_short (false ∷ bs) = (omega arith, flags_short bs)
 
-numbers_short : (l : OrientLine) → HasSpelling l → AllByRecursion IsShort (numbers_in l)
+pub numbers_short : (l : OrientLine) → HasSpelling l → AllByRecursion IsShort (numbers_in l)
 numbers_short (Head solid) h = (h, tt)
 numbers_short (Flags shell flags) h = (h.0, flags_short flags)
 numbers_short (Ring shell rows) h = h.0
@@ -75,10 +75,6 @@ kind_read (Head solid) = refl
 kind_read (Flags shell flags) = refl
 kind_read (Ring shell rows) = refl
 kind_read End = refl
-
-pub same_front : (xs us vs : List ℕ) → xs ++ us ≡ xs ++ vs → us ≡ vs
-same_front [] us vs h = h
-same_front (x ∷ xs) us vs h = same_front xs us vs (ap rest_of h)
 
 -- Bytes spell one line at most.
 pub line_one : (bytes : List ℕ) (l m : OrientLine) → IsSpelled bytes l → IsSpelled bytes m → l ≡ m

@@ -21,9 +21,10 @@ use Rattle.cert_text.specs.Text.{IsShort, spaced}
 use Rattle.orient_certificate.specs.Line.{HasSpelling, IsSpelled, flag_number, spelling}
 use Rattle.orient_certificate.specs.declared.line.OrientLine.{OrientLine}
 use Rattle.orient_certificate.specs.declared.line.OrientLine.TheVariants.{Head, Flags, Ring, End}
-use Rattle.orient_certificate.proofs.Lines.{flags_short, line_one}
+use Rattle.orient_certificate.proofs.Lines.{flags_short, line_one, flags_back, rebuilt, numbers_short}
 use Rattle.orient_commands.proofs.ShellSteps.{name_ring}
 use Rattle.orient_commands.specs.Text.{NameOddRing, IsLineOf, FitsAs, Fits}
+use Rattle.cert_lines.proofs.Decided.{spaced_longer}
 
 -- Spelled lines.
 
@@ -63,32 +64,11 @@ abbrev line_from : ℕ → List ℕ → OrientLine
 line_from k ns = if k == 0 then Head (record { 0 = get_or ns 0 0 }) else
     (if k == 1 then Flags (get_or ns 0 0) (map flag_back (rest_of ns)) else (if k == 2 then Ring (get_or ns 0 0) (rest_of ns) else End))
 
-flags_back : (flags : List Bool) → map flag_back (map flag_number flags) ≡ flags
-flags_back [] = refl
-flags_back (true ∷ bs) = ap (λ fs. true ∷ fs) (flags_back bs)
-flags_back (false ∷ bs) = ap (λ fs. false ∷ fs) (flags_back bs)
-
-rebuilt : (l : OrientLine) → line_from (kind_of l) (numbers_in l) ≡ l
-rebuilt (Head solid) = refl
-rebuilt (Flags shell flags) = ap (Flags shell) (flags_back flags)
-rebuilt (Ring shell rows) = refl
-rebuilt End = refl
-
 kind_below : (l : OrientLine) → kind_of l < 4
 kind_below (Head solid) = omega arith
 kind_below (Flags shell flags) = omega arith
 kind_below (Ring shell rows) = omega arith
 kind_below End = omega arith
-
-numbers_short : (l : OrientLine) → HasSpelling l → AllByRecursion IsShort (numbers_in l)
-numbers_short (Head solid) h = (h, tt)
-numbers_short (Flags shell flags) h = (h.0, flags_short flags)
-numbers_short (Ring shell rows) h = h.0
-numbers_short End h = tt
-
-spaced_longer : (ns : List ℕ) → length ns ≤ length (spaced ns)
-spaced_longer [] = omega arith
-spaced_longer (n ∷ ns) = omega (arith, spaced_longer ns, length-append (32 ∷ decimal n) (spaced ns))
 
 longer : (front : List ℕ) (ns : List ℕ) → length ns ≤ length ((front ++ spaced ns) ++ 10 ∷ [])
 longer front ns = omega (arith, spaced_longer ns, length-append front (spaced ns), length-append (front ++ spaced ns) (10 ∷ []))

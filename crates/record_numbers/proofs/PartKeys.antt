@@ -13,15 +13,7 @@ use Rattle.record_numbers.specs.EqualRecords.{Part, pointer, plain, Told, SaySam
 use Rattle.record_numbers.specs.Marked.{mark_of, number_in, part_key, told_key, alone_key, HasNumber, HaveNumbers}
 use Rattle.record_numbers.specs.declared.marks.Mark.{Mark}
 use Rattle.record_numbers.specs.declared.marks.Mark.TheVariants.{Unknown, Endless, Numbered}
-
-pub marks_part : (a b x y : List ℕ) → marked a ++ x ≡ marked b ++ y → (a ≡ b) × (x ≡ y)
-marks_part [] [] x y e = (refl, ap (drop 1) e)
-marks_part [] (c ∷ b) x y e = absurd (let no = ap (λ (t : List ℕ). get_or t 0 0) e in omega (arith, no))
-marks_part (c ∷ a) [] x y e = absurd (let no = ap (λ (t : List ℕ). get_or t 0 0) e in omega (arith, no))
-marks_part (c ∷ a) (d ∷ b) x y e =
-    let more = marks_part a b x y (ap (drop 2) e) in
-    let one : c ≡ d = ap (λ (t : List ℕ). get_or t 1 0) e in
-    (ap (λ (n : ℕ). n ∷ a) one ∙ ap (λ (t : List ℕ). d ∷ t) more.0, more.1)
+use Rattle.equal_values.proofs.Marks.{marks_part}
 
 marked_low : (t x : List ℕ) → get_or (marked t ++ x) 0 0 < 2
 marked_low [] x = omega arith

@@ -16,7 +16,8 @@ use Rattle.record_paths.specs.Paths.{Sited, on, all_owed, IsPathTo, in_solid, in
 use Rattle.record_paths.specs.Paths.{loop_sited, loops_sited, face_sited, faces_sited, shell_sited, shells_sited, sited}
 use Rattle.record_paths.specs.Searched.{Bears, Searched}
 use Rattle.record_paths.proofs.Bearing.{first_bears, path_left, path_on, on_bears}
-use Rattle.record_paths.proofs.SearchSteps.{Ends, found_here, lost_here, passed_here, place_next}
+use Rattle.brep_walk.proofs.WalkSteps.{place_next}
+use Rattle.record_paths.proofs.SearchSteps.{Ends, found_here, lost_here, passed_here}
 use Rattle.record_paths.proofs.Same.{same_sited, same_false}
 
 -- y is the number as a call was given it

@@ -12,6 +12,7 @@ use Rattle.record_paths.specs.declared.path.Path.{Path}
 use Rattle.record_paths.specs.Paths.{Sited, on, all_owed, sited_after}
 use Rattle.record_paths.specs.Searched.{Bears, Searched}
 use Rattle.record_paths.proofs.Bearing.{first_bears, path_left, path_right, path_here, owed_false, owed_hold, owed_bears, none_on, lost_on}
+use Rattle.brep_walk.proofs.WalkSteps.{take_next}
 
 -- the search ended so
 abbrev pub Ends : List Sited → Failing → Ended → Type 0
@@ -42,16 +43,6 @@ pub passed_here : (p : Option Path) (os : List Obligation) (b : List Sited) (x :
 passed_here p os b x r none h = passed (on p os) b x r (none_on x p os none) h
 
 -- A search by places: the i-th item comes next.
-
-pub take_next : {A : Type 0} (xs : List A) (i : ℕ) (x : A) → slice_get xs i ≡ Some x → take (i + 1) xs ≡ take i xs ++ x ∷ []
-take_next [] i x h = absurd (none-some x h)
-take_next (y ∷ xs) zero x h = ap (λ z. z ∷ []) (same_Some y x h)
-take_next (y ∷ xs) (suc i) x h = let e : suc i + 1 ≡ suc (i + 1) = omega arith in ap (λ n. take n (y ∷ xs)) e ∙ ap (λ zs. y ∷ zs) (take_next xs i x h)
-
-pub place_next : {A : Type 0} (xs : List A) (i : ℕ) (x : A) → slice_get xs i ≡ Some x → i + 1 ≡ length (take i xs) + 1
-place_next [] i x h = absurd (none-some x h)
-place_next (y ∷ xs) zero x h = refl
-place_next (y ∷ xs) (suc i) x h = omega (arith, place_next xs i x h)
 
 -- what is left, from the i-th item on
 abbrev pub left_from : {A : Type 0} → (List A → A → List Sited) → List A → ℕ → List Sited

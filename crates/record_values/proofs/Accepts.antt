@@ -12,7 +12,7 @@ use Rattle.brep_lists.specs.OwnValues.{meets, meets_all, is_record_of}
 use Rattle.brep_lists.specs.Groups.{passes, group_passes, groups_pass, is_counted, is_solid, is_face, is_loop, tuples_pass}
 use Rattle.brep_lists.specs.declared.groups.Slot.{Slot as Standing}
 use Rattle.brep_lists.specs.declared.groups.Slot.TheVariants as stand
-use Rattle.brep_lists.proofs.Stride.{shell_counted, edges_counted, vertices_counted, solid_tested, face_tested}
+use Rattle.brep_lists.proofs.Stride.{shell_counted, edges_counted, vertices_counted, solid_tested, face_tested, middle_first}
 use Rattle.brep_lists.proofs.Tuples.{loop_tested}
 use Rattle.record_values.specs.declared.due.ValueKind.{ValueKind}
 use Rattle.record_values.specs.declared.due.ValueKind.TheVariants as slot
@@ -153,13 +153,6 @@ middle_short true true r = refl
 middle_short true false r = refl
 middle_short false true r = refl
 middle_short false false r = refl
-
-middle_first : (a m f r s : Bool) → r ≡ s → (a && (m && (f && r))) ≡ (m && ((a && true) && ((f && true) && s)))
-middle_first true true true r s e = e
-middle_first true true false r s e = refl
-middle_first true false f r s e = refl
-middle_first false true f r s e = refl
-middle_first false false f r s e = refl
 
 face_accepts : (vs : List Value) → accepts (layout face) vs ≡ is_face vs
 face_accepts [] = refl

@@ -12,6 +12,7 @@ use Rattle.record_values.specs.declared.misfit.Misfit.{Misfit}
 use Rattle.record_values.specs.Begins.{Begins, IsFirstMisfit, MisfitsAreFirst}
 use Rattle.record_values.specs.Expected.{Expected, single, count_of_items, layout, may_come, after, next_due, misfit_from, first_misfit}
 use Rattle.record_values.proofs.Accepts.{accepts, accepts_is}
+use Rattle.brep_lists.proofs.Fitting.{and_left}
 
 -- ---- what begins a record
 
@@ -73,10 +74,6 @@ to_begin kind xs e =
     let whole : accepts (layout kind) (xs ++ rest) ≡ true
     = accepts_both (layout kind) xs rest ∙ ap (λ b. b && accepts (after_all (layout kind) xs) rest) e ∙ ended (after_all (layout kind) xs) in
     (rest, (decided kind (xs ++ rest)).0 (sym (accepts_is kind (xs ++ rest)) ∙ whole))
-
-and_left : (a b : Bool) → (a && b) ≡ true → a ≡ true
-and_left true b e = refl
-and_left false b e = e
 
 from_begin : (kind : EntityKind) (xs : List Value) → Begins kind xs → all_come (layout kind) xs ≡ true
 from_begin kind xs h =

@@ -49,11 +49,11 @@ on_face_decided d face r = decided_found (slice_get d.rows r) (λ (row : Row). r
 
 -- Turns.
 
-follows_decided : (d : ShellRows) (r s : ℕ) → Decided (Follows d r s)
+pub follows_decided : (d : ShellRows) (r s : ℕ) → Decided (Follows d r s)
 follows_decided d r s = decided_alike (λ (x, e, same). subst (λ z. slice_get d.follows r ≡ Some z) same e) (λ e. (s, e, refl))
     (decided_found (slice_get d.follows r) (λ x. x ≡ s) (λ x. decided_same x s))
 
-turns_decided : (d : ShellRows) (r s : ℕ) → Decided (Turns d r s)
+pub turns_decided : (d : ShellRows) (r s : ℕ) → Decided (Turns d r s)
 turns_decided d r s =
     decided_alike (λ (m, lt, (mates, follows)). (m, mates, follows)) (λ (m, mates, follows). (m, slice_get_within d.follows m s follows, (mates, follows)))
     (decided_bounded (λ m. AreMates d r m × Follows d m s) (λ m. decided_both (mates_decided d r m) (follows_decided d m s)) (length d.follows))
@@ -61,7 +61,7 @@ turns_decided d r s =
 number : ℕ → ℕ
 number n = n
 
-turns_below : (d : ShellRows) (r s : ℕ) → Turns d r s → s < above_all number d.follows
+pub turns_below : (d : ShellRows) (r s : ℕ) → Turns d r s → s < above_all number d.follows
 unfolding number
 turns_below d r s (m, mates, follows) = below_all number d.follows m s follows
 
@@ -81,7 +81,7 @@ one_cycle_from d v r =
 starts_within : (d : ShellRows) (v r : ℕ) → StartsAt d v r → r < length d.rows
 starts_within d v r (row, at_r, e) = slice_get_within d.rows r row at_r
 
-some_start : (d : ShellRows) (v : ℕ) → Decided ((r : ℕ) × StartsAt d v r)
+pub some_start : (d : ShellRows) (v : ℕ) → Decided ((r : ℕ) × StartsAt d v r)
 some_start d v = decided_alike (λ (r, lt, h). (r, h)) (λ (r, h). (r, starts_within d v r h, h))
     (decided_bounded (StartsAt d v) (starts_decided d v) (length d.rows))
 
@@ -92,7 +92,7 @@ corner_decided d v =
     (λ h. (h.some, (λ r lt s below at_r at_s. h.one_cycle r s at_r at_s), h.no_point))
     (decided_three (some_start d v) (decided_each (OneCycleFrom d v) (one_cycle_from d v) (length d.rows)) (decided_same (point_count d v) 0))
 
-point_decided : (d : ShellRows) (v : ℕ) → Decided (IsPoint d v)
+pub point_decided : (d : ShellRows) (v : ℕ) → Decided (IsPoint d v)
 point_decided d v =
     decided_alike (λ (none, one). record { no_row = λ r h. none (r, h); one_point = one }) (λ h. ((λ (r, at_r). h.no_row r at_r), h.one_point))
     (decided_both (decided_not (some_start d v)) (decided_same (point_count d v) 1))

@@ -20,7 +20,7 @@ enum_get base (x ∷ xs) f (inr h) = let g = enum_get (base + 1) xs f h in (suc 
 abbrev Found : Shell → PlacedLoop → Type 0
 Found h p = (f : FaceUse) × (slice_get h.faces p.at.face.0 ≡ Some f) × (slice_get f.loops p.at.place ≡ Some p.loop)
 
-found : (h : Shell) (p : PlacedLoop) → Has (placed_loops h) p → Found h p
+pub found : (h : Shell) (p : PlacedLoop) → Has (placed_loops h) p → Found h p
 found h p m =
     let f = from_flat_map (placed_in_face h.flag) (enumerate_from 0 h.faces) p m in
     let l = has_map _ (enumerate_from 0 f.0.1.loops) p f.2 in

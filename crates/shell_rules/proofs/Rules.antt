@@ -22,7 +22,7 @@ use Rattle.edge_uses.proofs.JoinLemmas.{hold_from_joined}
 use Rattle.shell_rules.specs.Naming.{failing}
 use Rattle.shell_rules.proofs.Placed.{IsPlace}
 
-FirstNot-has : {A : Type 0} (P : A → Type 0) (xs : List A) (x : A) → FirstNot P xs x → Has xs x
+pub FirstNot-has : {A : Type 0} (P : A → Type 0) (xs : List A) (x : A) → FirstNot P xs x → Has xs x
 FirstNot-has P [] x h = h
 FirstNot-has P (y ∷ xs) x h = ⊎_elim (λ bad. inl (sym bad.1)) (λ rest. inr (FirstNot-has P xs x rest.1)) h
 
@@ -100,7 +100,7 @@ reach_fails h d f x count bad named =
     faces_fail d 0 h.faces f x (subst (λ n. FirstNot (IsReached d) (numbers_from 0 n) f) count bad)
     (λ g i e at. let same : i ≡ f = omega (arith, e) in named g (subst (λ n. slice_get h.faces n ≡ Some g) same at))
 
-face_there : (P : ℕ → Type 0) (base : ℕ) (fs : List FaceUse) (f : ℕ) → FirstNot P (numbers_from base (length fs)) f → (i : ℕ) × (f ≡ base + i) × (g : FaceUse)
+pub face_there : (P : ℕ → Type 0) (base : ℕ) (fs : List FaceUse) (f : ℕ) → FirstNot P (numbers_from base (length fs)) f → (i : ℕ) × (f ≡ base + i) × (g : FaceUse)
     × (slice_get fs i ≡ Some g)
 face_there P base [] f h = absurd h
 face_there P base (g ∷ fs) f h =

@@ -75,7 +75,7 @@ names_long (v ∷ names) =
     (ne_eqb (suc (length names)) 0 (λ e. omega (arith, e))) in
     omega (arith, ap length is)
 
-numbers_point : (kept : List ℕ) (zs : List ℤ) → list_all is_pointer (new_numbers kept zs) ≡ true
+pub numbers_point : (kept : List ℕ) (zs : List ℤ) → list_all is_pointer (new_numbers kept zs) ≡ true
 numbers_point kept [] = refl
 numbers_point kept (z ∷ zs) = numbers_point kept zs
 

@@ -12,7 +12,7 @@ use Rattle.equal_values.specs.Keys.{keys_of, marked}
 use Rattle.equal_values.specs.Equal.{AreEqualValues}
 use Rattle.equal_values.proofs.Marks.{lists_decide}
 use Rattle.record_numbers.specs.Keys.{KeyMap, number_by, AreNumbers, KeepsNumbers}
-use Rattle.record_numbers.proofs.PartKeys.{marks_part}
+use Rattle.equal_values.proofs.Marks.{marks_part}
 use Rattle.solid_geometry.specs.Curves.{is_line, point, AreAtOnePoint, HaveSamePoints}
 use Rattle.solid_geometry.specs.Lines.{point_key, pair_key, ends_key, IsLineNumber, IsLineOf}
 

@@ -11,15 +11,7 @@ use Rattle.brep_lists.specs.Record.{int_of, value_or_default}
 use Rattle.equal_values.specs.Keys.{key_of}
 use Rattle.solid_data.specs.declared.solid.Edge.{Edge}
 use Rattle.solid_geometry.specs.Curves.{curve_of}
-
-or_default : (vs : List Value) (i : ℕ) → unwrap_or (slice_get vs i) Default ≡ value_or_default vs i
-or_default [] i = refl
-or_default (v ∷ vs) zero = refl
-or_default (v ∷ vs) (suc i) = or_default vs i
-
-values_there : (o : Option (Entry × List Value)) (vs : List Value) → Some vs ≡ option_map (λ (r : Entry × List Value). r.1) o → vs ≡ record_values o
-values_there None vs h = absurd (let none : Some vs ≡ None = h in cc)
-values_there (Some r) vs h = same_Some vs r.1 h
+use Rattle.vertex_places.proofs.Coordinates.{or_default, values_there}
 
 no_values : (o : Option (Entry × List Value)) → None ≡ option_map (λ (r : Entry × List Value). r.1) o → record_values o ≡ []
 no_values None h = refl

@@ -9,6 +9,7 @@ use Rattle.solid_data.specs.SolidData.{SolidData}
 use Rattle.solid_data.specs.declared.solid.Shell.{Shell}
 use Rattle.iges_params.proofs.Copies.{one_more}
 use Rattle.solid_mend.specs.Failing.{Keeps, AreOfFailing, OneEach, SoFar}
+use Rattle.changed_file.proofs.EntrySteps.{get_enumerated}
 
 pub one_keeps : {X : Type 0} (at : X → ℕ) (s : SolidData) (hs : List (ℕ × Shell)) (h : ℕ × Shell) (xs : List X) → AreOfFailing at s hs xs → Keeps s h
     → AreOfFailing at s (hs ++ h ∷ []) xs
@@ -25,11 +26,6 @@ one_fails at s [] h (x ∷ xs) y are fails e = absurd cc
 one_fails at s (g ∷ hs) h [] y are fails e = inl (are.0, one_fails at s hs h [] y are.1 fails e)
 one_fails at s (g ∷ hs) h (x ∷ xs) y (inl (k, are)) fails e = inl (k, one_fails at s hs h (x ∷ xs) y are fails e)
 one_fails at s (g ∷ hs) h (x ∷ xs) y (inr (f, n, are)) fails e = inr (f, n, one_fails at s hs h xs y are fails e)
-
-get_enumerated : {X : Type 0} (n : ℕ) (xs : List X) (i : ℕ) (x : X) → slice_get xs i ≡ Some x → slice_get (enumerate_from n xs) i ≡ Some (n + i, x)
-get_enumerated n [] i x at = absurd (none-some x at)
-get_enumerated n (y ∷ ys) zero x at = let none : n ≡ n + 0 = omega arith in let same : y ≡ x = cc in ap (λ k. Some (k, y)) none ∙ ap (λ z. Some (n + 0, z)) same
-get_enumerated n (y ∷ ys) (suc i) x at = let on : n + 1 + i ≡ n + suc i = omega arith in get_enumerated (n + 1) ys i x at ∙ ap (λ k. Some (k, x)) on
 
 next_front : (s : SolidData) (k : ℕ) (h : Shell) → slice_get s.shells k ≡ Some h
     → take (k + 1) (enumerate_from 0 s.shells) ≡ take k (enumerate_from 0 s.shells) ++ (k, h) ∷ []

@@ -505,12 +505,12 @@ build_corners version s k d es ms small turning differ listed done (v ∷ left) 
 
 -- The faces' lines.
 
-decide_has : (xs : List ℕ) (x : ℕ) → Has xs x ⊎ (Has xs x → ⊥)
+pub decide_has : (xs : List ℕ) (x : ℕ) → Has xs x ⊎ (Has xs x → ⊥)
 decide_has [] x = inr (λ h. h)
 decide_has (y ∷ xs) x = ⊎_elim (λ e. inl (inl e)) (λ ne. ⊎_elim (λ h. inl (inr h)) (λ none. inr (λ m. ⊎_elim ne none m)) (decide_has xs x)) (same_or_not y x)
 
 -- one of the first that is not in the second, or none is
-outsider : (xs ys : List ℕ) → ((x : ℕ) × Has xs x × (Has ys x → ⊥)) ⊎ ((x : ℕ) → Has xs x → Has ys x)
+pub outsider : (xs ys : List ℕ) → ((x : ℕ) × Has xs x × (Has ys x → ⊥)) ⊎ ((x : ℕ) → Has xs x → Has ys x)
 outsider [] ys = inr (λ x m. absurd m)
 outsider (x ∷ xs) ys =
     ⊎_elim
@@ -519,7 +519,7 @@ outsider (x ∷ xs) ys =
     (decide_has ys x)
 
 -- where a chain leaves a list
-leaving : (R : ℕ → ℕ → Type 0) (xs : List ℕ) (n a b : ℕ) → Steps R n a b → Has xs a → (Has xs b → ⊥) → (g : ℕ) × (h : ℕ) × Has xs g × (Has xs h → ⊥) × R g h
+pub leaving : (R : ℕ → ℕ → Type 0) (xs : List ℕ) (n a b : ℕ) → Steps R n a b → Has xs a → (Has xs b → ⊥) → (g : ℕ) × (h : ℕ) × Has xs g × (Has xs h → ⊥) × R g h
 leaving R xs zero a b e m none = absurd (none (subst (Has xs) e m))
 leaving R xs (suc n) a b (c, r, rest) m none = ⊎_elim (λ k. leaving R xs n c b rest k none) (λ k. (a, c, m, k, r)) (decide_has xs c)
 

@@ -31,7 +31,7 @@ rows_at d v = starting v 0 d.rows
 at_listed : (d : ShellRows) (v x : ℕ) → StartsAt d v x → Has (rows_at d v) x
 at_listed d v x (row, at, e) = let zero_more : 0 + x ≡ x = omega arith in subst (Has (rows_at d v)) zero_more (starting_has v 0 x d.rows row at e)
 
-listed_at : (d : ShellRows) (v x : ℕ) → Has (rows_at d v) x → StartsAt d v x
+pub listed_at : (d : ShellRows) (v x : ℕ) → Has (rows_at d v) x → StartsAt d v x
 listed_at d v x h =
     let t = starting_is v 0 x d.rows h in
     let e : t.0 ≡ x = omega (arith, t.2) in

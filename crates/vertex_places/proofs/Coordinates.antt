@@ -12,12 +12,12 @@ use Rattle.equal_values.specs.Keys.{key_of}
 use Rattle.solid_data.specs.declared.solid.VertexKey.{VertexKey}
 use Rattle.vertex_places.specs.Places.{coordinate}
 
-or_default : (vs : List Value) (i : ℕ) → unwrap_or (slice_get vs i) Default ≡ value_or_default vs i
+pub or_default : (vs : List Value) (i : ℕ) → unwrap_or (slice_get vs i) Default ≡ value_or_default vs i
 or_default [] i = refl
 or_default (v ∷ vs) zero = refl
 or_default (v ∷ vs) (suc i) = or_default vs i
 
-values_there : (o : Option (Entry × List Value)) (vs : List Value) → Some vs ≡ option_map (λ (r : Entry × List Value). r.1) o → vs ≡ record_values o
+pub values_there : (o : Option (Entry × List Value)) (vs : List Value) → Some vs ≡ option_map (λ (r : Entry × List Value). r.1) o → vs ≡ record_values o
 values_there None vs h = absurd (let none : Some vs ≡ None = h in cc)
 values_there (Some r) vs h = same_Some vs r.1 h
 

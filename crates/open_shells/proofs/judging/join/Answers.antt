@@ -1,7 +1,8 @@
 use Rattle.std.proofs.Common.{subst, slice_get, Option}
 use Rattle.solid_data.specs.declared.solid.Shell.{Shell}
 use Rattle.edge_uses.specs.ShellRows.{EndsMeet, rows_of}
-use Rattle.open_shells.proofs.OpenRules.{if_some, open_place, join_holds, join_fails}
+use Rattle.shell_rules.proofs.Rules.{open_place}
+use Rattle.open_shells.proofs.OpenRules.{if_some, join_holds, join_fails}
 use Rattle.open_shells.proofs.judging.join.Goals as goal
 
 pub unjoined-requires : goal.unjoined-requires

@@ -1,4 +1,5 @@
-use Rattle.open_shells.proofs.OpenRules.{reach_holds, reach_fails, unreached_there}
+use Rattle.shell_rules.proofs.Rules.{unreached_there}
+use Rattle.open_shells.proofs.OpenRules.{reach_holds, reach_fails}
 use Rattle.open_shells.proofs.judging.reached.Goals as goal
 
 pub unreached-requires : goal.unreached-requires

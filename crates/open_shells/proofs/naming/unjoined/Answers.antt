@@ -2,7 +2,7 @@ use Rattle.std.proofs.Common.{sym, ◌∙◌, ap, option_copied}
 use Rattle.solid_data.specs.declared.solid.Loop.{Loop}
 use Rattle.open_certificate.specs.declared.verdict.OpenRule.TheVariants.{Join}
 use Rattle.open_certificate.specs.Obligations.{open_failing}
-use Rattle.open_shells.proofs.Placed.{face_below, loop_below, named_loop}
+use Rattle.shell_rules.proofs.Placed.{face_below, loop_below, named_loop}
 use Rattle.open_shells.proofs.naming.unjoined.Goals as goal
 
 pub unwrap-face-requires : goal.unwrap-face-requires
