@@ -7,7 +7,7 @@ ghost use Rattle.edge_uses.specs.ShellRows.{EndsMeet};
 ghost use Rattle.edge_uses.specs.RowRelations.{IsPaired};
 ghost use Rattle.edge_uses.specs.Mates.{ArePaired, HaveMates};
 ghost use Rattle.edge_uses.specs.Faults.{IsPairFault};
-ghost use Rattle.edge_uses.specs.Ranges.{IsWithin};
+ghost use Rattle.solid_data.specs.Ranges.{IsWithin};
 ghost use Rattle.edge_uses.specs.Tally.{seen_of, IsTally};
 
 use crate::fault::PairFault;

@@ -11,10 +11,10 @@ ghost use Rattle.open_shells.specs.BorderParts.{Next, AreBorderCells, IsLoop, Is
 
 use crate::heads::note;
 use crate::mated::Mated;
-use edge_uses::{Cells, row_at};
+use edge_uses::row_at;
 use iges_base::NoMemory;
 use open_certificate::Borders;
-use solid_data::{RowId, RowList};
+use solid_data::{Cells, RowId, RowList};
 use std::alloc::Global;
 
 /// The row itself, where it is a border row.

@@ -4,7 +4,7 @@ ghost use Rattle.std.specs.Prelude.{◌≡◌, ◌<◌, ◌≤◌, ◌^◌, ℕ,
 ghost use Rattle.solid_data.specs.SolidData.{same_flag};
 ghost use Rattle.solid_data.specs.declared.solid.FaceUse.{FaceUse as AnyFace};
 ghost use Rattle.edge_uses.specs.ShellRows.{AreRows};
-ghost use Rattle.edge_uses.specs.Ranges.{IsSpanOf};
+ghost use Rattle.solid_data.specs.Ranges.{IsSpanOf};
 ghost use Rattle.orient_certificate.specs.Partners.{AllHaveTwoRows, ArePartners};
 ghost use Rattle.orient_certificate.specs.RowsByEdge.{AreRowsByEdge};
 ghost use Rattle.orient_certificate.specs.Crossings.{IsStep, flipped};

@@ -28,7 +28,7 @@ use Rattle.edge_uses.specs.Joins.{begin_of, start_of as starts_at, end_of as end
 use Rattle.edge_uses.specs.Around.{IsReached}
 use Rattle.shell_rules.specs.Closed.{IsClosedShell, IsClosedSolid}
 use Rattle.solid_data.proofs.Members.{Has, All-from, from_flat_map, has_map, from_enumerated}
-use Rattle.edge_uses.proofs.Occurs.{from_occurring}
+use Rattle.solid_data.proofs.Occurs.{from_occurring}
 use Rattle.sample_solids.specs.Sample.{squares, face_number, sample}
 use Rattle.sample_solids.proofs.Squares.{get_right, get_chunk, get_map, length_chunks, length_squares, squares_get, squares_below, only_one}
 use Rattle.sample_solids.proofs.Mesh.{Side, near, right, far, left, place, after, is_along, vertex, edge_of, start_of, number, side_row, IsMesh, mesh_paired}

@@ -18,10 +18,10 @@ use Rattle.solid_data.specs.declared.solid.Shell.{Shell}
 use Rattle.solid_data.proofs.Members.{Has, rises_none, no_longer, has_get, has_map, from_flat_map}
 use Rattle.solid_data.proofs.Occurring.{numbers_rise, occurring_rises, number_below}
 use Rattle.edge_uses.specs.Before.{face_vertices, faces_vertices}
-use Rattle.edge_uses.specs.Ranges.{IsWithin}
-use Rattle.edge_uses.specs.declared.spanning.Span.{Span}
+use Rattle.solid_data.specs.Ranges.{IsWithin}
+use Rattle.solid_data.specs.declared.spanning.Span.{Span}
 use Rattle.edge_uses.proofs.Above.{shell_flat}
-use Rattle.edge_uses.proofs.Occurs.{from_occurring}
+use Rattle.solid_data.proofs.Occurs.{from_occurring}
 use Rattle.edge_uses.proofs.Whole.{vertices_known}
 use Rattle.shell_components.specs.Groups.{places_of}
 use Rattle.solid_faults.proofs.GapSteps.{flat_of_map}

@@ -19,15 +19,15 @@ use Rattle.std.proofs.lemmas.List.Elements.{All-from_recursion}
 use Rattle.solid_data.proofs.Members.{Has, All-from, Contains-from_Has, Has-from_Contains, Has-from_place, has_flat_map, has_map, from_flat_map, get_some}
 use Rattle.solid_data.proofs.Occurring.{length-numbers, occurs}
 use Rattle.solid_data.proofs.Trail.{leads_here}
-use Rattle.edge_uses.specs.declared.spanning.Span.{Span}
+use Rattle.solid_data.specs.declared.spanning.Span.{Span}
 use Rattle.edge_uses.specs.Before.{face_vertices, faces_vertices}
 use Rattle.edge_uses.specs.Building.{HasKnownParts, uses_in}
-use Rattle.edge_uses.specs.Cells.{Celled}
+use Rattle.solid_data.specs.Cells.{Celled}
 use Rattle.edge_uses.specs.RowRelations.{row_count}
-use Rattle.edge_uses.specs.Ranges.{IsWithin, IsSpanOf}
+use Rattle.solid_data.specs.Ranges.{IsWithin, IsSpanOf}
 use Rattle.edge_uses.specs.ShellRows.{ShellRows, shell_rows, rows_of}
 use Rattle.edge_uses.proofs.Above.{shell_flat}
-use Rattle.edge_uses.proofs.Occurs.{from_occurring}
+use Rattle.solid_data.proofs.Occurs.{from_occurring}
 use Rattle.edge_uses.proofs.Whole.{few_edges, vertices_known}
 use Rattle.solid_faults.specs.Edges.{unpaired_at, edge_unpaired, unpaired_of}
 use Rattle.shell_components.specs.FaceUses.{loop_edges, face_edges}

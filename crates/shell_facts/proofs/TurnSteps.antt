@@ -12,10 +12,10 @@ use Rattle.solid_data.specs.declared.solid.LoopAt.{LoopAt}
 use Rattle.solid_data.proofs.Members.{Has, Has-from_Contains, Has-from_place, all_has, get_some, has_flat_map, has_map, from_flat_map}
 use Rattle.solid_data.proofs.Trail.{leads_here}
 use Rattle.edge_uses.specs.declared.row.Row.{Row}
-use Rattle.edge_uses.specs.declared.spanning.Span.{Span}
+use Rattle.solid_data.specs.declared.spanning.Span.{Span}
 use Rattle.edge_uses.specs.RowRelations.{AreMates, Turns}
 use Rattle.edge_uses.specs.Mates.{AreInvolution}
-use Rattle.edge_uses.specs.Ranges.{IsWithin, IsSpanOf}
+use Rattle.solid_data.specs.Ranges.{IsWithin, IsSpanOf}
 use Rattle.edge_uses.specs.ShellRows.{ShellRows, AreRows}
 use Rattle.edge_uses.proofs.Joins.{split_drop}
 use Rattle.edge_uses.proofs.Steps.{default_apart}

@@ -7,8 +7,8 @@ use Rattle.solid_data.specs.declared.solid.FaceUse.{FaceUse}
 use Rattle.solid_data.specs.declared.solid.Shell.{Shell}
 use Rattle.edge_uses.specs.Before.{face_vertices, faces_vertices}
 use Rattle.edge_uses.specs.Building.{HasKnownParts}
-use Rattle.edge_uses.specs.Cells.{Celled, cell_of}
-use Rattle.edge_uses.specs.Ranges.{IsWithin, IsSpanOf}
+use Rattle.solid_data.specs.Cells.{Celled, cell_of}
+use Rattle.solid_data.specs.Ranges.{IsWithin, IsSpanOf}
 use Rattle.shell_facts.specs.PartFacts.{faces_before}
 use Rattle.solid_faults.specs.declared.edge.Unpaired.{Unpaired}
 

@@ -26,7 +26,7 @@ use Rattle.edge_uses.specs.Joins.{IsJoined, begin_of, start_of, end_of}
 use Rattle.edge_uses.specs.RowRelations.{IsPaired, AreMates, Turns, StartsAt, OnFace, point_count}
 use Rattle.edge_uses.specs.Around.{IsLinked, AreNeighbours, IsReached}
 use Rattle.edge_uses.specs.Before.{IsApart}
-use Rattle.edge_uses.proofs.Occurs.{from_occurring}
+use Rattle.solid_data.proofs.Occurs.{from_occurring}
 use Rattle.edge_uses.proofs.RowFacts.{edges_known, starts_known, points_known}
 use Rattle.edge_uses.proofs.Turn.{edge_id}
 use Rattle.shell_rules.specs.Closed.{IsClosedShell}

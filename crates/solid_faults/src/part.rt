@@ -1,7 +1,7 @@
 //! The parts of a shell.
 
 ghost use Rattle.std.specs.Prelude.{◌≡◌, ◌<◌, ◌++◌, ◌∷◌, [], Some, length, map, slice_get, IfOk};
-ghost use Rattle.edge_uses.specs.Ranges.{IsWithin};
+ghost use Rattle.solid_data.specs.Ranges.{IsWithin};
 ghost use Rattle.edge_uses.specs.Tally.{seen_of};
 ghost use Rattle.solid_faults.specs.PartPairs.{chosen_row, chosen_face, part_pair, part_pairs};
 ghost use Rattle.solid_faults.specs.Parts.{AreParts};

@@ -3,7 +3,7 @@ use Rattle.std.proofs.Common.{ℕ, ◌≡◌, ◌<◌, ◌^◌, ◌∙◌, ap, s
 use Rattle.std.proofs.lemmas.List.{length-map}
 use Rattle.solid_data.proofs.Members.{has_get}
 use Rattle.edge_uses.specs.Before.{faces_vertices}
-use Rattle.edge_uses.specs.Ranges.{IsSpanOf}
+use Rattle.solid_data.specs.Ranges.{IsSpanOf}
 use Rattle.edge_uses.proofs.Made.{rows_known}
 use Rattle.solid_faults.specs.declared.edge.Unpaired.{Unpaired}
 use Rattle.shell_facts.proofs.PartSteps.{firsts_low, the_shell, unpaired_within, unpaired_few, vertices_occur, vertices_within, firsts_each}

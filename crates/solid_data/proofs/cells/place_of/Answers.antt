@@ -1,7 +1,7 @@
 use Rattle.std.proofs.lemmas.List.Sorted.{searched}
-use Rattle.edge_uses.proofs.Above.{rises}
-use Rattle.edge_uses.proofs.CellSteps.{rise_least, searched_none}
-use Rattle.edge_uses.proofs.cells.place_of.Goals as goal
+use Rattle.solid_data.proofs.Members.{rises}
+use Rattle.solid_data.proofs.CellSteps.{rise_least, searched_none}
+use Rattle.solid_data.proofs.cells.place_of.Goals as goal
 
 pub returns-in-Err : goal.returns-in-Err
 returns-in-Err c =

@@ -7,12 +7,11 @@ use Rattle.std.proofs.lemmas.Bool.{eq-eqb}
 use Rattle.std.proofs.lemmas.List.{get_or-map}
 use Rattle.std.proofs.lemmas.Option.{same_Some, none-some, slice_get-get_or, slice_get_within, get_or_from_slice_get}
 use Rattle.solid_data.specs.Ring.{numbers_from}
-use Rattle.solid_data.proofs.Members.{Has, Has-from_Contains, Contains-from_Has, Rises, All-at, has_get}
+use Rattle.solid_data.proofs.Members.{Has, Has-from_Contains, Contains-from_Has, Rises, All-at, has_get, rises}
 use Rattle.solid_data.proofs.Occurring.{length-numbers, number_get}
-use Rattle.edge_uses.specs.Cells.{Celled, beside, cells_of, value_count, AreCells}
-use Rattle.edge_uses.specs.Ranges.{IsWithin, IsSpanOf}
-use Rattle.edge_uses.specs.declared.spanning.Span.{Span}
-use Rattle.edge_uses.proofs.Above.{rises}
+use Rattle.solid_data.specs.Cells.{Celled, beside, cells_of, value_count, AreCells}
+use Rattle.solid_data.specs.Ranges.{IsWithin, IsSpanOf}
+use Rattle.solid_data.specs.declared.spanning.Span.{Span}
 
 -- a value beside a number that has a place
 pub beside_there : {T : Type 0} (blank d : T) (ms : List ℕ) (vs : List T) (i n : ℕ) → Rises ms → length vs ≡ length ms → slice_get ms i ≡ Some n

@@ -2,7 +2,7 @@
 
 ghost use Rattle.std.specs.Prelude.{◌≡◌, Contains, MatchOption, Some, slice_get};
 ghost use Rattle.std.specs.List.Sorted.{IsStrictlyIncreasing};
-ghost use Rattle.edge_uses.specs.Cells.{value_count};
+ghost use Rattle.solid_data.specs.Cells.{value_count};
 
 use crate::spanning::{Span, is_far, span_of};
 use iges_base::NoMemory;
@@ -21,7 +21,7 @@ pub struct Cells<'a, T> {
 }
 
 impl<'a, T> Model for Cells<'a, T> {
-    ghost use Rattle.edge_uses.specs.Cells.{AreCells, Celled, cells_of};
+    ghost use Rattle.solid_data.specs.Cells.{AreCells, Celled, cells_of};
 
     ghost Value = { Celled T };
 
@@ -56,8 +56,8 @@ fn value_count(far: bool, numbers: &[u32], span: Span) -> usize
 impl<'a, T: Copy> Cells<'a, T> {
     ghost use Rattle.std.specs.Prelude.{◌≡◌, Contains, IfOk, replicate};
     ghost use Rattle.std.specs.List.Sorted.{IsStrictlyIncreasing};
-    ghost use Rattle.edge_uses.specs.Cells.{cell_of, with_cell};
-    ghost use Rattle.edge_uses.specs.Ranges.{IsSpanOf, IsWithin};
+    ghost use Rattle.solid_data.specs.Cells.{cell_of, with_cell};
+    ghost use Rattle.solid_data.specs.Ranges.{IsSpanOf, IsWithin};
 
     /// The same value for each number of the range of some that rise.
     pub fn new(alloc: Global, numbers: &'a [u32], blank: T) -> Result<Cells<'a, T>, NoMemory>

@@ -1,6 +1,6 @@
 use Rattle.std.proofs.Common.{sym}
-use Rattle.edge_uses.proofs.CellSteps.{set_found}
-use Rattle.edge_uses.proofs.cells.Cells.set.Goals as goal
+use Rattle.solid_data.proofs.CellSteps.{set_found}
+use Rattle.solid_data.proofs.cells.Cells.set.Goals as goal
 
 pub returns-in-Some : goal.returns-in-Some
 returns-in-Some g c =

@@ -1,6 +1,6 @@
 use Rattle.std.proofs.Common.{sym}
-use Rattle.edge_uses.proofs.CellSteps.{at_found, at_none}
-use Rattle.edge_uses.proofs.cells.Cells.at.Goals as goal
+use Rattle.solid_data.proofs.CellSteps.{at_found, at_none}
+use Rattle.solid_data.proofs.cells.Cells.at.Goals as goal
 
 pub returns-in-Some : goal.returns-in-Some
 returns-in-Some g c =

@@ -1,7 +1,7 @@
 //! The range in which some numbers lie.
 
 ghost use Rattle.std.specs.Prelude.{◌≡◌, ◌+◌, ◌/◌, ◌≤◌, ◌^◌, [], ◌↔◌, nat_lt, All, Contains, IfSome, IsNone};
-ghost use Rattle.edge_uses.specs.Ranges.{IsSpanOf};
+ghost use Rattle.solid_data.specs.Ranges.{IsSpanOf};
 
 /// The numbers from `least` on, `count` of them. Arrays over the edges or vertices of a shell start at its least one,
 /// so that they are no longer than the shell where it shares none.

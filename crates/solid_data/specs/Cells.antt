@@ -2,8 +2,8 @@
 use Rattle.std.specs.Prelude.{◌≡◌, ℕ, ◌==◌, ◌-◌, Bool, true, false, List, [], ◌∷◌, length, map, get_or, slice_set, if◌then◌else◌}
 use Rattle.std.specs.List.Sorted.{IsStrictlyIncreasing}
 use Rattle.solid_data.specs.Ring.{numbers_from}
-use Rattle.edge_uses.specs.Ranges.{IsSpanOf}
-use Rattle.edge_uses.specs.declared.spanning.Span.{Span}
+use Rattle.solid_data.specs.Ranges.{IsSpanOf}
+use Rattle.solid_data.specs.declared.spanning.Span.{Span}
 
 -- numbers, their range, the value of those that have none of their own, and the value of each number of the range
 pub record Celled (T : Type 0) : Type 0 where

@@ -1,7 +1,7 @@
 use Rattle.std.proofs.Common.{◌∙◌, ap}
 use Rattle.std.specs.Prelude.{replicate}
-use Rattle.edge_uses.proofs.CellSteps.{blank_cells}
-use Rattle.edge_uses.proofs.cells.Cells.new.Goals as goal
+use Rattle.solid_data.proofs.CellSteps.{blank_cells}
+use Rattle.solid_data.proofs.cells.Cells.new.Goals as goal
 
 pub returns-clause-cells : goal.returns-clause-cells
 returns-clause-cells g c =
