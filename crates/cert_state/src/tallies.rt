@@ -2,9 +2,9 @@
 
 ghost use Rattle.std.specs.Prelude.{◌≡◌, ℕ, ◌+◌, ◌<◌, [], Contains, Some, length, map, slice_get, IfOk};
 ghost use Rattle.solid_data.specs.declared.solid.LoopAt.{LoopAt as LoopPlace};
-ghost use Rattle.edge_uses.specs.declared.row.Row.{Row as AnyRow};
 ghost use Rattle.solid_data.specs.Cells.{cell_of, with_cell};
 ghost use Rattle.solid_data.specs.Ranges.{IsWithin};
+ghost use Rattle.edge_uses.specs.declared.row.Row.{Row as AnyRow};
 ghost use Rattle.edge_uses.specs.ShellRows.{ShellRows};
 ghost use Rattle.cert_state.specs.CheckState.{corner_size, is_alone};
 ghost use Rattle.cert_state.specs.Tallied.{AreStarts, ArePoints, AreSizes};

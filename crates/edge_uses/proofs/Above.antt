@@ -20,12 +20,12 @@ use Rattle.solid_data.specs.declared.solid.Shell.{Shell}
 use Rattle.solid_data.proofs.Members.{Has, Has-from_Contains, Contains-from_Has, Rises, rises, all_has, has_get, All-from, get_some}
 use Rattle.solid_data.proofs.Occurring.{occurs, number_below, number_within}
 use Rattle.solid_data.proofs.Keys.{to_distinct, from_distinct}
+use Rattle.solid_data.proofs.Occurs.{from_occurring}
 use Rattle.edge_uses.specs.Before.{AreBelow, above_of, loop_vertices, face_vertices, faces_vertices, IsApart}
 use Rattle.edge_uses.specs.Building.{uses_in}
 use Rattle.edge_uses.specs.ShellRows.{ShellRows, shell_rows, rows_of}
 use Rattle.edge_uses.proofs.Joins.{split_drop}
 use Rattle.edge_uses.proofs.Whole.{vertices_known}
-use Rattle.solid_data.proofs.Occurs.{from_occurring}
 
 -- The greatest of two lists.
 

@@ -19,11 +19,12 @@ mod tally;
 
 pub use apart::first_shared;
 pub use before::VerticesBefore;
+pub use building::push_all_used;
 pub use fault::PairFault;
-pub use joining::{Unjoined, first_unjoined};
+pub use joining::{Unjoined, begins_at, ends_at, first_unjoined, next_place, starts_at};
 pub use paired::Paired;
 pub use pairing::pair;
-pub use places::{point_at, row_at, vertex_at};
+pub use places::{point_at, row_at, turned, vertex_at};
 pub use reading::rows;
 pub use row::Row;
 pub use table::Rows;

@@ -11,12 +11,12 @@ use Rattle.std.proofs.lemmas.Option.{slice_get_within}
 use Rattle.solid_data.specs.declared.solid.RowId.{RowId}
 use Rattle.solid_data.proofs.Members.{Has, NoRepeat, Rises, All-from, has_append, all_append}
 use Rattle.solid_data.proofs.Trail.{Trail, no_repeat, next_on, leads_on, trail_keeps}
+use Rattle.solid_data.specs.declared.spanning.Span.{Span}
+use Rattle.solid_data.specs.Ranges.{IsWithin, IsSpanOf}
 use Rattle.edge_uses.proofs.Cycle.{zip_from_trail}
 use Rattle.edge_uses.proofs.Tallies.{set_same, set_other}
 use Rattle.edge_uses.specs.ShellRows.{ShellRows, AreRows}
 use Rattle.edge_uses.specs.declared.row.Row.{Row}
-use Rattle.solid_data.specs.declared.spanning.Span.{Span}
-use Rattle.solid_data.specs.Ranges.{IsWithin, IsSpanOf}
 use Rattle.std.proofs.lemmas.List.Elements.{All-contains}
 use Rattle.solid_data.proofs.ObligationLemmas.{AllByRecursion-weaker}
 use Rattle.open_certificate.specs.Sound.{IsBorder, IsBorderCycle, IsBorderCycleOf, IsFanned, GoesOn}

@@ -8,10 +8,10 @@ use Rattle.std.proofs.lemmas.Option.{get_or_from_slice_get, same_Some, slice_get
 use Rattle.solid_data.specs.Obligations.{FirstNot}
 use Rattle.solid_data.specs.declared.solid.RowId.{RowId}
 use Rattle.solid_data.proofs.Members.{split_at, All-at, Has-from_Contains, has_get}
-use Rattle.edge_uses.specs.declared.row.Row.{Row}
-use Rattle.edge_uses.specs.declared.tally.Seen.{Seen}
 use Rattle.solid_data.specs.declared.spanning.Span.{Span}
 use Rattle.solid_data.specs.Ranges.{IsWithin}
+use Rattle.edge_uses.specs.declared.row.Row.{Row}
+use Rattle.edge_uses.specs.declared.tally.Seen.{Seen}
 use Rattle.edge_uses.specs.ShellRows.{ShellRows}
 use Rattle.edge_uses.specs.RowRelations.{AreMates, IsPaired, row_count}
 use Rattle.edge_uses.specs.Mates.{RunsOn}

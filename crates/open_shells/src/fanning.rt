@@ -2,8 +2,8 @@
 
 ghost use Rattle.std.specs.Prelude.{◌≡◌, ◌↔◌, ℕ, ◌<◌, ◌++◌, ◌∷◌, [], IsTrue, All, Some, None, length, slice_get, IfOk, IfErr, MatchOption};
 ghost use Rattle.std.specs.List.{AllByRecursion, AllZip};
-ghost use Rattle.edge_uses.specs.RowRelations.{point_count};
 ghost use Rattle.solid_data.specs.Ranges.{IsWithin};
+ghost use Rattle.edge_uses.specs.RowRelations.{point_count};
 ghost use Rattle.edge_uses.specs.ShellRows.{ShellRows};
 ghost use Rattle.open_certificate.specs.Sound.{IsFan, IsFanned};
 ghost use Rattle.open_shells.specs.Mating.{AreOnce};

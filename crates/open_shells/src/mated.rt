@@ -109,8 +109,8 @@ impl<'a> Mates for Mated<'a> {
 
 ghost use Rattle.std.specs.Prelude.{◌≡◌, IfOk, IfErr};
 ghost use Rattle.std.specs.List.{AllByRecursion, AllZip};
-ghost use Rattle.edge_uses.specs.declared.row.Row.{Row as AnyRow};
 ghost use Rattle.solid_data.specs.Ranges.{IsWithin};
+ghost use Rattle.edge_uses.specs.declared.row.Row.{Row as AnyRow};
 ghost use Rattle.edge_uses.specs.ShellRows.{AreRows, EndsMeet};
 ghost use Rattle.edge_uses.specs.Tally.{IsTally};
 ghost use Rattle.open_certificate.specs.Sound.{IsOnce};

@@ -80,13 +80,6 @@ impl<'a, T: Copy> Cells<'a, T> {
         })
     }
 
-    /// The range.
-    pub fn span(&self) -> Span
-        ensures { result ≡ self.now.span }
-    {
-        self.span
-    }
-
     /// The value of a number of the range.
     pub fn at(&self, n: u32) -> T
         requires { IsWithin self.now.span n }

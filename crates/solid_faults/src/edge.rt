@@ -48,7 +48,7 @@ fn edge_at(rows: &Rows, i: usize) -> EdgeId
 
 /// The edges of a shell that haven't exactly one row along them and one against them, by rising
 /// number.
-pub fn unpaired_edges(alloc: Global, rows: &Rows) -> Result<Vec<Unpaired>, NoMemory>
+pub(crate) fn unpaired_edges(alloc: Global, rows: &Rows) -> Result<Vec<Unpaired>, NoMemory>
     ensures { IfOk result (λ out. out.items ≡ unpaired_of rows.now) }
 {
     let tally = tally_of(alloc, rows)?;

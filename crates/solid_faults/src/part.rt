@@ -35,7 +35,7 @@ fn other_face(rows: &Rows, tally: &Tally<'_>, row: Row) -> u32
     }
 }
 
-fn push_pair(out: &mut Vec<(u32, u32)>, a: u32, b: u32) -> Result<(), NoMemory>
+pub(crate) fn push_pair(out: &mut Vec<(u32, u32)>, a: u32, b: u32) -> Result<(), NoMemory>
     ensures { IfOk result (λ _. out.new.items ≡ out.old.items ++ (a, b) ∷ []) }
 {
     out.push((a, b))?;
