@@ -21,7 +21,7 @@ use Rattle.std.proofs.lemmas.List.Elements.{All-contains}
 use Rattle.solid_data.proofs.ObligationLemmas.{AllByRecursion-weaker}
 use Rattle.open_certificate.specs.Sound.{IsBorder, IsBorderCycle, IsBorderCycleOf, IsFanned, GoesOn}
 use Rattle.open_shells.specs.Mating.{AreOnce}
-use Rattle.shell_flood.specs.Reaching.{row_numbers}
+use Rattle.shell_reach.specs.Reaching.{row_numbers}
 use Rattle.open_shells.specs.BorderParts.{Next, IsLoop, IsBordering, AreBorderCycles, flat, rows_of_cycle, first_in}
 use Rattle.open_certificate.proofs.Borders.{apart_append, has_front, has_back, keeps_steps}
 use Rattle.open_shells.proofs.BorderRows.{next_one}

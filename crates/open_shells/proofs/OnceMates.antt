@@ -20,7 +20,7 @@ use Rattle.edge_uses.proofs.Counting.{counts_of_edge}
 use Rattle.edge_uses.proofs.FirstOf.{LeftIn}
 use Rattle.edge_uses.proofs.Turn.{edge_id, row_of_edge_along, row_of_edge_against}
 use Rattle.open_certificate.specs.Sound.{IsOnce, IsBorder, row_total}
-use Rattle.shell_flood.specs.OneMate.{HaveOneMate}
+use Rattle.shell_reach.specs.OneMate.{HaveOneMate}
 use Rattle.open_shells.specs.Mating.{IsMateOf, AreOnce}
 use Rattle.open_certificate.proofs.Fans.{one_mate_of}
 use Rattle.open_certificate.proofs.Once.{OnceRows, total_uses}

@@ -12,7 +12,7 @@ use Rattle.edge_uses.specs.Around.{IsPoint}
 use Rattle.cert_state.specs.Progress.{start_count}
 use Rattle.open_certificate.specs.Sound.{IsBorder, IsFanned}
 use Rattle.open_certificate.specs.Progress.{IsChain, last_of}
-use Rattle.shell_flood.specs.Reaching.{row_numbers}
+use Rattle.shell_reach.specs.Reaching.{row_numbers}
 use Rattle.open_certificate.specs.declared.parts.OpenCorner.{OpenCorner}
 use Rattle.open_certificate.specs.declared.parts.OpenCorner.TheVariants.{Cycle, Path, Point}
 use Rattle.open_shells.specs.declared.fanning.FanFault.{FanFault}

@@ -6,7 +6,7 @@ ghost use Rattle.solid_data.specs.declared.solid.RowId.{RowId as AnyRowId};
 ghost use Rattle.std.specs.List.{AllByRecursion};
 ghost use Rattle.open_certificate.specs.Sound.{IsBorder, IsFanned};
 ghost use Rattle.open_shells.specs.Mating.{AreOnce};
-ghost use Rattle.shell_flood.specs.Reaching.{row_numbers};
+ghost use Rattle.shell_reach.specs.Reaching.{row_numbers};
 ghost use Rattle.open_shells.specs.BorderParts.{Next, AreBorderCells, IsLoop, IsBordering, AreBorderCycles};
 
 use crate::heads::note;

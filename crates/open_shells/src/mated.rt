@@ -4,7 +4,7 @@ use crate::mating::{first_not_once, open_edges, open_mates};
 use edge_uses::{Rows, Tally, tally_of};
 use iges_base::NoMemory;
 use open_certificate::OpenEdges;
-use shell_flood::Mates;
+use shell_reach::Mates;
 use solid_data::{EdgeId, RowId};
 use std::alloc::Global;
 use std::marker::Model;

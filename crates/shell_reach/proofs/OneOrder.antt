@@ -14,9 +14,9 @@ use Rattle.edge_uses.specs.RowRelations.{AreMates, OnFace}
 use Rattle.edge_uses.specs.Mates.{HaveMates}
 use Rattle.edge_uses.proofs.Turn.{one_mate, paired_rows}
 use Rattle.edge_uses.proofs.Turns.{mates_back}
-use Rattle.shell_flood.specs.Reaching.{ReachesOne, ReachFrom, face_of, across, on_new_faces}
+use Rattle.shell_reach.specs.Reaching.{ReachesOne, ReachFrom, face_of, across, on_new_faces}
 use Rattle.shell_reach.specs.Laws.{OneReachOrder}
-use Rattle.shell_flood.proofs.Crossings.{face_is, mate_is, on_new_append}
+use Rattle.shell_reach.proofs.Crossings.{face_is, mate_is, on_new_append}
 
 one_mates : (d : ShellRows) (a b : List ℕ) → HaveMates d a → HaveMates d b → a ≡ b
 one_mates d a b h k =

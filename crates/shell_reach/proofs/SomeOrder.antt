@@ -14,12 +14,12 @@ use Rattle.edge_uses.specs.RowRelations.{AreMates, OnFace}
 use Rattle.edge_uses.specs.Around.{IsReached}
 use Rattle.edge_uses.specs.Mates.{ArePaired, HaveMates}
 use Rattle.edge_uses.proofs.Turn.{has_mate, paired_rows}
-use Rattle.shell_flood.specs.Reaching.{ReachesAll, face_of, across, on_new_faces, IsBreadthFirst}
+use Rattle.shell_reach.specs.Reaching.{ReachesAll, face_of, across, on_new_faces, IsBreadthFirst}
 use Rattle.shell_reach.specs.Laws.{SomeReachOrder}
-use Rattle.shell_flood.specs.Flood.{IsFlood, IsDone, Grows, HasCrossed, across_all, across_place}
-use Rattle.shell_flood.proofs.Crossings.{face_is, on_its_face, some_mates, crosses_old, crosses_new, across_past, across_there, place_more}
-use Rattle.shell_flood.proofs.Floods.{paired_one, grows_none, grows_more, still_has, crossed_before, crossed_now, flood_more, flood_first, order_few, each_done, place_done}
-use Rattle.shell_flood.proofs.Floods.{place_is, flood_reaches}
+use Rattle.shell_reach.specs.Flood.{IsFlood, IsDone, Grows, HasCrossed, across_all, across_place}
+use Rattle.shell_reach.proofs.Crossings.{face_is, on_its_face, some_mates, crosses_old, crosses_new, across_past, across_there, place_more}
+use Rattle.shell_reach.proofs.Floods.{paired_one, grows_none, grows_more, still_has, crossed_before, crossed_now, flood_more, flood_first, order_few, each_done, place_done}
+use Rattle.shell_reach.proofs.Floods.{place_is, flood_reaches}
 use Rattle.shell_reach.proofs.OneOrder.{passes}
 
 -- these rows were crossed, and the faces that are listed are reached

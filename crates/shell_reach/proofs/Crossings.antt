@@ -19,8 +19,8 @@ use Rattle.edge_uses.specs.Mates.{ArePaired, HaveMates}
 use Rattle.solid_data.proofs.Occurring.{numbers_more}
 use Rattle.edge_uses.proofs.Turn.{one_mate, has_mate, paired_rows}
 use Rattle.shell_tables.specs.FaceRows.{IsHead}
-use Rattle.shell_flood.specs.Reaching.{face_of, across, on_new_faces, IsBreadthFirst}
-use Rattle.shell_flood.specs.Flood.{IsFlood, Grows, HasCrossed, Crosses, mate_at, across_place, across_all}
+use Rattle.shell_reach.specs.Reaching.{face_of, across, on_new_faces, IsBreadthFirst}
+use Rattle.shell_reach.specs.Flood.{IsFlood, Grows, HasCrossed, Crosses, mate_at, across_place, across_all}
 
 -- the face of a row
 pub face_is : (d : ShellRows) (face r : ℕ) → OnFace d face r → face_of d r ≡ face

@@ -4,8 +4,8 @@ use Rattle.solid_data.specs.Obligations.{FirstNot}
 use Rattle.solid_data.specs.Ring.{numbers_from}
 use Rattle.edge_uses.specs.ShellRows.{ShellRows}
 use Rattle.edge_uses.specs.Around.{IsReached}
-use Rattle.shell_flood.specs.declared.fault.ReachFault.{ReachFault}
-use Rattle.shell_flood.specs.declared.fault.ReachFault.TheVariants.{Unreached, NoMemory}
+use Rattle.shell_reach.specs.declared.fault.ReachFault.{ReachFault}
+use Rattle.shell_reach.specs.declared.fault.ReachFault.TheVariants.{Unreached, NoMemory}
 
 -- the least face that isn't reached
 abbrev pub IsReachFault : ShellRows → ReachFault → Type 0

@@ -3,7 +3,7 @@
 ghost use Rattle.std.specs.Prelude.{◌≡◌, ◌<◌, ℕ, length, MatchOption};
 ghost use Rattle.edge_uses.specs.ShellRows.{ShellRows};
 ghost use Rattle.edge_uses.specs.RowRelations.{AreMates};
-ghost use Rattle.shell_flood.specs.OneMate.{HaveOneMate};
+ghost use Rattle.shell_reach.specs.OneMate.{HaveOneMate};
 
 use edge_uses::{Paired, Rows};
 use solid_data::RowId;

@@ -15,7 +15,7 @@ pub enum ReachFault {
 
 impl From<NoMemory> for ReachFault {
     ghost use Rattle.std.specs.Prelude.{◌≡◌};
-    ghost use Rattle.shell_flood.specs.declared.fault.ReachFault.TheVariants.{NoMemory as OutOfMemory};
+    ghost use Rattle.shell_reach.specs.declared.fault.ReachFault.TheVariants.{NoMemory as OutOfMemory};
 
     ghost from_gives = { λ _ e. e ≡ OutOfMemory };
 

@@ -1,10 +1,10 @@
 use Rattle.std.proofs.Common.{ap, sym, subst, arith}
 use Rattle.edge_uses.specs.ShellRows.{ShellRows}
-use Rattle.shell_flood.specs.Reaching.{row_numbers, IsBreadthFirst}
-use Rattle.shell_flood.specs.Flood.{face_numbers}
-use Rattle.shell_flood.proofs.Floods.{flood_reaches}
-use Rattle.shell_flood.proofs.Crossings.{breadth_first, none_breadth_first}
-use Rattle.shell_flood.proofs.reaching.reach_faces.Goals as goal
+use Rattle.shell_reach.specs.Reaching.{row_numbers, IsBreadthFirst}
+use Rattle.shell_reach.specs.Flood.{face_numbers}
+use Rattle.shell_reach.proofs.Floods.{flood_reaches}
+use Rattle.shell_reach.proofs.Crossings.{breadth_first, none_breadth_first}
+use Rattle.shell_reach.proofs.reaching.reach_faces.Goals as goal
 use Rattle.edge_uses.proofs.Steps.{none_of}
 
 pub returns-clause-rows : goal.returns-clause-rows

@@ -5,12 +5,12 @@ use Rattle.edge_uses.specs.RowRelations.{OnFace}
 use Rattle.solid_data.proofs.Members.{Has}
 use Rattle.edge_uses.proofs.Steps.{default_apart, ok_weaker}
 use Rattle.edge_uses.proofs.RowNumbers.{numbers_pushed}
-use Rattle.shell_flood.specs.Reaching.{row_numbers}
-use Rattle.shell_flood.specs.Flood.{face_numbers}
+use Rattle.shell_reach.specs.Reaching.{row_numbers}
+use Rattle.shell_reach.specs.Flood.{face_numbers}
 use Rattle.shell_tables.proofs.FaceHeads.{face_low}
-use Rattle.shell_flood.proofs.Floods.{faces_pushed, crossed_before, crossed_now, flood_more, flood_as, ok_three}
-use Rattle.shell_flood.proofs.Crossings.{crosses_lone, crosses_old, crosses_new}
-use Rattle.shell_flood.proofs.flood.Flood.cross.Goals as goal
+use Rattle.shell_reach.proofs.Floods.{faces_pushed, crossed_before, crossed_now, flood_more, flood_as, ok_three}
+use Rattle.shell_reach.proofs.Crossings.{crosses_lone, crosses_old, crosses_new}
+use Rattle.shell_reach.proofs.flood.Flood.cross.Goals as goal
 
 pub returns-then-index-clause-there : goal.returns-then-index-clause-there
 returns-then-index-clause-there g c =

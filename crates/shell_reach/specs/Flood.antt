@@ -6,7 +6,7 @@ use Rattle.edge_uses.specs.Around.{IsReached, AreNeighbours}
 use Rattle.edge_uses.specs.Mates.{HaveMates}
 use Rattle.solid_data.proofs.Members.{Has, NoRepeat}
 use Rattle.solid_data.specs.declared.solid.FaceAt.{FaceAt}
-use Rattle.shell_flood.specs.Reaching.{ReachFrom, face_of, across, on_new_faces}
+use Rattle.shell_reach.specs.Reaching.{ReachFrom, face_of, across, on_new_faces}
 
 abbrev pub face_numbers : List FaceAt → List ℕ
 face_numbers faces = map (λ (f : FaceAt). f.0) faces

@@ -14,7 +14,7 @@ use Rattle.edge_uses.specs.RowRelations.{AreMates, OnFace}
 use Rattle.edge_uses.specs.Around.{AreNeighbours, IsReached}
 use Rattle.edge_uses.specs.Mates.{ArePaired}
 use Rattle.edge_uses.proofs.Turn.{one_mate, paired_rows}
-use Rattle.shell_flood.specs.OneMate.{HaveOneMate}
+use Rattle.shell_reach.specs.OneMate.{HaveOneMate}
 use Rattle.solid_data.proofs.Members.{Has, NoRepeat, Contains-from_Has, Has-from_Contains, no_longer, All-at, has_left, has_right, rises_none, has_last}
 use Rattle.solid_data.proofs.Members.{has_reverse}
 use Rattle.solid_data.specs.Obligations.{FirstNot}
@@ -24,10 +24,10 @@ use Rattle.solid_data.proofs.Occurring.{numbers_rise, length-numbers, number_get
 use Rattle.solid_data.proofs.Trail.{leads_last}
 use Rattle.edge_uses.proofs.Tallies.{set_same, set_other}
 use Rattle.edge_uses.proofs.Turns.{mates_back}
-use Rattle.shell_flood.specs.Reaching.{ReachesOne, ReachFrom, ReachesAll}
+use Rattle.shell_reach.specs.Reaching.{ReachesOne, ReachFrom, ReachesAll}
 use Rattle.shell_tables.specs.FaceRows.{IsHead, AreFaceRows}
 use Rattle.solid_data.specs.declared.solid.FaceAt.{FaceAt}
-use Rattle.shell_flood.specs.Flood.{face_numbers, IsFlood, IsDone, Grows}
+use Rattle.shell_reach.specs.Flood.{face_numbers, IsFlood, IsDone, Grows}
 use Rattle.shell_tables.proofs.FaceHeads.{one_face, face_low}
 
 pub paired_one : (d : ShellRows) → ArePaired d → HaveOneMate d

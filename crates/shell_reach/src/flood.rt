@@ -4,9 +4,9 @@ ghost use Rattle.std.specs.Prelude.{◌≡◌, ◌<◌, ◌≤◌, ◌++◌, ◌
 ghost use Rattle.edge_uses.specs.RowRelations.{OnFace, AreMates};
 ghost use Rattle.solid_data.proofs.Members.{Has};
 ghost use Rattle.shell_tables.specs.FaceRows.{AreFaceRows};
-ghost use Rattle.shell_flood.specs.Reaching.{across, row_numbers};
-ghost use Rattle.shell_flood.specs.OneMate.{HaveOneMate};
-ghost use Rattle.shell_flood.specs.Flood.{face_numbers, IsFlood, IsDone, Grows, HasCrossed, Crosses, mate_at, across_place, across_all};
+ghost use Rattle.shell_reach.specs.Reaching.{across, row_numbers};
+ghost use Rattle.shell_reach.specs.OneMate.{HaveOneMate};
+ghost use Rattle.shell_reach.specs.Flood.{face_numbers, IsFlood, IsDone, Grows, HasCrossed, Crosses, mate_at, across_place, across_all};
 
 use crate::one_mate::Mates;
 use iges_base::NoMemory;
