@@ -31,7 +31,7 @@ LONGER = {"solid_hints": 9, "where_solids": 10, "where_overview": 11, "where_com
 MODULES = re.compile(r"(?s)`(python/\w+(?:/\w+)?)`,.*?\n\|---\|---\|\n((?:\|.*?\n)+)")
 # What says yes to certificates and orientations, and what makes them or parts of them.
 CHECKS = "cert_state", "topo_certificate", "cert_accept", "open_certificate", "orient_certificate"
-MAKES = {"vertex_link", "shell_flood", "shell_reach", "cert_maker", "open_shells", "face_orient"}
+MAKES = {"vertex_link", "shell_reach", "cert_maker", "open_shells", "face_orient"}
 
 
 def below(crates, crate):

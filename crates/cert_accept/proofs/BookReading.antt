@@ -7,10 +7,9 @@ use Rattle.std.proofs.lemmas.List.{map-append, append-nil, append_cancel_right}
 use Rattle.iges_params.specs.Contents.{Contents}
 use Rattle.brep_walk.specs.SolidOf.{solid_of}
 use Rattle.solid_data.specs.Obligations.{AllHold}
-use Rattle.solid_data.proofs.Members.{Rises, all_append}
+use Rattle.solid_data.proofs.Members.{Rises, all_append, rises}
 use Rattle.solid_data.proofs.ObligationLemmas.{FirstFalse-one, FirstFalse-not_all}
 use Rattle.solid_data.proofs.ObligationsDecided.{all_or_first_false}
-use Rattle.edge_uses.proofs.Above.{rises}
 use Rattle.edge_uses.proofs.Whole.{rising}
 use Rattle.cert_lines.specs.Line.{CertLine, head, solid, end, spelling, IsSpelled, IsLine, first_limit}
 use Rattle.cert_lines.specs.Opening.{Opens, IsHeaded, IsHeadLine, IsWrong, IsSecondWrong, IsFirstWrong, IsBadOpening}

@@ -15,7 +15,7 @@ use Rattle.edge_uses.specs.RowRelations.{IsPaired, Turns, point_count}
 use Rattle.edge_uses.specs.Mates.{ArePaired, RunsOn}
 use Rattle.edge_uses.proofs.Turn.{one_of_edge, pair_counts, paired_rows, turns_to_one}
 use Rattle.vertex_link.specs.Corners.{IsCycle, IsCycleOf, LiesAt}
-use Rattle.shell_flood.specs.Reaching.{row_numbers}
+use Rattle.shell_reach.specs.Reaching.{row_numbers}
 use Rattle.shell_reach.proofs.OneOrder.{one_order}
 use Rattle.cert_state.specs.Progress.{loops_of}
 use Rattle.cert_lines.specs.Written.{certificate_lines, text_of}

@@ -16,7 +16,7 @@ use Rattle.edge_uses.specs.ShellRows.{ShellRows, rows_of}
 use Rattle.edge_uses.specs.RowRelations.{AreMates, StartsAt}
 use Rattle.edge_uses.specs.Mates.{RunsOn}
 use Rattle.vertex_link.specs.Corners.{IsCycle}
-use Rattle.shell_flood.specs.Reaching.{ReachFrom, ReachesOne, row_numbers}
+use Rattle.shell_reach.specs.Reaching.{ReachFrom, ReachesOne, row_numbers}
 use Rattle.cert_text.specs.Text.{IsShort}
 use Rattle.cert_lines.specs.Line.{CertLine, tally, shell, edge, corner, point, reach, end, spelling, HasSpelling}
 use Rattle.cert_lines.specs.declared.counts.ShellCounts.{ShellCounts}

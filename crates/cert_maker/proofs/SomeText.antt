@@ -28,7 +28,7 @@ use Rattle.edge_uses.proofs.RowNumbers.{starting, length-starting, starting_has,
 use Rattle.edge_uses.proofs.Turn.{row_of_edge_along, row_of_edge_against, turning}
 use Rattle.edge_uses.proofs.Whole.{are_rows}
 use Rattle.vertex_link.specs.Corners.{IsCycle, IsCycleOf, LiesAt}
-use Rattle.shell_flood.specs.Reaching.{row_numbers, ReachesAll, IsBreadthFirst}
+use Rattle.shell_reach.specs.Reaching.{row_numbers, ReachesAll, IsBreadthFirst}
 use Rattle.shell_reach.proofs.SomeOrder.{some_order}
 use Rattle.cert_lines.specs.Written.{certificate_lines, text_of}
 use Rattle.cert_lines.specs.declared.parts.Certificate.{Certificate}

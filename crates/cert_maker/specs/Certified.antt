@@ -18,8 +18,8 @@ use Rattle.edge_uses.specs.ShellRows.{ShellRows, shell_rows}
 use Rattle.edge_uses.specs.Mates.{RunsOn}
 use Rattle.cert_state.specs.Progress.{loops_of}
 use Rattle.vertex_link.specs.Corners.{LiesAt}
-use Rattle.shell_flood.specs.Reaching.{ReachesAll, row_numbers}
-use Rattle.shell_flood.specs.Reaching.{IsBreadthFirst}
+use Rattle.shell_reach.specs.Reaching.{ReachesAll, row_numbers}
+use Rattle.shell_reach.specs.Reaching.{IsBreadthFirst}
 use Rattle.cert_lines.specs.declared.parts.ShellPart.{ShellPart}
 use Rattle.cert_lines.specs.Line.{CertLine, end, spelling, HasSpelling}
 use Rattle.topo_certificate.specs.Legal.{IsLegal}

@@ -5,7 +5,7 @@ ghost use Rattle.solid_data.specs.Obligations.{AllHold};
 ghost use Rattle.edge_uses.specs.ShellRows.{EndsMeet};
 ghost use Rattle.shell_rules.specs.ShellObligations.{pair_obligations, reach_obligations, link_obligations};
 ghost use Rattle.vertex_link.specs.Corners.{AreLinks};
-ghost use Rattle.shell_flood.specs.Reaching.{ReachesAll, row_numbers, IsBreadthFirst};
+ghost use Rattle.shell_reach.specs.Reaching.{ReachesAll, row_numbers, IsBreadthFirst};
 ghost use Rattle.shell_rules.specs.Faults.{IsCheckFault};
 
 use crate::fault::MakeFault;

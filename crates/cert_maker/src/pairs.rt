@@ -2,15 +2,15 @@
 
 ghost use Rattle.std.specs.Prelude.{◌≡◌, ℕ, ◌<◌, ◌^◌, ◌-◌, Some, true, false, length, slice_get, slice_set, vec_len, IfOk};
 ghost use Rattle.std.specs.List.{AllByRecursion, AllZip};
+ghost use Rattle.solid_data.specs.Ranges.{IsWithin};
 ghost use Rattle.edge_uses.specs.Mates.{RunsOn};
-ghost use Rattle.edge_uses.specs.Ranges.{IsWithin};
 ghost use Rattle.edge_uses.specs.declared.row.Row.{Row as AnyRow};
 ghost use Rattle.cert_maker.specs.Certified.{AreItsRows};
 ghost use Rattle.cert_maker.specs.Along.{RunAlong};
 
-use edge_uses::{Paired, Row, Rows, Span, row_at};
+use edge_uses::{Paired, Row, Rows, row_at};
 use iges_base::NoMemory;
-use solid_data::RowId;
+use solid_data::{RowId, Span};
 use std::alloc::Global;
 use topo_certificate::EdgePairs;
 

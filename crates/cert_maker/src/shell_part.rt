@@ -7,7 +7,7 @@ ghost use Rattle.edge_uses.specs.Joins.{join_obligations};
 ghost use Rattle.edge_uses.specs.ShellRows.{EndsMeet, rows_of, shell_rows};
 ghost use Rattle.shell_rules.specs.ShellObligations.{shell_obligations};
 ghost use Rattle.vertex_link.specs.Corners.{AreLinks};
-ghost use Rattle.shell_flood.specs.Reaching.{ReachesAll, row_numbers, IsBreadthFirst};
+ghost use Rattle.shell_reach.specs.Reaching.{ReachesAll, row_numbers, IsBreadthFirst};
 ghost use Rattle.shell_rules.specs.Faults.{IsCheckFault};
 ghost use Rattle.cert_state.specs.Progress.{loops_of};
 ghost use Rattle.cert_maker.specs.Certified.{IsPart};

@@ -6,10 +6,10 @@ use Rattle.std.proofs.lemmas.Bool.Decides.{eqb_tells}
 use Rattle.std.proofs.lemmas.List.{get_or-replicate, length-replicate, append-nil, drop_all, length-set}
 use Rattle.solid_data.specs.declared.solid.LoopAt.{LoopAt}
 use Rattle.solid_data.proofs.Members.{count_by-total, All-at, split_at, has_get}
+use Rattle.solid_data.specs.declared.spanning.Span.{Span}
+use Rattle.solid_data.specs.Cells.{Celled, cell_of, with_cell}
+use Rattle.solid_data.specs.Ranges.{IsWithin, IsSpanOf}
 use Rattle.edge_uses.specs.declared.row.Row.{Row}
-use Rattle.edge_uses.specs.declared.spanning.Span.{Span}
-use Rattle.edge_uses.specs.Cells.{Celled, cell_of, with_cell}
-use Rattle.edge_uses.specs.Ranges.{IsWithin, IsSpanOf}
 use Rattle.edge_uses.specs.ShellRows.{ShellRows, AreRows}
 use Rattle.edge_uses.proofs.Tallies.{one_if, set_same, set_other}
 use Rattle.edge_uses.proofs.Counting.{times, times_few}

@@ -1,9 +1,9 @@
 -- Private: how many rows start at each vertex of a range, and how many loops without an edge lie there.
 use Rattle.std.specs.Prelude.{◌≡◌, ℕ, map}
 use Rattle.solid_data.specs.declared.solid.LoopAt.{LoopAt}
+use Rattle.solid_data.specs.Cells.{Celled, cell_of}
+use Rattle.solid_data.specs.Ranges.{IsWithin, IsSpanOf}
 use Rattle.edge_uses.specs.declared.row.Row.{Row}
-use Rattle.edge_uses.specs.Cells.{Celled, cell_of}
-use Rattle.edge_uses.specs.Ranges.{IsWithin, IsSpanOf}
 use Rattle.edge_uses.specs.ShellRows.{ShellRows, AreRows}
 use Rattle.edge_uses.specs.RowRelations.{point_count}
 use Rattle.cert_state.specs.CheckState.{corner_size, is_alone}

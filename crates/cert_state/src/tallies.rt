@@ -2,17 +2,17 @@
 
 ghost use Rattle.std.specs.Prelude.{◌≡◌, ℕ, ◌+◌, ◌<◌, [], Contains, Some, length, map, slice_get, IfOk};
 ghost use Rattle.solid_data.specs.declared.solid.LoopAt.{LoopAt as LoopPlace};
+ghost use Rattle.solid_data.specs.Cells.{cell_of, with_cell};
+ghost use Rattle.solid_data.specs.Ranges.{IsWithin};
 ghost use Rattle.edge_uses.specs.declared.row.Row.{Row as AnyRow};
-ghost use Rattle.edge_uses.specs.Cells.{cell_of, with_cell};
-ghost use Rattle.edge_uses.specs.Ranges.{IsWithin};
 ghost use Rattle.edge_uses.specs.ShellRows.{ShellRows};
 ghost use Rattle.cert_state.specs.CheckState.{corner_size, is_alone};
 ghost use Rattle.cert_state.specs.Tallied.{AreStarts, ArePoints, AreSizes};
 ghost use Rattle.solid_data.specs.declared.TheConstants.{PART_LIMIT};
 
-use edge_uses::{Cells, Rows, point_at, row_at};
+use edge_uses::{Rows, point_at, row_at};
 use iges_base::NoMemory;
-use solid_data::VertexId;
+use solid_data::{Cells, VertexId};
 use std::alloc::Global;
 
 fn add_one(counts: &mut Cells<'_, u32>, vertex: VertexId)

@@ -9,8 +9,7 @@ use Rattle.iges_params.specs.Contents.{Contents}
 use Rattle.solid_data.specs.SolidData.{SolidData}
 use Rattle.solid_data.specs.Obligations.{AllHold, FirstFalse}
 use Rattle.solid_data.specs.declared.verdict.Failing.{Failing}
-use Rattle.solid_data.proofs.Members.{Rises, all_append}
-use Rattle.edge_uses.proofs.Above.{rises}
+use Rattle.solid_data.proofs.Members.{Rises, all_append, rises}
 use Rattle.edge_uses.proofs.Whole.{rising}
 use Rattle.brep_walk.specs.SolidOf.{solid_of}
 use Rattle.cert_lines.specs.Line.{CertLine, head, solid, end, words, spelling, cut_lines, IsSpelled, IsLine, line_limit}

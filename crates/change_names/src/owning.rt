@@ -4,9 +4,9 @@ ghost use Rattle.std.specs.Prelude.{◌≡◌, ◌↔◌, IsTrue, Contains};
 ghost use Rattle.std.specs.List.Sorted.{IsStrictlyIncreasing};
 ghost use Rattle.change_names.specs.Names.{EdgeIsOwn, VertexIsOwn, UseIsOwn, NewEdgeIsOwn, SeamIsOwn};
 
-use edge_uses::{Rows, place_of};
+use edge_uses::Rows;
 use shell_change::{EdgeName, NewEdge, NewVertex, Seam, UseNow, VertexName};
-use solid_data::{EdgeId, VertexId};
+use solid_data::{EdgeId, VertexId, place_of};
 
 /// Whether a number is in a list that rises.
 pub fn is_among(numbers: &[u32], n: u32) -> bool

@@ -1,6 +1,6 @@
 //! Whether pieces are closed.
 
-ghost use Rattle.std.specs.Prelude.{◌≡◌, ◌<◌, ◌≤◌, ◌+◌, IsTrue, IfOk, Some, [], length, slice_get, option_copied};
+ghost use Rattle.std.specs.Prelude.{◌≡◌, ◌<◌, ◌+◌, IsTrue, IfOk, Some, [], length, slice_get, option_copied};
 ghost use Rattle.edge_uses.specs.Before.{AreBelow};
 ghost use Rattle.edge_uses.specs.ShellRows.{rows_of};
 ghost use Rattle.shell_change.specs.Matching.{EachAt};
@@ -63,18 +63,4 @@ pub(crate) fn are_closed(alloc: Global, pieces: &Solid, of: ShellAt) -> Result<b
         below = below_next(below, &rows);
     }
     Ok(true)
-}
-
-/// The number that the vertices of the shells before a shell lie below. It goes once over the uses of these.
-pub(crate) fn below_shell(alloc: Global, solid: &Solid, shell: ShellAt) -> Result<usize, NoMemory>
-    requires { shell.0 ≤ length solid.now.shells }
-    ensures { IfOk result (λ below. AreBelow solid.now shell.0 below) }
-{
-    solid.recall_numbering();
-    let mut below = 0;
-    'shells: for k in 0..shell.0 {
-        let rows = rows(alloc, solid, ShellAt(k))?;
-        below = below_next(below, &rows);
-    }
-    Ok(below)
 }

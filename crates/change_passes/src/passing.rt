@@ -7,11 +7,12 @@ ghost use Rattle.solid_data.specs.SolidData.{SolidData};
 ghost use Rattle.change_passes.specs.Closed.{HaveClosed};
 ghost use Rattle.change_passes.specs.Passes.{IsOldApart, Passes};
 
-use crate::judging::{are_closed, below_shell};
+use crate::judging::are_closed;
 use change_pieces::pieces_of;
 use iges_base::NoMemory;
 use shell_change::{Change, VertexName, item_at};
 use solid_data::{Shell, Solid};
+use solid_faults::below_shell;
 use std::alloc::Global;
 
 // The vertices of the pieces of a shell, if these are closed.

@@ -1,6 +1,6 @@
 -- The vertices that appear in the first shells are the ones below a number.
 use Rattle.std.specs.Prelude.{◌≡◌, ◌<◌, ◌≤◌, ◌+◌, ◌-◌, ◌==◌, ◌⊎◌, ℕ, zero, suc, Bool, not, List, [], ◌∷◌, ◌++◌, length, map, flat_map, filter, max, take, drop}
-use Rattle.std.specs.Prelude.{slice_get, slice_index, Some, None}
+use Rattle.std.specs.Prelude.{slice_get, Some, None}
 use Rattle.std.specs.List.{AllByRecursion, enumerate_from}
 use Rattle.std.specs.List.Sorted.{IsStrictlyIncreasing}
 use Rattle.std.proofs.Common.{refl, sym, ◌∙◌, ap, subst, arith, inl, inr, ⊎_elim, append_assoc, get_or}
@@ -17,15 +17,15 @@ use Rattle.solid_data.specs.declared.solid.FaceUse.{FaceUse}
 use Rattle.solid_data.specs.declared.solid.Loop.{Loop}
 use Rattle.solid_data.specs.declared.solid.LoopUse.{LoopUse}
 use Rattle.solid_data.specs.declared.solid.Shell.{Shell}
-use Rattle.solid_data.proofs.Members.{Has, Has-from_Contains, Contains-from_Has, Rises, all_has, has_get, All-from, get_some}
+use Rattle.solid_data.proofs.Members.{Has, Has-from_Contains, Contains-from_Has, Rises, rises, all_has, has_get, All-from, get_some}
 use Rattle.solid_data.proofs.Occurring.{occurs, number_below, number_within}
 use Rattle.solid_data.proofs.Keys.{to_distinct, from_distinct}
+use Rattle.solid_data.proofs.Occurs.{from_occurring}
 use Rattle.edge_uses.specs.Before.{AreBelow, above_of, loop_vertices, face_vertices, faces_vertices, IsApart}
 use Rattle.edge_uses.specs.Building.{uses_in}
 use Rattle.edge_uses.specs.ShellRows.{ShellRows, shell_rows, rows_of}
 use Rattle.edge_uses.proofs.Joins.{split_drop}
 use Rattle.edge_uses.proofs.Whole.{vertices_known}
-use Rattle.edge_uses.proofs.Occurs.{from_occurring}
 
 -- The greatest of two lists.
 
@@ -194,29 +194,6 @@ next_below s k n new d numbered lt below rows is =
     let same : above_of d.vertices ≡ above_of (shell_vertices s at.0) =
     ap (λ (r : ShellRows). above_of r.vertices) (rows ∙ ap (rows_of s) at.1) ∙ rows_above s at.0 numbered (has_get s.shells k at.0 at.1) in
     first_below s (k + 1) new numbered (above_next s k n new at.0 at.1 (above_is s k n below) (omega (arith, is, same)))
-
-pub rises : (xs : List ℕ) → IsStrictlyIncreasing xs → Rises xs
-rises [] h = tt
-rises (x ∷ xs) h = (first xs (λ k lt. h k lt), rises xs later)
-  where
-    later : IsStrictlyIncreasing xs
-    later k lt = let e : suc k + 1 ≡ suc (k + 1) = omega arith in subst (λ n. slice_index xs k < slice_index (x ∷ xs) n) e (h (suc k) (omega (arith, lt)))
-
-    first : (ys : List ℕ) → IsStrictlyIncreasing (x ∷ ys) → AllByRecursion (λ y. x < y) ys
-    first [] g = tt
-    first (y ∷ ys) g =
-        let one : x < y = g 0 (omega arith) in
-        let rest : IsStrictlyIncreasing (x ∷ ys) = skip y ys one g in
-        (one, first ys rest)
-      where
-        skip : (y : ℕ) (ys : List ℕ) → x < y → IsStrictlyIncreasing (x ∷ y ∷ ys) → IsStrictlyIncreasing (x ∷ ys)
-        skip y [] one g k lt = absurd (omega (arith, lt))
-        skip y (z ∷ ys) one g zero lt = let two : y < z = g 1 (omega arith) in omega (arith, one, two)
-        skip y (z ∷ ys) one g (suc k) lt =
-            let e : suc (suc k) + 1 ≡ suc (suc (k + 1)) = omega arith in
-            let f : suc (k + 1) ≡ suc k + 1 = omega arith in
-            let h : slice_index (z ∷ ys) k < slice_index (x ∷ y ∷ z ∷ ys) (suc (suc k) + 1) = g (suc (suc k)) (omega (arith, lt)) in
-            subst (λ n. slice_index (z ∷ ys) k < slice_index (x ∷ z ∷ ys) n) f (subst (λ n. slice_index (z ∷ ys) k < slice_index (x ∷ y ∷ z ∷ ys) n) e h)
 
 above_last : (x : ℕ) (xs : List ℕ) (last : ℕ) → Rises (x ∷ xs) → slice_get (x ∷ xs) (length xs) ≡ Some last → (above_of (x ∷ xs) ≡ last + 1) × Has (x ∷ xs) last
 above_last x [] last h e = let same : x ≡ last = same_Some x last e in (omega (arith, same), inl same)

@@ -11,15 +11,12 @@ pub mod Few
 pub mod Steps
 pub mod Adding
 pub mod Whole
-pub mod Occurs
 pub mod Made
 pub mod Above
-pub mod SortedOnce
 pub mod Tallies
 pub mod FirstOf
 pub mod Mating
 pub mod Turn
 pub mod Turns
 pub mod RowNumbers
-mod CellSteps
 pub mod CornerCycle

@@ -3,14 +3,14 @@ use Rattle.std.specs.Prelude.{◌≡◌, ◌<◌, ◌⊎◌, ℕ, zero, suc, Boo
 use Rattle.std.specs.List.{AllByRecursion}
 use Rattle.std.proofs.Common.{refl, sym, ◌∙◌, ap, subst, arith, inl, inr, ⊎_elim, get_or}
 use Rattle.std.proofs.lemmas.Option.{slice_get-get_or, same_Some}
+use Rattle.solid_data.specs.Ranges.{IsWithin}
+use Rattle.solid_data.specs.declared.spanning.Span.{Span}
 use Rattle.edge_uses.specs.declared.row.Row.{Row}
 use Rattle.edge_uses.specs.declared.tally.Seen.{Seen}
 use Rattle.edge_uses.specs.ShellRows.{ShellRows}
 use Rattle.edge_uses.specs.RowRelations.{IsPaired, AreMates}
 use Rattle.edge_uses.specs.Mates.{ArePaired, RunsOn}
 use Rattle.edge_uses.specs.Tally.{seen_of, IsSeen, IsTally}
-use Rattle.edge_uses.specs.Ranges.{IsWithin}
-use Rattle.edge_uses.specs.declared.spanning.Span.{Span}
 use Rattle.solid_data.proofs.Members.{Has-from_Contains, All-at}
 use Rattle.edge_uses.proofs.Joins.{at_place}
 use Rattle.edge_uses.proofs.Steps.{default_apart}

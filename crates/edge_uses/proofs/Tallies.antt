@@ -6,14 +6,14 @@ use Rattle.std.proofs.lemmas.Bool.Decides.{eqb_tells}
 use Rattle.std.proofs.lemmas.Bool.{eq-eqb}
 use Rattle.std.proofs.lemmas.Option.{slice_get-get_or}
 use Rattle.std.proofs.lemmas.List.{drop_all, get_or-replicate, length-replicate, length-set}
+use Rattle.solid_data.specs.Cells.{Celled}
+use Rattle.solid_data.specs.Ranges.{IsWithin, IsSpanOf}
+use Rattle.solid_data.specs.declared.spanning.Span.{Span}
 use Rattle.edge_uses.specs.declared.row.Row.{Row}
 use Rattle.edge_uses.specs.declared.tally.Seen.{Seen}
 use Rattle.edge_uses.specs.ShellRows.{ShellRows, AreRows}
-use Rattle.edge_uses.specs.Cells.{Celled}
 use Rattle.edge_uses.specs.Mates.{RunsOn}
 use Rattle.edge_uses.specs.Tally.{unseen, seen_once_more, seen_of, IsSeen}
-use Rattle.edge_uses.specs.Ranges.{IsWithin, IsSpanOf}
-use Rattle.edge_uses.specs.declared.spanning.Span.{Span}
 use Rattle.solid_data.proofs.Members.{total, count_by-total}
 use Rattle.std.specs.List.{AllByRecursion}
 use Rattle.edge_uses.proofs.Joins.{split_drop, at_place}

@@ -57,7 +57,7 @@ use_short : (s : SolidData) (u : LoopUse) → length (vertices_used s u) ≤ 2
 use_short s (EdgeUse edge along) = ends_short (slice_get s.edges edge.0)
 use_short s (VertexUse vertex) = omega arith
 
-vertices_shorter : (s : SolidData) (us : List LoopUse) → length (flat_map (vertices_used s) us) ≤ 2 * length us
+pub vertices_shorter : (s : SolidData) (us : List LoopUse) → length (flat_map (vertices_used s) us) ≤ 2 * length us
 vertices_shorter s [] = omega arith
 vertices_shorter s (u ∷ us) = omega (arith, vertices_shorter s us, use_short s u, length-append (vertices_used s u) (flat_map (vertices_used s) us))
 

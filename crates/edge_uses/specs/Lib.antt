@@ -1,12 +1,10 @@
 pub mod ShellRows
 pub mod Joins
 pub mod RowRelations
-pub mod Ranges
 pub mod Before
 pub mod Joining
 pub mod Building
 pub mod Mates
 pub mod Tally
 pub mod Faults
-pub mod Cells
 pub mod Around

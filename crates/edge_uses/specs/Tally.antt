@@ -1,7 +1,7 @@
 -- How often each edge is run along and against, and by which row last.
 use Rattle.std.specs.Prelude.{◌≡◌, ◌<◌, ◌+◌, ◌-◌, ℕ, Bool, true, false, List, get_or}
-use Rattle.edge_uses.specs.declared.spanning.Span.{Span}
-use Rattle.edge_uses.specs.Ranges.{IsWithin}
+use Rattle.solid_data.specs.declared.spanning.Span.{Span}
+use Rattle.solid_data.specs.Ranges.{IsWithin}
 use Rattle.edge_uses.specs.ShellRows.{ShellRows}
 use Rattle.edge_uses.specs.RowRelations.{row_count}
 use Rattle.edge_uses.specs.Mates.{RunsOn}

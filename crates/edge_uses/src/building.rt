@@ -4,7 +4,7 @@ ghost use Rattle.std.specs.Prelude.{◌≡◌, ℕ, ◌+◌, ◌<◌, ◌≤◌,
 ghost use Rattle.std.specs.List.{enumerate_from};
 ghost use Rattle.std.specs.Option.{option_to_list};
 ghost use Rattle.solid_data.specs.Ring.{next_of_each, previous_of_each, numbers_from};
-ghost use Rattle.solid_data.specs.SolidData.{same_flag, placed_in_face, placed_loops, edge_used, vertices_used, ends_of};
+ghost use Rattle.solid_data.specs.SolidData.{placed_in_face, placed_loops, edge_used, vertices_used, ends_of};
 ghost use Rattle.solid_data.specs.declared.solid.Loop.{Loop as AnyLoop};
 ghost use Rattle.edge_uses.specs.ShellRows.{row_of_edge, row_of, point_of, loop_rows};
 ghost use Rattle.edge_uses.specs.Building.{Added, HasRoom, ring_from};
@@ -12,7 +12,7 @@ ghost use Rattle.edge_uses.specs.Joining.{IsFewFace, IsFewShell, placed_at};
 
 use crate::row::Row;
 use iges_base::NoMemory;
-use solid_data::{Edge, EdgeId, FaceAt, FaceUse, Loop, LoopAt, LoopUse, Shell, Solid};
+use solid_data::{Edge, EdgeId, FaceAt, FaceUse, Loop, LoopAt, LoopUse, Shell, Solid, same_flags};
 use std::alloc::Global;
 
 /// What has been read of a shell, column by column as in `Rows`, but that each edge and each vertex is there once for
@@ -29,12 +29,6 @@ pub struct Built {
     pub edges: Vec<u32>,
     /// Numbers of vertices of the solid.
     pub vertices: Vec<u32>,
-}
-
-fn same(a: bool, b: bool) -> bool
-    ensures { result ≡ same_flag a b }
-{
-    if a { b } else { !b }
 }
 
 // The row of an edge use; from and to are exchanged where it runs against the edge.
@@ -63,7 +57,7 @@ fn row_for(solid: &Solid, at: LoopAt, forwards: bool, item: LoopUse) -> Option<R
 {
     match item {
         LoopUse::EdgeUse { edge, along } => {
-            row_at(at, edge, same(along, forwards), solid.edge(edge))
+            row_at(at, edge, same_flags(along, forwards), solid.edge(edge))
         }
         LoopUse::VertexUse { .. } => None,
     }
@@ -131,7 +125,8 @@ fn push_ends(edge: Option<&Edge>, vertices: &mut Vec<u32>) -> Result<(), NoMemor
     Ok(())
 }
 
-fn push_all_used(
+/// Appends what each use of a loop uses, in order: an edge and both its ends, or a vertex.
+pub fn push_all_used(
     solid: &Solid,
     walk: &Loop,
     edges: &mut Vec<u32>,
@@ -291,7 +286,7 @@ impl Built {
         ensures { IfOk result (λ _. Added solid.now self.old self.new
             (placed_in_face shell_flag (at.0, face.now))) }
     {
-        let forwards = same(face.flag, shell_flag);
+        let forwards = same_flags(face.flag, shell_flag);
         let loops = face.loops.as_slice();
         'loops: for i in 0..loops.len() {
             let place = LoopAt {

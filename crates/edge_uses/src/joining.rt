@@ -22,8 +22,8 @@ pub struct Unjoined {
     pub place: u32,
 }
 
-// The vertex where a use of an edge starts, by its tuple's flag alone; 0 where there is no edge.
-fn begins_at(edge: Option<&Edge>, along: bool) -> u32
+/// The vertex where an edge begins that is walked along it or against it; 0 where there is no edge.
+pub fn begins_at(edge: Option<&Edge>, along: bool) -> u32
     ensures { result ≡ begin_of (option_copied edge.entry) along }
 {
     match edge {
@@ -32,7 +32,8 @@ fn begins_at(edge: Option<&Edge>, along: bool) -> u32
     }
 }
 
-fn starts_at(solid: &Solid, item: LoopUse) -> u32
+/// The vertex where a use starts, by the flag of its tuple alone; 0 where the solid hasn't its edge.
+pub fn starts_at(solid: &Solid, item: LoopUse) -> u32
     ensures { result ≡ start_of solid.now item }
 {
     match item {
@@ -41,7 +42,8 @@ fn starts_at(solid: &Solid, item: LoopUse) -> u32
     }
 }
 
-fn ends_at(solid: &Solid, item: LoopUse) -> u32
+/// The vertex where a use ends, by the flag of its tuple alone; 0 where the solid hasn't its edge.
+pub fn ends_at(solid: &Solid, item: LoopUse) -> u32
     ensures { result ≡ end_of solid.now item }
 {
     match item {
@@ -50,8 +52,8 @@ fn ends_at(solid: &Solid, item: LoopUse) -> u32
     }
 }
 
-// The next place of a ring, from 0.
-fn next_place(i: usize, len: usize) -> usize
+/// The next place of a ring of so many, from 0.
+pub fn next_place(i: usize, len: usize) -> usize
     requires { i < len }
     ensures inside { result < len }
     ensures next { i + 1 < len → result ≡ i + 1 }

@@ -3,11 +3,11 @@
 ghost use Rattle.std.specs.Prelude.{◌≡◌, ◌↔◌, IsTrue, All, IfOk, IfErr, MatchOption, if◌then◌else◌};
 ghost use Rattle.std.specs.List.{AllByRecursion};
 ghost use Rattle.solid_data.specs.Obligations.{FirstNot};
+ghost use Rattle.solid_data.specs.Ranges.{IsWithin};
 ghost use Rattle.edge_uses.specs.ShellRows.{EndsMeet};
 ghost use Rattle.edge_uses.specs.RowRelations.{IsPaired};
 ghost use Rattle.edge_uses.specs.Mates.{ArePaired, HaveMates};
 ghost use Rattle.edge_uses.specs.Faults.{IsPairFault};
-ghost use Rattle.edge_uses.specs.Ranges.{IsWithin};
 ghost use Rattle.edge_uses.specs.Tally.{seen_of, IsTally};
 
 use crate::fault::PairFault;

@@ -1,7 +1,9 @@
 //! The rows, the vertices and the loops without an edge of a shell, by place.
 
 ghost use Rattle.std.specs.Prelude.{◌≡◌, ◌<◌, Some, length, slice_get};
+ghost use Rattle.edge_uses.specs.RowRelations.{Turns};
 
+use crate::paired::Paired;
 use crate::row::Row;
 use crate::table::Rows;
 use solid_data::{LoopAt, RowId, VertexId};
@@ -33,4 +35,12 @@ pub fn point_at(rows: &Rows, i: usize) -> (LoopAt, VertexId)
     ensures { slice_get rows.now.points i ≡ Some (result.0, result.1.0) }
 {
     rows.isolated(i).unwrap()
+}
+
+/// The row that a row turns to; both count from 0.
+pub fn turned(paired: &Paired<'_>, r: u32) -> u32
+    requires { r < length paired.now.rows }
+    ensures { Turns paired.now r result }
+{
+    paired.turn(RowId(r)).unwrap().0
 }

@@ -1,11 +1,9 @@
 //! The rows of a shell.
 
 use crate::building::{Built, use_count};
-use crate::occurring::occurring_numbers;
 use crate::row::Row;
-use crate::spanning::{Span, span_of};
 use iges_base::NoMemory;
-use solid_data::{EdgeId, LoopAt, RowId, Shell, Solid, VertexId};
+use solid_data::{EdgeId, LoopAt, RowId, Shell, Solid, Span, VertexId, occurring_numbers, span_of};
 use std::alloc::Global;
 use std::marker::Model;
 
@@ -41,8 +39,8 @@ impl Rows {
     ghost use Rattle.solid_data.specs.declared.solid.VertexId.{VertexId as AnyVertexId};
     ghost use Rattle.solid_data.specs.declared.solid.RowId.{RowId as AnyRowId};
     ghost use Rattle.solid_data.specs.declared.solid.EdgeId.{EdgeId as AnyEdgeId};
+    ghost use Rattle.solid_data.specs.Ranges.{IsSpanOf};
     ghost use Rattle.edge_uses.specs.Joining.{IsFewShell};
-    ghost use Rattle.edge_uses.specs.Ranges.{IsSpanOf};
     ghost use Rattle.edge_uses.specs.ShellRows.{AreRows, shell_rows, rows_of};
     ghost use Rattle.edge_uses.specs.Building.{uses_of, HasKnownParts};
 

@@ -1,16 +1,16 @@
 //! How often each edge of a shell is run along and against.
 
 ghost use Rattle.std.specs.Prelude.{◌≡◌, ◌<◌, Contains, IfOk};
-ghost use Rattle.edge_uses.specs.Cells.{cell_of, with_cell};
-ghost use Rattle.edge_uses.specs.Ranges.{IsSpanOf, IsWithin};
+ghost use Rattle.solid_data.specs.Cells.{cell_of, with_cell};
+ghost use Rattle.solid_data.specs.Ranges.{IsSpanOf, IsWithin};
 ghost use Rattle.edge_uses.specs.ShellRows.{AreRows};
 ghost use Rattle.edge_uses.specs.Tally.{seen_once_more, IsTally};
 ghost use Rattle.solid_data.specs.declared.TheConstants.{PART_LIMIT};
 
-use crate::cells::Cells;
 use crate::row::Row;
 use crate::table::Rows;
 use iges_base::NoMemory;
+use solid_data::Cells;
 use std::alloc::Global;
 use std::marker::Model;
 
@@ -100,7 +100,7 @@ pub fn tally_of(alloc: Global, rows: &Rows) -> Result<Tally<'_>, NoMemory>
 
 impl<'a> Tally<'a> {
     ghost use Rattle.std.specs.Prelude.{◌≡◌};
-    ghost use Rattle.edge_uses.specs.Ranges.{IsWithin};
+    ghost use Rattle.solid_data.specs.Ranges.{IsWithin};
     ghost use Rattle.edge_uses.specs.Tally.{seen_of};
 
     /// What was seen of an edge of the range.

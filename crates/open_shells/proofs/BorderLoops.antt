@@ -11,17 +11,17 @@ use Rattle.std.proofs.lemmas.Option.{slice_get_within}
 use Rattle.solid_data.specs.declared.solid.RowId.{RowId}
 use Rattle.solid_data.proofs.Members.{Has, NoRepeat, Rises, All-from, has_append, all_append}
 use Rattle.solid_data.proofs.Trail.{Trail, no_repeat, next_on, leads_on, trail_keeps}
+use Rattle.solid_data.specs.declared.spanning.Span.{Span}
+use Rattle.solid_data.specs.Ranges.{IsWithin, IsSpanOf}
 use Rattle.edge_uses.proofs.Cycle.{zip_from_trail}
 use Rattle.edge_uses.proofs.Tallies.{set_same, set_other}
 use Rattle.edge_uses.specs.ShellRows.{ShellRows, AreRows}
 use Rattle.edge_uses.specs.declared.row.Row.{Row}
-use Rattle.edge_uses.specs.declared.spanning.Span.{Span}
-use Rattle.edge_uses.specs.Ranges.{IsWithin, IsSpanOf}
 use Rattle.std.proofs.lemmas.List.Elements.{All-contains}
 use Rattle.solid_data.proofs.ObligationLemmas.{AllByRecursion-weaker}
 use Rattle.open_certificate.specs.Sound.{IsBorder, IsBorderCycle, IsBorderCycleOf, IsFanned, GoesOn}
 use Rattle.open_shells.specs.Mating.{AreOnce}
-use Rattle.shell_flood.specs.Reaching.{row_numbers}
+use Rattle.shell_reach.specs.Reaching.{row_numbers}
 use Rattle.open_shells.specs.BorderParts.{Next, IsLoop, IsBordering, AreBorderCycles, flat, rows_of_cycle, first_in}
 use Rattle.open_certificate.proofs.Borders.{apart_append, has_front, has_back, keeps_steps}
 use Rattle.open_shells.proofs.BorderRows.{next_one}

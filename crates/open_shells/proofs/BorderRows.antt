@@ -12,9 +12,9 @@ use Rattle.solid_data.specs.declared.solid.VertexId.{VertexId}
 use Rattle.solid_data.proofs.Members.{Has, NoRepeat, no_longer, All-at, has_last, Has-from_Contains, has_get}
 use Rattle.solid_data.proofs.Occurring.{numbers_have, length-numbers}
 use Rattle.solid_data.proofs.Trail.{Trail, trail_keeps, no_repeat}
+use Rattle.solid_data.specs.declared.spanning.Span.{Span}
+use Rattle.solid_data.specs.Ranges.{IsWithin}
 use Rattle.edge_uses.specs.declared.row.Row.{Row}
-use Rattle.edge_uses.specs.declared.spanning.Span.{Span}
-use Rattle.edge_uses.specs.Ranges.{IsWithin}
 use Rattle.edge_uses.specs.ShellRows.{ShellRows}
 use Rattle.edge_uses.specs.RowRelations.{StartsAt, Turns, AreMates, Follows}
 use Rattle.edge_uses.proofs.Tallies.{set_same, set_other}

@@ -30,7 +30,7 @@ use Rattle.open_certificate.specs.Legal.{IsOpenAccepted}
 use Rattle.open_shells.specs.Certified.{IsOpenCertificate, IsOpenFault, IsNoMemory, FailsSo}
 use Rattle.open_shells.specs.Listed.{AreListedParts}
 use Rattle.open_shells.specs.Mating.{AreOnce}
-use Rattle.shell_flood.specs.Reaching.{row_numbers}
+use Rattle.shell_reach.specs.Reaching.{row_numbers}
 use Rattle.open_shells.specs.BorderParts.{AreBorderCycles, flat, first_in, rows_of_cycle}
 use Rattle.open_certificate.specs.Written.{edge_line, corner_line, reach_line, border_line, shell_line, further_lines, open_lines, text_of}
 use Rattle.open_certificate.specs.declared.parts.OpenCertificate.{OpenCertificate}

@@ -2,8 +2,8 @@
 use Rattle.std.specs.Prelude.{◌≡◌, ◌<◌, ◌≤◌, ◌+◌, ◌-◌, ◌⊎◌, ℕ, Contains, Option, Some, None, MatchOption, length, replicate, slice_get, slice_set, get_or}
 use Rattle.std.proofs.Common.{refl, sym, ◌∙◌, ap, subst}
 use Rattle.solid_data.proofs.Members.{All-at, has_get}
-use Rattle.edge_uses.specs.Cells.{Celled, cell_of, with_cell}
-use Rattle.edge_uses.specs.Ranges.{IsWithin, IsSpanOf}
+use Rattle.solid_data.specs.Cells.{Celled, cell_of, with_cell}
+use Rattle.solid_data.specs.Ranges.{IsWithin, IsSpanOf}
 use Rattle.edge_uses.specs.ShellRows.{ShellRows, AreRows}
 use Rattle.edge_uses.specs.RowRelations.{AreMates, Follows}
 use Rattle.edge_uses.specs.declared.row.Row.{Row}

@@ -8,10 +8,10 @@ use Rattle.std.proofs.lemmas.Option.{get_or_from_slice_get, same_Some, slice_get
 use Rattle.solid_data.specs.Obligations.{FirstNot}
 use Rattle.solid_data.specs.declared.solid.RowId.{RowId}
 use Rattle.solid_data.proofs.Members.{split_at, All-at, Has-from_Contains, has_get}
+use Rattle.solid_data.specs.declared.spanning.Span.{Span}
+use Rattle.solid_data.specs.Ranges.{IsWithin}
 use Rattle.edge_uses.specs.declared.row.Row.{Row}
 use Rattle.edge_uses.specs.declared.tally.Seen.{Seen}
-use Rattle.edge_uses.specs.declared.spanning.Span.{Span}
-use Rattle.edge_uses.specs.Ranges.{IsWithin}
 use Rattle.edge_uses.specs.ShellRows.{ShellRows}
 use Rattle.edge_uses.specs.RowRelations.{AreMates, IsPaired, row_count}
 use Rattle.edge_uses.specs.Mates.{RunsOn}
@@ -20,7 +20,7 @@ use Rattle.edge_uses.proofs.Counting.{counts_of_edge}
 use Rattle.edge_uses.proofs.FirstOf.{LeftIn}
 use Rattle.edge_uses.proofs.Turn.{edge_id, row_of_edge_along, row_of_edge_against}
 use Rattle.open_certificate.specs.Sound.{IsOnce, IsBorder, row_total}
-use Rattle.shell_flood.specs.OneMate.{HaveOneMate}
+use Rattle.shell_reach.specs.OneMate.{HaveOneMate}
 use Rattle.open_shells.specs.Mating.{IsMateOf, AreOnce}
 use Rattle.open_certificate.proofs.Fans.{one_mate_of}
 use Rattle.open_certificate.proofs.Once.{OnceRows, total_uses}

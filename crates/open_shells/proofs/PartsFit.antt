@@ -18,7 +18,7 @@ use Rattle.open_certificate.specs.Progress.{mates_in}
 use Rattle.open_certificate.specs.Progress.{lone_in, edge_in, vertex_in, face_in, border_in, border_rows, FitsLine, IsChain, last_of, GoesOnTo}
 use Rattle.open_certificate.specs.Legal.{IsLegalAfter}
 use Rattle.open_certificate.specs.Written.{edge_line}
-use Rattle.shell_flood.specs.Reaching.{row_numbers}
+use Rattle.shell_reach.specs.Reaching.{row_numbers}
 use Rattle.open_certificate.specs.declared.parts.OpenEdge.TheVariants.{Two}
 
 -- Behind the lines before, the latest first: each line is spelled and fits, and the last is END.

@@ -26,7 +26,7 @@ use Rattle.open_certificate.specs.Progress.{shell_of, IsChain, last_of, GoesOnTo
 use Rattle.open_certificate.specs.Written.{edge_line, corner_line, reach_line, border_line}
 use Rattle.open_shells.specs.Mating.{AreRowsOf, AreOnce}
 use Rattle.open_shells.specs.FanParts.{LiesAt, IsCycle, IsPath}
-use Rattle.shell_flood.specs.Reaching.{ReachFrom, ReachesOne, row_numbers}
+use Rattle.shell_reach.specs.Reaching.{ReachFrom, ReachesOne, row_numbers}
 use Rattle.open_shells.specs.BorderParts.{flat, first_in}
 use Rattle.open_certificate.specs.declared.parts.OpenEdge.{OpenEdge}
 use Rattle.open_certificate.specs.declared.parts.OpenEdge.TheVariants.{One, Two}

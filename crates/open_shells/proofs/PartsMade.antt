@@ -24,7 +24,7 @@ use Rattle.topo_certificate.proofs.Build.{found_point, decide_has, outsider, lea
 use Rattle.open_certificate.specs.Sound.{IsBorder, IsOnce, IsFan, IsFanned}
 use Rattle.open_shells.specs.Mating.{AreRowsOf, AreOnce}
 use Rattle.open_shells.specs.FanParts.{LiesAt, IsCycleOf, IsPathOf, IsHeadOf}
-use Rattle.shell_flood.specs.Reaching.{ReachFrom, ReachesOne, ReachesAll, row_numbers}
+use Rattle.shell_reach.specs.Reaching.{ReachFrom, ReachesOne, ReachesAll, row_numbers}
 use Rattle.open_shells.specs.BorderParts.{Next, IsLoop, flat, AreBorderCycles, IsBordering}
 use Rattle.open_certificate.specs.declared.parts.OpenEdge.{OpenEdge}
 use Rattle.open_certificate.specs.declared.parts.OpenEdge.TheVariants.{One, Two}

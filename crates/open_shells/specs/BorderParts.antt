@@ -3,9 +3,9 @@ use Rattle.std.specs.Prelude.{◌≡◌, ◌<◌, ◌-◌, ◌↔◌, ℕ, Bool,
 use Rattle.std.specs.List.{AllByRecursion}
 use Rattle.solid_data.proofs.Members.{Has, NoRepeat, Rises}
 use Rattle.solid_data.proofs.Trail.{Trail}
-use Rattle.edge_uses.specs.declared.spanning.Span.{Span}
-use Rattle.edge_uses.specs.Cells.{Celled}
-use Rattle.edge_uses.specs.Ranges.{IsWithin, IsSpanOf}
+use Rattle.solid_data.specs.declared.spanning.Span.{Span}
+use Rattle.solid_data.specs.Cells.{Celled}
+use Rattle.solid_data.specs.Ranges.{IsWithin, IsSpanOf}
 use Rattle.edge_uses.specs.ShellRows.{ShellRows}
 use Rattle.edge_uses.specs.RowRelations.{StartsAt}
 use Rattle.open_certificate.specs.Sound.{IsBorder, IsBorderCycleOf, GoesOn}

@@ -3,16 +3,16 @@ use Rattle.std.specs.Prelude.{◌≡◌, ◌<◌, ◌-◌, ℕ, List, [], ◌∷
 use Rattle.std.specs.List.{AllByRecursion, AllZip}
 use Rattle.solid_data.specs.Ring.{next_of_each}
 use Rattle.solid_data.specs.Obligations.{FirstNot}
-use Rattle.edge_uses.specs.declared.spanning.Span.{Span}
-use Rattle.edge_uses.specs.Cells.{Celled}
-use Rattle.edge_uses.specs.Ranges.{IsWithin, IsSpanOf}
+use Rattle.solid_data.specs.declared.spanning.Span.{Span}
+use Rattle.solid_data.specs.Cells.{Celled}
+use Rattle.solid_data.specs.Ranges.{IsWithin, IsSpanOf}
 use Rattle.edge_uses.specs.ShellRows.{ShellRows}
 use Rattle.edge_uses.specs.RowRelations.{StartsAt, Turns, point_count}
 use Rattle.edge_uses.specs.Around.{IsPoint}
 use Rattle.cert_state.specs.Progress.{start_count}
 use Rattle.open_certificate.specs.Sound.{IsBorder, IsFanned}
 use Rattle.open_certificate.specs.Progress.{IsChain, last_of}
-use Rattle.shell_flood.specs.Reaching.{row_numbers}
+use Rattle.shell_reach.specs.Reaching.{row_numbers}
 use Rattle.open_certificate.specs.declared.parts.OpenCorner.{OpenCorner}
 use Rattle.open_certificate.specs.declared.parts.OpenCorner.TheVariants.{Cycle, Path, Point}
 use Rattle.open_shells.specs.declared.fanning.FanFault.{FanFault}

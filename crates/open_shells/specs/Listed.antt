@@ -6,7 +6,7 @@ use Rattle.edge_uses.specs.ShellRows.{ShellRows}
 use Rattle.open_shells.specs.Mating.{AreRowsOf}
 use Rattle.open_shells.specs.FanParts.{LiesAt}
 use Rattle.open_shells.specs.BorderParts.{AreBorderCycles}
-use Rattle.shell_flood.specs.Reaching.{ReachesAll, row_numbers}
+use Rattle.shell_reach.specs.Reaching.{ReachesAll, row_numbers}
 use Rattle.open_certificate.specs.declared.parts.OpenEdge.{OpenEdge}
 use Rattle.open_certificate.specs.declared.parts.OpenCorner.{OpenCorner}
 

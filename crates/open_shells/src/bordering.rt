@@ -6,15 +6,15 @@ ghost use Rattle.solid_data.specs.declared.solid.RowId.{RowId as AnyRowId};
 ghost use Rattle.std.specs.List.{AllByRecursion};
 ghost use Rattle.open_certificate.specs.Sound.{IsBorder, IsFanned};
 ghost use Rattle.open_shells.specs.Mating.{AreOnce};
-ghost use Rattle.shell_flood.specs.Reaching.{row_numbers};
+ghost use Rattle.shell_reach.specs.Reaching.{row_numbers};
 ghost use Rattle.open_shells.specs.BorderParts.{Next, AreBorderCells, IsLoop, IsBordering, AreBorderCycles};
 
 use crate::heads::note;
 use crate::mated::Mated;
-use edge_uses::{Cells, row_at};
+use edge_uses::row_at;
 use iges_base::NoMemory;
 use open_certificate::Borders;
-use solid_data::{RowId, RowList};
+use solid_data::{Cells, RowId, RowList};
 use std::alloc::Global;
 
 /// The row itself, where it is a border row.

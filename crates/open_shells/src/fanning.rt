@@ -2,8 +2,8 @@
 
 ghost use Rattle.std.specs.Prelude.{◌≡◌, ◌↔◌, ℕ, ◌<◌, ◌++◌, ◌∷◌, [], IsTrue, All, Some, None, length, slice_get, IfOk, IfErr, MatchOption};
 ghost use Rattle.std.specs.List.{AllByRecursion, AllZip};
+ghost use Rattle.solid_data.specs.Ranges.{IsWithin};
 ghost use Rattle.edge_uses.specs.RowRelations.{point_count};
-ghost use Rattle.edge_uses.specs.Ranges.{IsWithin};
 ghost use Rattle.edge_uses.specs.ShellRows.{ShellRows};
 ghost use Rattle.open_certificate.specs.Sound.{IsFan, IsFanned};
 ghost use Rattle.open_shells.specs.Mating.{AreOnce};
@@ -12,11 +12,11 @@ ghost use Rattle.open_shells.specs.FanParts.{LiesAt, IsFanFault, IsHeadOf, AreHe
 
 use crate::heads::heads_of;
 use crate::mated::Mated;
-use edge_uses::{Cells, vertex_at};
+use edge_uses::vertex_at;
 use iges_base::NoMemory;
 use open_certificate::{OpenCorner, OpenCorners};
 use shell_tables::{Points, Starts, all_points, all_starts, points_at, starts_at};
-use solid_data::{RowId, RowList, VertexId};
+use solid_data::{Cells, RowId, RowList, VertexId};
 use std::alloc::Global;
 
 /// Why vertices have no fans.

@@ -1,16 +1,16 @@
 //! Where the paths of rows round vertices begin.
 
 ghost use Rattle.std.specs.Prelude.{◌≡◌, ◌<◌, Contains, Some, None, length, IfOk, MatchOption};
-ghost use Rattle.edge_uses.specs.Cells.{with_cell};
+ghost use Rattle.solid_data.specs.Cells.{with_cell};
 ghost use Rattle.edge_uses.specs.RowRelations.{Follows};
 ghost use Rattle.open_certificate.specs.Sound.{IsBorder};
 ghost use Rattle.open_shells.specs.Mating.{AreOnce};
 ghost use Rattle.open_shells.specs.FanParts.{AreHeadCells};
 
 use crate::mated::Mated;
-use edge_uses::{Cells, row_at};
+use edge_uses::row_at;
 use iges_base::NoMemory;
-use solid_data::RowId;
+use solid_data::{Cells, RowId};
 use std::alloc::Global;
 
 /// The row that follows a border row; none where the row has a mate.

@@ -9,7 +9,7 @@ ghost use Rattle.open_certificate.specs.Sound.{IsFanned};
 ghost use Rattle.open_certificate.specs.Obligations.{AllHold, FirstFalse, as_open, edge_obligation, fan_obligation};
 ghost use Rattle.open_shells.specs.Mating.{AreRowsOf};
 ghost use Rattle.open_shells.specs.FanParts.{LiesAt};
-ghost use Rattle.shell_flood.specs.Reaching.{ReachesAll, row_numbers};
+ghost use Rattle.shell_reach.specs.Reaching.{ReachesAll, row_numbers};
 ghost use Rattle.open_shells.specs.Certified.{IsOpenFault};
 
 use crate::fanning::{FanFault, fans};
@@ -18,7 +18,7 @@ use crate::mated::{EdgeFault, Mated, with_mates};
 use crate::naming::{not_fanned, not_once, unjoined, unreached};
 use edge_uses::{Rows, first_unjoined};
 use open_certificate::{OpenCorners, OpenEdges, OpenFailing, OpenRule};
-use shell_flood::{ReachFault, reach_faces};
+use shell_reach::{ReachFault, reach_faces};
 use solid_data::{RowList, Shell, ShellAt, Solid};
 use std::alloc::Global;
 

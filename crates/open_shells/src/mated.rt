@@ -4,7 +4,7 @@ use crate::mating::{first_not_once, open_edges, open_mates};
 use edge_uses::{Rows, Tally, tally_of};
 use iges_base::NoMemory;
 use open_certificate::OpenEdges;
-use shell_flood::Mates;
+use shell_reach::Mates;
 use solid_data::{EdgeId, RowId};
 use std::alloc::Global;
 use std::marker::Model;
@@ -109,8 +109,8 @@ impl<'a> Mates for Mated<'a> {
 
 ghost use Rattle.std.specs.Prelude.{◌≡◌, IfOk, IfErr};
 ghost use Rattle.std.specs.List.{AllByRecursion, AllZip};
+ghost use Rattle.solid_data.specs.Ranges.{IsWithin};
 ghost use Rattle.edge_uses.specs.declared.row.Row.{Row as AnyRow};
-ghost use Rattle.edge_uses.specs.Ranges.{IsWithin};
 ghost use Rattle.edge_uses.specs.ShellRows.{AreRows, EndsMeet};
 ghost use Rattle.edge_uses.specs.Tally.{IsTally};
 ghost use Rattle.open_certificate.specs.Sound.{IsOnce};

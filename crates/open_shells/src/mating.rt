@@ -3,9 +3,9 @@
 ghost use Rattle.std.specs.Prelude.{◌≡◌, ◌↔◌, ◌<◌, ◌∷◌, ◌++◌, [], IsTrue, ℕ, Some, length, slice_get, IfOk, MatchOption};
 ghost use Rattle.std.specs.List.{AllByRecursion, AllZip};
 ghost use Rattle.solid_data.specs.Obligations.{FirstNot};
+ghost use Rattle.solid_data.specs.Ranges.{IsWithin};
 ghost use Rattle.edge_uses.specs.declared.row.Row.{Row as AnyRow};
 ghost use Rattle.edge_uses.specs.ShellRows.{ShellRows, AreRows, EndsMeet};
-ghost use Rattle.edge_uses.specs.Ranges.{IsWithin};
 ghost use Rattle.edge_uses.specs.Tally.{seen_of, IsSeen, IsTally};
 ghost use Rattle.open_certificate.specs.Sound.{IsOnce};
 ghost use Rattle.open_shells.specs.Mating.{AreRowsOf, IsMateOf, AreOnce, HaveOpenMates};

@@ -4,8 +4,8 @@ use Rattle.std.proofs.Common.{refl, sym, ◌∙◌, ap, subst, arith}
 use Rattle.std.proofs.lemmas.List.{get_or-replicate, length-replicate, length-set, length-take-le}
 use Rattle.std.proofs.lemmas.Option.{slice_get_within}
 use Rattle.solid_data.proofs.Members.{All-at, has_get}
-use Rattle.edge_uses.specs.Cells.{Celled, cell_of, with_cell}
-use Rattle.edge_uses.specs.Ranges.{IsWithin, IsSpanOf}
+use Rattle.solid_data.specs.Cells.{Celled, cell_of, with_cell}
+use Rattle.solid_data.specs.Ranges.{IsWithin, IsSpanOf}
 use Rattle.edge_uses.specs.ShellRows.{ShellRows, AreRows}
 use Rattle.edge_uses.specs.declared.row.Row.{Row}
 use Rattle.orient_certificate.specs.RowsByEdge.{summary, once_more, seen_of}

@@ -3,8 +3,8 @@
 ghost use Rattle.std.specs.Prelude.{◌≡◌, ◌<◌, ◌≤◌, ◌^◌, ℕ, Bool, true, map, length, slice_get, IfOk, get_or};
 ghost use Rattle.solid_data.specs.SolidData.{same_flag};
 ghost use Rattle.solid_data.specs.declared.solid.FaceUse.{FaceUse as AnyFace};
+ghost use Rattle.solid_data.specs.Ranges.{IsSpanOf};
 ghost use Rattle.edge_uses.specs.ShellRows.{AreRows};
-ghost use Rattle.edge_uses.specs.Ranges.{IsSpanOf};
 ghost use Rattle.orient_certificate.specs.Partners.{AllHaveTwoRows, ArePartners};
 ghost use Rattle.orient_certificate.specs.RowsByEdge.{AreRowsByEdge};
 ghost use Rattle.orient_certificate.specs.Crossings.{IsStep, flipped};
@@ -12,7 +12,7 @@ ghost use Rattle.orient_certificate.specs.Crossings.{IsStep, flipped};
 use crate::rows_by_edge::RowsByEdge;
 use edge_uses::{Row, Rows};
 use iges_base::NoMemory;
-use solid_data::{RowId, Shell};
+use solid_data::{RowId, Shell, same_flags};
 use std::alloc::Global;
 
 /// A row as a step from its face to that of its partner. It flips where the two faces need different flags.
@@ -35,12 +35,6 @@ pub fn flip(flips: bool, flag: bool) -> bool
     if flips { !flag } else { flag }
 }
 
-pub(crate) fn same(a: bool, b: bool) -> bool
-    ensures { result ≡ same_flag a b }
-{
-    if a { b } else { !b }
-}
-
 /// Which faces are walked as they stand: those whose flag is the shell's.
 pub(crate) fn forwards_of(alloc: Global, shell: &Shell) -> Result<Vec<bool>, NoMemory>
     ensures { IfOk result (λ v. v.items ≡ map
@@ -49,7 +43,7 @@ pub(crate) fn forwards_of(alloc: Global, shell: &Shell) -> Result<Vec<bool>, NoM
     let mut forwards = Vec::new(alloc);
     let faces = shell.faces.as_slice();
     'faces: for i in 0..faces.len() {
-        forwards.push(same(faces[i].flag, shell.flag))?;
+        forwards.push(same_flags(faces[i].flag, shell.flag))?;
     }
     Ok(forwards)
 }
@@ -59,7 +53,7 @@ fn bare(row: &Row, forwards: &[bool]) -> bool
     requires { row.now.at.face.0 < length forwards.now }
     ensures { result ≡ same_flag row.now.along (get_or forwards.now row.now.at.face.0 true) }
 {
-    same(row.along, forwards[row.at.face.0 as usize])
+    same_flags(row.along, forwards[row.at.face.0 as usize])
 }
 
 fn step_at(rows: &Rows, by_edge: &RowsByEdge<'_>, forwards: &[bool], r: u32) -> Crossing
@@ -78,7 +72,7 @@ fn step_at(rows: &Rows, by_edge: &RowsByEdge<'_>, forwards: &[bool], r: u32) -> 
         from: row.at.face.0,
         to: other.at.face.0,
         partner,
-        flips: same(bare(&row, forwards), bare(&other, forwards)),
+        flips: same_flags(bare(&row, forwards), bare(&other, forwards)),
     }
 }
 

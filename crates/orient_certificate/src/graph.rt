@@ -2,11 +2,11 @@
 
 ghost use Rattle.std.specs.Prelude.{◌≡◌, ◌<◌, length, slice_get, IfOk, IfErr, IfSome, Some};
 ghost use Rattle.solid_data.specs.Numbering.{IsNumberedSolid};
+ghost use Rattle.solid_data.specs.Ranges.{IsSpanOf};
 ghost use Rattle.orient_certificate.specs.Outcome.{CountFails, IsFault};
 ghost use Rattle.orient_certificate.specs.Graph.{AreStepsOf, IsGraphOf};
 ghost use Rattle.orient_certificate.specs.Flags.{face_flags, rows_at};
 ghost use Rattle.orient_certificate.specs.RowsByEdge.{AreRowsByEdge};
-ghost use Rattle.edge_uses.specs.Ranges.{IsSpanOf};
 ghost use Rattle.edge_uses.specs.ShellRows.{AreRows};
 
 use crate::crossing::{Crossing, forwards_of, steps_of};

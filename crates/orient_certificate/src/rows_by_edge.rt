@@ -3,16 +3,16 @@
 ghost use Rattle.std.specs.Prelude.{◌≡◌, ◌<◌, Contains, IfOk, MatchOption, if◌then◌else◌, ◌==◌};
 ghost use Rattle.std.specs.List.{AllByRecursion};
 ghost use Rattle.solid_data.specs.Obligations.{FirstNot};
-ghost use Rattle.edge_uses.specs.Cells.{cell_of, with_cell};
-ghost use Rattle.edge_uses.specs.Ranges.{IsWithin, IsSpanOf};
+ghost use Rattle.solid_data.specs.Cells.{cell_of, with_cell};
+ghost use Rattle.solid_data.specs.Ranges.{IsWithin, IsSpanOf};
 ghost use Rattle.edge_uses.specs.ShellRows.{AreRows};
 ghost use Rattle.orient_certificate.specs.Partners.{HasTwoRows};
 ghost use Rattle.orient_certificate.specs.RowsByEdge.{once_more, seen_of, AreRowsByEdge};
 ghost use Rattle.solid_data.specs.declared.TheConstants.{PART_LIMIT};
 
-use edge_uses::{Cells, Row, Rows};
+use edge_uses::{Row, Rows};
 use iges_base::NoMemory;
-use solid_data::{EdgeId, RowId};
+use solid_data::{Cells, EdgeId, RowId};
 use std::alloc::Global;
 use std::marker::Model;
 
@@ -84,7 +84,7 @@ pub(crate) fn rows_by_edge_of(alloc: Global, rows: &Rows) -> Result<RowsByEdge<'
 
 impl<'a> RowsByEdge<'a> {
     ghost use Rattle.std.specs.Prelude.{◌≡◌, ◌==◌, if◌then◌else◌};
-    ghost use Rattle.edge_uses.specs.Ranges.{IsWithin};
+    ghost use Rattle.solid_data.specs.Ranges.{IsWithin};
     ghost use Rattle.orient_certificate.specs.RowsByEdge.{seen_of};
 
     /// What was seen of an edge of the range.

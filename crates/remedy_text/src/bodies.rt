@@ -2,15 +2,14 @@
 
 ghost use Rattle.std.specs.Prelude.{◌≡◌, ◌≤◌, ◌<◌, ◌++◌, [], All, IfOk, IfSome, IsNone, OnOk, flat_map, map, option_copied, ◌↔◌};
 ghost use Rattle.std.specs.List.{enumerate_from};
-ghost use Rattle.edge_uses.specs.Ranges.{IsWithin};
+ghost use Rattle.solid_data.specs.Ranges.{IsWithin};
 ghost use Rattle.remedy_text.specs.Bodies.{bodies as are_bodies, body_at, body_if, if_several, kept as are_kept, kept_if, piece_of};
 ghost use Rattle.remedy_text.specs.Told.{told_if};
 
-use edge_uses::Span;
 use iges_base::{EntryNo, ItemList, NoMemory};
 use shell_change::Fate;
 use shell_components::{Groups, grouped};
-use solid_data::FaceUse;
+use solid_data::{FaceUse, Span};
 use std::alloc::Global;
 
 /// A face that is kept, and its piece.

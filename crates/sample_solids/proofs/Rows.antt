@@ -8,6 +8,7 @@ use Rattle.std.proofs.lemmas.List.{length-map}
 use Rattle.std.proofs.lemmas.List.FromFn.{length-enumerate_from}
 use Rattle.std.proofs.lemmas.Nat.{div-add-mod', div_below}
 use Rattle.std.proofs.lemmas.Option.{same_Some, slice_get_within}
+use Rattle.solid_data.proofs.Occurs.{from_occurring}
 use Rattle.iges_params.specs.Contents.{Contents}
 use Rattle.brep_lists.specs.Record.{LoopTuple}
 use Rattle.brep_walk.specs.Places.{faces}
@@ -28,7 +29,6 @@ use Rattle.edge_uses.specs.Joins.{begin_of, start_of as starts_at, end_of as end
 use Rattle.edge_uses.specs.Around.{IsReached}
 use Rattle.shell_rules.specs.Closed.{IsClosedShell, IsClosedSolid}
 use Rattle.solid_data.proofs.Members.{Has, All-from, from_flat_map, has_map, from_enumerated}
-use Rattle.edge_uses.proofs.Occurs.{from_occurring}
 use Rattle.sample_solids.specs.Sample.{squares, face_number, sample}
 use Rattle.sample_solids.proofs.Squares.{get_right, get_chunk, get_map, length_chunks, length_squares, squares_get, squares_below, only_one}
 use Rattle.sample_solids.proofs.Mesh.{Side, near, right, far, left, place, after, is_along, vertex, edge_of, start_of, number, side_row, IsMesh, mesh_paired}

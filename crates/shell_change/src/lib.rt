@@ -21,9 +21,5 @@ pub use change::{
 };
 pub use geometry::{ArcKnown, CurveKnown, Geometry, Known};
 pub use keeping::keeps_geometry;
-pub use loops::{faces_fit, item_at};
-pub use moves::{Step, move_fits};
+pub use loops::item_at;
 pub use pieces::pieces_in_order;
-pub use seams::seam_fits;
-pub use tracks::Track;
-pub use uses::{new_edge_fits, use_fits};

@@ -7,8 +7,8 @@ ghost use Rattle.shell_change.specs.Fits.{opposite_use, reversed_uses, uses_befo
 
 use crate::change::{Change, Fate, LoopNow, UseNow};
 use crate::geometry::Geometry;
-use crate::uses::{same, use_fits};
-use solid_data::{FaceUse, Loop, LoopUse, Solid};
+use crate::uses::use_fits;
+use solid_data::{FaceUse, Loop, LoopUse, Solid, same_flags};
 
 /// The item at a place.
 pub fn item_at<T>(items: &[T], i: usize) -> &T
@@ -47,7 +47,7 @@ fn same_use(a: LoopUse, b: LoopUse) -> bool
 {
     match (a, b) {
         (LoopUse::EdgeUse { edge: e, along: m }, LoopUse::EdgeUse { edge: f, along: n }) => {
-            e.0 == f.0 && same(m, n)
+            e.0 == f.0 && same_flags(m, n)
         }
         (LoopUse::VertexUse { vertex: v }, LoopUse::VertexUse { vertex: w }) => v.0 == w.0,
         _ => false,

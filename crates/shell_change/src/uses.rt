@@ -1,20 +1,12 @@
 //! What a use of a loop may be after the change, and what a new edge may be.
 
 ghost use Rattle.std.specs.Prelude.{◌≡◌, ◌↔◌, IsTrue, option_copied};
-ghost use Rattle.solid_data.specs.SolidData.{same_flag};
 ghost use Rattle.shell_change.specs.UseFits.{leads as leads_to, end_goes as goes, sews as sews_to, curve_goes as curve_is_had, equal_records as have_equal_records, same_curve as has_same_curve, at_one_place as is_at_one_place, flag_goes as flag_is_had, EdgeUseFits, EdgeKnownFits, end_known as known_goes, UseFits, NewEdgeFits};
 
 use crate::change::{Change, EdgeNow, Move, NewEdge, Seam, UseNow};
 use crate::geometry::{CurveKnown, Geometry};
 use crate::tracks::{Track, curve_of, edge_track, known_end, old_place, place, run, track_of};
-use solid_data::{EdgeId, LoopUse, Solid};
-
-/// Whether two flags are the same.
-pub fn same(a: bool, b: bool) -> bool
-    ensures { result ≡ same_flag a b }
-{
-    if a { b } else { !b }
-}
+use solid_data::{EdgeId, LoopUse, Solid, same_flags};
 
 fn leads(item: Option<&Move>, p: u32, q: u32) -> bool
     ensures { result ≡ leads_to (option_copied item.entry) p q }
@@ -79,7 +71,7 @@ fn flag_goes(same_curve: bool, stays: bool, turned: bool) -> bool
     if same_curve {
         stays && !turned
     } else {
-        same(stays, !turned)
+        same_flags(stays, !turned)
     }
 }
 
@@ -99,7 +91,7 @@ fn edge_use_fits(
     curve_goes(change, item.seam, a.curve, b.curve)
         && end_goes(change, item.start_by, ran.from, b.from)
         && end_goes(change, item.end_by, ran.to, b.to)
-        && (!flag_tells || flag_goes(equal, same(along, item.along), item.turned))
+        && (!flag_tells || flag_goes(equal, same_flags(along, item.along), item.turned))
 }
 
 fn edge_known_fits(

@@ -1,12 +1,12 @@
 //! The edges and the vertices that faces use.
 
-ghost use Rattle.std.specs.Prelude.{◌≡◌, ◌++◌, ◌∷◌, [], IfOk, flat_map, option_copied};
-ghost use Rattle.solid_data.specs.SolidData.{edge_used, vertices_used, ends_of};
-ghost use Rattle.edge_uses.specs.Before.{loop_vertices, face_vertices};
-ghost use Rattle.shell_components.specs.FaceUses.{loop_edges, face_edges, AddedFaces};
+ghost use Rattle.std.specs.Prelude.{◌≡◌, ◌∷◌, [], IfOk};
+ghost use Rattle.edge_uses.specs.Before.{face_vertices};
+ghost use Rattle.shell_components.specs.FaceUses.{face_edges, AddedFaces};
 
+use edge_uses::push_all_used;
 use iges_base::NoMemory;
-use solid_data::{Edge, FaceUse, Loop, LoopUse, Solid};
+use solid_data::{FaceUse, Solid};
 use std::alloc::Global;
 
 /// The edges and the vertices of some faces, each once for each use.
@@ -29,65 +29,13 @@ pub fn nothing_used(alloc: Global) -> Used
     }
 }
 
-// Appends the start and the end of an edge, whatever the direction of its use.
-fn push_ends(edge: Option<&Edge>, vertices: &mut Vec<u32>) -> Result<(), NoMemory>
-    ensures { IfOk result (λ _. vertices.new.items
-        ≡ vertices.old.items ++ ends_of (option_copied edge.entry)) }
-{
-    if let Some(edge) = edge {
-        vertices.push(edge.from.0)?;
-        vertices.push(edge.to.0)?;
-    }
-    Ok(())
-}
-
-// Appends what one use uses: an edge and both its ends, or a vertex.
-fn push_used(
-    solid: &Solid,
-    item: LoopUse,
-    edges: &mut Vec<u32>,
-    vertices: &mut Vec<u32>,
-) -> Result<(), NoMemory>
-    ensures edges { IfOk result (λ _. edges.new.items ≡ edges.old.items ++ edge_used item) }
-    ensures vertices { IfOk result (λ _. vertices.new.items
-        ≡ vertices.old.items ++ vertices_used solid.now item) }
-{
-    match item {
-        LoopUse::EdgeUse { edge, .. } => {
-            edges.push(edge.0)?;
-            push_ends(solid.edge(edge), vertices)
-        }
-        LoopUse::VertexUse { vertex } => {
-            vertices.push(vertex.0)?;
-            Ok(())
-        }
-    }
-}
-
-fn push_loop(
-    solid: &Solid,
-    walk: &Loop,
-    edges: &mut Vec<u32>,
-    vertices: &mut Vec<u32>,
-) -> Result<(), NoMemory>
-    ensures edges { IfOk result (λ _. edges.new.items ≡ edges.old.items ++ loop_edges walk.now) }
-    ensures vertices { IfOk result (λ _. vertices.new.items
-        ≡ vertices.old.items ++ loop_vertices solid.now walk.now) }
-{
-    let uses = walk.uses.as_slice();
-    'uses: for i in 0..uses.len() {
-        push_used(solid, uses[i], edges, vertices)?;
-    }
-    Ok(())
-}
-
 /// Adds what a face uses, in the order of its loops and their tuples (IGES 5.3, 4.147 and 4.148).
 pub fn add_face(solid: &Solid, face: &FaceUse, used: &mut Used) -> Result<(), NoMemory>
     ensures { IfOk result (λ _. AddedFaces solid.now used.old used.new (face.now ∷ [])) }
 {
     let loops = face.loops.as_slice();
     'loops: for i in 0..loops.len() {
-        push_loop(solid, &loops[i], &mut used.edges, &mut used.vertices)?;
+        push_all_used(solid, &loops[i], &mut used.edges, &mut used.vertices)?;
     }
     Ok(())
 }

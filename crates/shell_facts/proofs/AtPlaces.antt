@@ -1,13 +1,10 @@
 -- Items at the places of a number.
-use Rattle.std.specs.Prelude.{◌≡◌, ◌<◌, ◌+◌, ◌==◌, ℕ, suc, Bool, true, false, List, [], ◌∷◌, ◌++◌, length, map, flat_map, slice_get, Option, Some, All}
+use Rattle.std.specs.Prelude.{◌≡◌, ◌<◌, ◌+◌, ◌==◌, ℕ, suc, Bool, true, false, List, [], ◌∷◌, ◌++◌, length, map, flat_map, slice_get, Option, Some}
 use Rattle.std.specs.Prelude.{if◌then◌else◌}
 use Rattle.std.specs.List.{enumerate_from}
-use Rattle.std.proofs.Common.{refl, sym, ◌∙◌, ap, subst, arith, inl, inr}
-use Rattle.solid_data.proofs.Members.{Has, Contains-from_Has}
+use Rattle.std.proofs.Common.{refl, sym, ◌∙◌, ap, arith, inl, inr}
+use Rattle.solid_data.proofs.Members.{Has}
 use Rattle.shell_components.specs.Groups.{place_if, places_of}
-
-pub all_at : (P : ℕ → Type 0) (xs : List ℕ) (x : ℕ) → All P xs → Has xs x → P x
-all_at P xs x h m = let c = Contains-from_Has xs x m in subst P c.2 (h c.0 x c.1)
 
 read_from : {A B : Type 0} (v i : ℕ) (key : A → ℕ) (g : Option A → List B) (ts all : List A) → ((j : ℕ) → slice_get all (i + j) ≡ slice_get ts j)
     → flat_map (λ n. g (slice_get all n)) (flat_map (place_if v) (enumerate_from i (map key ts))) ≡ flat_map (λ t. if key t == v then g (Some t) else []) ts

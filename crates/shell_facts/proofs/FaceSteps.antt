@@ -9,20 +9,17 @@ use Rattle.std.proofs.lemmas.List.{append-nil, length-append, length-map}
 use Rattle.iges_base.specs.declared.entry_no.EntryNo.{EntryNo}
 use Rattle.solid_data.specs.Numbering.{IsNumberedSolid}
 use Rattle.solid_data.specs.Ring.{numbers_from}
-use Rattle.solid_data.specs.SolidData.{SolidData, occurring, shell_uses, vertices_used, ends_of}
-use Rattle.solid_data.specs.declared.solid.Edge.{Edge}
+use Rattle.solid_data.specs.SolidData.{SolidData, occurring, shell_uses}
 use Rattle.solid_data.specs.declared.solid.FaceUse.{FaceUse}
-use Rattle.solid_data.specs.declared.solid.LoopUse.{LoopUse}
-use Rattle.solid_data.specs.declared.solid.LoopUse.TheVariants.{EdgeUse, VertexUse}
 use Rattle.solid_data.specs.declared.solid.Shell.{Shell}
 use Rattle.solid_data.proofs.Members.{Has, rises_none, no_longer, has_get, has_map, from_flat_map}
 use Rattle.solid_data.proofs.Occurring.{numbers_rise, occurring_rises, number_below}
+use Rattle.solid_data.specs.Ranges.{IsWithin}
+use Rattle.solid_data.specs.declared.spanning.Span.{Span}
+use Rattle.solid_data.proofs.Occurs.{from_occurring}
 use Rattle.edge_uses.specs.Before.{face_vertices, faces_vertices}
-use Rattle.edge_uses.specs.Ranges.{IsWithin}
-use Rattle.edge_uses.specs.declared.spanning.Span.{Span}
 use Rattle.edge_uses.proofs.Above.{shell_flat}
-use Rattle.edge_uses.proofs.Occurs.{from_occurring}
-use Rattle.edge_uses.proofs.Whole.{vertices_known}
+use Rattle.edge_uses.proofs.Whole.{vertices_known, vertices_shorter}
 use Rattle.shell_components.specs.Groups.{places_of}
 use Rattle.solid_faults.proofs.GapSteps.{flat_of_map}
 use Rattle.shell_facts.proofs.PartSteps.{all_from}
@@ -184,18 +181,6 @@ faces_fit s j (f ∷ fs) =
       length-append (face_vertices s f) (flat_map (face_vertices s) fs),
     )
 
-ends_short : (o : Option Edge) → length (ends_of o) ≤ 2
-ends_short None = omega arith
-ends_short (Some e) = omega arith
-
-use_short : (s : SolidData) (u : LoopUse) → length (vertices_used s u) ≤ 2
-use_short s (EdgeUse edge along) = ends_short (slice_get s.edges edge.0)
-use_short s (VertexUse vertex) = omega arith
-
-uses_short : (s : SolidData) (us : List LoopUse) → length (flat_map (vertices_used s) us) ≤ 2 * length us
-uses_short s [] = omega arith
-uses_short s (u ∷ us) = omega (arith, uses_short s us, use_short s u, length-append (vertices_used s u) (flat_map (vertices_used s) us))
-
 shells_fit : (s : SolidData) (i : ℕ) (hs : List Shell) → length (flat_map (shell_touches s) (enumerate_from i hs)) ≤ 2 * length (flat_map shell_uses hs)
 shells_fit s i [] = omega arith
 shells_fit s i (h ∷ hs) =
@@ -204,7 +189,7 @@ shells_fit s i (h ∷ hs) =
       shells_fit s (i + 1) hs,
       faces_fit s i h.faces,
       ap (length {A = ℕ}) (shell_flat s h),
-      uses_short s (shell_uses h),
+      vertices_shorter s (shell_uses h),
       length-append
           (shell_touches s (i, h)) (flat_map (shell_touches s) (enumerate_from (i + 1) hs)),
       length-append (shell_uses h) (flat_map shell_uses hs),

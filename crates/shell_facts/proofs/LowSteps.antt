@@ -8,10 +8,10 @@ use Rattle.std.proofs.lemmas.List.Elements.{All-get_or}
 use Rattle.std.proofs.lemmas.List.Folds.{list_any-append}
 use Rattle.solid_data.specs.SolidData.{SolidData}
 use Rattle.solid_data.specs.declared.solid.FaceUse.{FaceUse}
+use Rattle.solid_data.specs.Cells.{Celled}
+use Rattle.solid_data.specs.Ranges.{IsWithin, IsSpanOf}
+use Rattle.solid_data.specs.declared.spanning.Span.{Span}
 use Rattle.edge_uses.specs.Before.{face_vertices}
-use Rattle.edge_uses.specs.Cells.{Celled}
-use Rattle.edge_uses.specs.Ranges.{IsWithin, IsSpanOf}
-use Rattle.edge_uses.specs.declared.spanning.Span.{Span}
 use Rattle.shell_components.specs.Trees.{AreTrees}
 use Rattle.shell_facts.specs.PartFacts.{faces_where}
 use Rattle.shell_facts.specs.PartTables.{is_low, AreKept, AreMarks}

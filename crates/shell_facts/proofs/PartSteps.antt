@@ -19,15 +19,15 @@ use Rattle.std.proofs.lemmas.List.Elements.{All-from_recursion}
 use Rattle.solid_data.proofs.Members.{Has, All-from, Contains-from_Has, Has-from_Contains, Has-from_place, has_flat_map, has_map, from_flat_map, get_some}
 use Rattle.solid_data.proofs.Occurring.{length-numbers, occurs}
 use Rattle.solid_data.proofs.Trail.{leads_here}
-use Rattle.edge_uses.specs.declared.spanning.Span.{Span}
+use Rattle.solid_data.specs.declared.spanning.Span.{Span}
+use Rattle.solid_data.specs.Cells.{Celled}
+use Rattle.solid_data.specs.Ranges.{IsWithin, IsSpanOf}
+use Rattle.solid_data.proofs.Occurs.{all_at, from_occurring}
 use Rattle.edge_uses.specs.Before.{face_vertices, faces_vertices}
 use Rattle.edge_uses.specs.Building.{HasKnownParts, uses_in}
-use Rattle.edge_uses.specs.Cells.{Celled}
 use Rattle.edge_uses.specs.RowRelations.{row_count}
-use Rattle.edge_uses.specs.Ranges.{IsWithin, IsSpanOf}
 use Rattle.edge_uses.specs.ShellRows.{ShellRows, shell_rows, rows_of}
 use Rattle.edge_uses.proofs.Above.{shell_flat}
-use Rattle.edge_uses.proofs.Occurs.{from_occurring}
 use Rattle.edge_uses.proofs.Whole.{few_edges, vertices_known}
 use Rattle.solid_faults.specs.Edges.{unpaired_at, edge_unpaired, unpaired_of}
 use Rattle.shell_components.specs.FaceUses.{loop_edges, face_edges}
@@ -65,13 +65,10 @@ none_placed n xs h = places_from n 0 xs h
 pub placed_none : (n : ℕ) (xs : List ℕ) → places_of n xs ≡ [] → list_any (λ m. m == n) xs ≡ false
 placed_none n xs h = some_place n 0 xs h
 
--- what holds of all that faces use holds of what one uses
-all_at : (P : ℕ → Type 0) (xs : List ℕ) (x : ℕ) → All P xs → Has xs x → P x
-all_at P xs x h m = let c = Contains-from_Has xs x m in subst P c.2 (h c.0 x c.1)
-
 pub all_from : (P : ℕ → Type 0) (xs : List ℕ) → ((x : ℕ) → Has xs x → P x) → All P xs
 all_from P xs h = All-from_recursion P xs (All-from P xs h)
 
+-- what holds of all that faces use holds of what one uses
 pub all_of_part : {A : Type 0} (P : ℕ → Type 0) (g : A → List ℕ) (xs : List A) (x : A) (i : ℕ) → All P (flat_map g xs) → i < length xs → get_or xs i x ≡ x
     → All P (g x)
 all_of_part P g xs x i h lt at = all_from P (g x) (λ y m. all_at P (flat_map g xs) y h (has_flat_map g xs x y (Has-from_place xs x i lt at) m))

@@ -11,11 +11,12 @@ use Rattle.solid_data.specs.declared.solid.EdgeId.{EdgeId}
 use Rattle.solid_data.specs.declared.solid.LoopAt.{LoopAt}
 use Rattle.solid_data.proofs.Members.{Has, Has-from_Contains, Has-from_place, all_has, get_some, has_flat_map, has_map, from_flat_map}
 use Rattle.solid_data.proofs.Trail.{leads_here}
+use Rattle.solid_data.proofs.Occurs.{all_at}
+use Rattle.solid_data.specs.declared.spanning.Span.{Span}
+use Rattle.solid_data.specs.Ranges.{IsWithin, IsSpanOf}
 use Rattle.edge_uses.specs.declared.row.Row.{Row}
-use Rattle.edge_uses.specs.declared.spanning.Span.{Span}
 use Rattle.edge_uses.specs.RowRelations.{AreMates, Turns}
 use Rattle.edge_uses.specs.Mates.{AreInvolution}
-use Rattle.edge_uses.specs.Ranges.{IsWithin, IsSpanOf}
 use Rattle.edge_uses.specs.ShellRows.{ShellRows, AreRows}
 use Rattle.edge_uses.proofs.Joins.{split_drop}
 use Rattle.edge_uses.proofs.Steps.{default_apart}
@@ -26,7 +27,7 @@ use Rattle.solid_faults.proofs.GapSteps.{piece_more}
 use Rattle.shell_facts.proofs.PartSteps.{all_from}
 use Rattle.shell_facts.specs.FanFacts.{mate_if, mates_of, turn_of, least_if, by_turns, on_fan, on_fans, fan_rows, alone_if, alone_numbered, alone_at}
 use Rattle.shell_facts.specs.declared.turning.AtVertex.{AtVertex}
-use Rattle.shell_facts.proofs.AtPlaces.{all_at, places_read, place_below}
+use Rattle.shell_facts.proofs.AtPlaces.{places_read, place_below}
 
 enumerated_has : {A : Type 0} (i k : ℕ) (xs : List A) (x : A) → slice_get xs k ≡ Some x → Has (enumerate_from i xs) (i + k, x)
 enumerated_has i k [] x at = absurd cc

@@ -14,11 +14,12 @@ use Rattle.solid_data.specs.SolidData.{SolidData, occurring}
 use Rattle.solid_data.specs.declared.solid.FaceUse.{FaceUse}
 use Rattle.solid_data.specs.declared.solid.Shell.{Shell}
 use Rattle.solid_data.proofs.Members.{Has, has_map, from_flat_map, get_some, get_single, length-singles}
+use Rattle.solid_data.proofs.Occurs.{all_at}
 use Rattle.edge_uses.specs.Before.{face_vertices}
 use Rattle.shell_components.specs.Groups.{place_if, places_of}
 use Rattle.shell_facts.proofs.PartSteps.{all_from}
 use Rattle.shell_facts.proofs.FaceSteps.{kept_at, kept_from, told_up_to}
-use Rattle.shell_facts.proofs.AtPlaces.{all_at, place_below}
+use Rattle.shell_facts.proofs.AtPlaces.{place_below}
 use Rattle.shell_facts.specs.FaceTable.{at_vertex, face_touches, shell_touches, touches_of, vertex_of, listed_at, listed_from, shell_if, shell_there}
 use Rattle.shell_facts.specs.VertexFaces.{faces_up_to}
 use Rattle.shell_facts.specs.declared.faces.FaceAtVertex.{FaceAtVertex}

@@ -5,10 +5,10 @@ use Rattle.std.specs.List.{list_any}
 use Rattle.solid_data.specs.SolidData.{SolidData}
 use Rattle.solid_data.specs.declared.solid.FaceUse.{FaceUse}
 use Rattle.solid_data.specs.declared.solid.Shell.{Shell}
+use Rattle.solid_data.specs.Cells.{Celled, cell_of}
+use Rattle.solid_data.specs.Ranges.{IsWithin, IsSpanOf}
 use Rattle.edge_uses.specs.Before.{face_vertices, faces_vertices}
 use Rattle.edge_uses.specs.Building.{HasKnownParts}
-use Rattle.edge_uses.specs.Cells.{Celled, cell_of}
-use Rattle.edge_uses.specs.Ranges.{IsWithin, IsSpanOf}
 use Rattle.shell_facts.specs.PartFacts.{faces_before}
 use Rattle.solid_faults.specs.declared.edge.Unpaired.{Unpaired}
 

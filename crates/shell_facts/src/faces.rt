@@ -5,10 +5,9 @@ ghost use Rattle.std.specs.List.Sorted.{IsNonDecreasingBy, IsPartitionPoint};
 ghost use Rattle.edge_uses.specs.Before.{face_vertices, faces_vertices};
 ghost use Rattle.shell_facts.specs.FaceTable.{at_vertex, face_touches, shell_there, shell_touches, listed_from, touches_of, vertex_of};
 
-use edge_uses::Span;
 use iges_base::{EntryNo, NoMemory};
 use shell_components::{Groups, Used, grouped, nothing_used, rise, used_by};
-use solid_data::{FaceUse, Shell, ShellAt, Solid, VertexId};
+use solid_data::{FaceUse, Shell, ShellAt, Solid, Span, VertexId};
 use std::alloc::Global;
 use std::marker::Model;
 

@@ -3,9 +3,9 @@
 ghost use Rattle.std.specs.Prelude.{◌≡◌, ◌<◌, ◌^◌, IfOk, length};
 ghost use Rattle.shell_components.specs.Trees.{AreTrees};
 
-use edge_uses::Span;
 use iges_base::NoMemory;
 use shell_components::{Groups, grouped};
+use solid_data::Span;
 use std::alloc::Global;
 
 /// The places in a list by the numbers there, as the faces of each part, or the rows of each fan, which is named by its

@@ -5,8 +5,8 @@ ghost use Rattle.std.specs.List.{list_any};
 ghost use Rattle.std.specs.List.Sorted.{IsStrictlyIncreasing};
 ghost use Rattle.solid_data.specs.SolidData.{occurring};
 ghost use Rattle.solid_data.specs.declared.solid.Shell.{Shell as AnyShell};
+ghost use Rattle.solid_data.specs.Ranges.{IsSpanOf, IsWithin};
 ghost use Rattle.edge_uses.specs.Before.{face_vertices, faces_vertices};
-ghost use Rattle.edge_uses.specs.Ranges.{IsSpanOf, IsWithin};
 ghost use Rattle.edge_uses.specs.ShellRows.{rows_of};
 ghost use Rattle.solid_faults.specs.Edges.{unpaired_of};
 ghost use Rattle.shell_facts.specs.PartFacts.{parts_of};
@@ -18,10 +18,10 @@ ghost use Rattle.std.specs.Option.{option_to_list};
 ghost use Rattle.solid_faults.specs.declared.edge.Unpaired.{Unpaired as AnyUnpaired};
 
 use crate::grouping::by_least;
-use edge_uses::{Cells, Rows};
+use edge_uses::Rows;
 use iges_base::{EntryNo, NoMemory};
 use shell_components::{Groups, Used, add_face, grouped, nothing_used, rise, used_by};
-use solid_data::{FaceUse, Shell, ShellAt, Solid};
+use solid_data::{Cells, FaceUse, Shell, ShellAt, Solid, push_if};
 use solid_faults::Unpaired;
 use std::alloc::Global;
 use std::marker::Model;
@@ -172,15 +172,6 @@ pub fn part_tables<'a>(
         by_edge,
         lows,
     })
-}
-
-fn push_if(out: &mut Vec<u32>, wanted: bool, n: u32) -> Result<(), NoMemory>
-    ensures { IfOk result (λ _. out.new.items ≡ out.old.items ++ (if wanted then n ∷ [] else [])) }
-{
-    if wanted {
-        out.push(n)?;
-    }
-    Ok(())
 }
 
 /// The parts of a shell, of which each face has the first one of its part: each by its first face, in order.

@@ -13,7 +13,7 @@ ghost use Rattle.shell_facts.specs.RowPlaces.{place_of_row, use_places, loop_pla
 ghost use Rattle.solid_data.specs.declared.TheConstants.{PART_LIMIT};
 
 use iges_base::{EntryNo, NoMemory};
-use solid_data::{Edge, FaceUse, Loop, LoopUse, Shell, ShellAt, Solid};
+use solid_data::{Edge, FaceUse, Loop, LoopUse, Shell, ShellAt, Solid, same_flags};
 use std::alloc::Global;
 
 /// Where a row of a shell is in the file, and by which flags it runs (IGES 5.3, 4.147 to 4.149).
@@ -33,12 +33,6 @@ pub struct RowPlace {
     pub flag: bool,
 }
 
-fn same(a: bool, b: bool) -> bool
-    ensures { result ≡ same_flag a b }
-{
-    if a { b } else { !b }
-}
-
 // The place of an edge use, if the solid has the edge.
 fn place_on(
     face: &FaceUse,
@@ -55,7 +49,7 @@ fn place_on(
 {
     edge?;
     Some(RowPlace {
-        along: same(flag, forwards),
+        along: same_flags(flag, forwards),
         face: face.entity,
         face_flag: face.flag,
         walk: walk.entity,
@@ -125,7 +119,7 @@ fn push_face_places(
     ensures { IfOk result (λ _. out.new.items
         ≡ out.old.items ++ face_places solid.now shell_flag (at, face.now)) }
 {
-    let forwards = same(face.flag, shell_flag);
+    let forwards = same_flags(face.flag, shell_flag);
     let loops = face.loops.as_slice();
     'loops: for i in 0..loops.len() {
         push_loop_places(solid, face, &loops[i], forwards, out)?;

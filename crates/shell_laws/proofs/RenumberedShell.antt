@@ -20,13 +20,13 @@ use Rattle.solid_data.proofs.Members.{Has, Has-from_Contains, Contains-from_Has,
 use Rattle.solid_data.proofs.Members.{map_has}
 use Rattle.solid_data.proofs.Members.{total, count_by-total}
 use Rattle.solid_data.proofs.Occurring.{occurs, VerticesKnown}
+use Rattle.solid_data.proofs.Occurs.{from_occurring}
 use Rattle.edge_uses.specs.declared.row.Row.{Row}
 use Rattle.edge_uses.specs.ShellRows.{ShellRows, shell_rows}
 use Rattle.edge_uses.specs.Joins.{IsJoined, begin_of, start_of, end_of}
 use Rattle.edge_uses.specs.RowRelations.{IsPaired, AreMates, Turns, StartsAt, OnFace, point_count}
 use Rattle.edge_uses.specs.Around.{IsLinked, AreNeighbours, IsReached}
 use Rattle.edge_uses.specs.Before.{IsApart}
-use Rattle.edge_uses.proofs.Occurs.{from_occurring}
 use Rattle.edge_uses.proofs.RowFacts.{edges_known, starts_known, points_known}
 use Rattle.edge_uses.proofs.Turn.{edge_id}
 use Rattle.shell_rules.specs.Closed.{IsClosedShell}

@@ -14,9 +14,9 @@ use Rattle.edge_uses.specs.RowRelations.{AreMates, OnFace}
 use Rattle.edge_uses.specs.Mates.{HaveMates}
 use Rattle.edge_uses.proofs.Turn.{one_mate, paired_rows}
 use Rattle.edge_uses.proofs.Turns.{mates_back}
-use Rattle.shell_flood.specs.Reaching.{ReachesOne, ReachFrom, face_of, across, on_new_faces}
+use Rattle.shell_reach.specs.Reaching.{ReachesOne, ReachFrom, face_of, across, on_new_faces}
 use Rattle.shell_reach.specs.Laws.{OneReachOrder}
-use Rattle.shell_flood.proofs.Crossings.{face_is, mate_is, on_new_append}
+use Rattle.shell_reach.proofs.Crossings.{face_is, mate_is, on_new_append}
 
 one_mates : (d : ShellRows) (a b : List ℕ) → HaveMates d a → HaveMates d b → a ≡ b
 one_mates d a b h k =
@@ -24,7 +24,7 @@ one_mates d a b h k =
     (λ i low. one_mate d (paired_rows d h.whole) i (get_or a i 0) (get_or b i 0) (h.mate i (get_or a i 0) (slice_get-get_or a i 0 low))
     (k.mate i (get_or b i 0) (slice_get-get_or b i 0 (omega (arith, low, h.each, k.each)))))
 
-passes : (p : ℕ → Bool) (xs : List ℕ) (x : ℕ) → Has xs x → p x ≡ true → Has (filter p xs) x
+pub passes : (p : ℕ → Bool) (xs : List ℕ) (x : ℕ) → Has xs x → p x ≡ true → Has (filter p xs) x
 passes p [] x h e = absurd h
 passes p (y ∷ xs) x (inl same) e = subst (λ b. Has (cond b (y ∷ filter p xs) (filter p xs)) x) (sym (ap p same ∙ e)) (inl same)
 passes p (y ∷ xs) x (inr h) e = by_test (p y) (passes p xs x h e)

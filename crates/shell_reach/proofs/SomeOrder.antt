@@ -14,12 +14,13 @@ use Rattle.edge_uses.specs.RowRelations.{AreMates, OnFace}
 use Rattle.edge_uses.specs.Around.{IsReached}
 use Rattle.edge_uses.specs.Mates.{ArePaired, HaveMates}
 use Rattle.edge_uses.proofs.Turn.{has_mate, paired_rows}
-use Rattle.shell_flood.specs.Reaching.{ReachesAll, face_of, across, on_new_faces, IsBreadthFirst}
+use Rattle.shell_reach.specs.Reaching.{ReachesAll, face_of, across, on_new_faces, IsBreadthFirst}
 use Rattle.shell_reach.specs.Laws.{SomeReachOrder}
-use Rattle.shell_flood.specs.Flood.{IsFlood, IsDone, Grows, HasCrossed, across_all, across_place}
-use Rattle.shell_flood.proofs.Crossings.{face_is, on_its_face, some_mates, crosses_old, crosses_new, across_past, across_there, place_more}
-use Rattle.shell_flood.proofs.Floods.{paired_one, grows_none, grows_more, still_has, crossed_before, crossed_now, flood_more, flood_first, order_few, each_done, place_done}
-use Rattle.shell_flood.proofs.Floods.{place_is, flood_reaches}
+use Rattle.shell_reach.specs.Flood.{IsFlood, IsDone, Grows, HasCrossed, across_all, across_place}
+use Rattle.shell_reach.proofs.Crossings.{face_is, on_its_face, some_mates, crosses_old, crosses_new, across_past, across_there, place_more}
+use Rattle.shell_reach.proofs.Floods.{paired_one, grows_none, grows_more, still_has, crossed_before, crossed_now, flood_more, flood_first, order_few, each_done, place_done}
+use Rattle.shell_reach.proofs.Floods.{place_is, flood_reaches}
+use Rattle.shell_reach.proofs.OneOrder.{passes}
 
 -- these rows were crossed, and the faces that are listed are reached
 record Flooded (d : ShellRows) (crossed order : List ℕ) : Type 0 where
@@ -97,15 +98,6 @@ filtered p (y ∷ xs) x h = by_test (p y) refl h (filtered p xs x)
     by_test true e (inl same) later = (inl same, ap p (sym same) ∙ e)
     by_test true e (inr m) later = (inr (later m).0, (later m).1)
     by_test false e m later = (inr (later m).0, (later m).1)
-
-passes : (p : ℕ → Bool) (xs : List ℕ) (x : ℕ) → Has xs x → p x ≡ true → Has (filter p xs) x
-passes p [] x h e = absurd h
-passes p (y ∷ xs) x (inl same) e = subst (λ b. Has (cond b (y ∷ filter p xs) (filter p xs)) x) (sym (ap p same ∙ e)) (inl same)
-passes p (y ∷ xs) x (inr h) e = by_test (p y) (passes p xs x h e)
-  where
-    by_test : (b : Bool) → Has (filter p xs) x → Has (cond b (y ∷ filter p xs) (filter p xs)) x
-    by_test true m = inr m
-    by_test false m = m
 
 -- all rows of a face are crossed
 cross_face : (d : ShellRows) (mates : List ℕ) → HaveMates d mates → (crossed order : List ℕ) (face : ℕ) → Has order face → Flooded d crossed order

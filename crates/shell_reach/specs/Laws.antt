@@ -5,7 +5,7 @@ use Rattle.solid_data.specs.Ring.{numbers_from}
 use Rattle.edge_uses.specs.ShellRows.{ShellRows}
 use Rattle.edge_uses.specs.Around.{IsReached}
 use Rattle.edge_uses.specs.Mates.{ArePaired}
-use Rattle.shell_flood.specs.Reaching.{ReachesAll, IsBreadthFirst}
+use Rattle.shell_reach.specs.Reaching.{ReachesAll, IsBreadthFirst}
 
 -- A shell has one list of rows that reaches all its faces breadth first.
 abbrev pub OneReachOrder : Type 0

@@ -7,11 +7,11 @@ use Rattle.std.proofs.lemmas.Option.{slice_get_within, get_or_from_slice_get}
 use Rattle.solid_data.proofs.Members.{All-at, has_get}
 use Rattle.solid_data.proofs.ObligationLemmas.{AllByRecursion-weaker}
 use Rattle.solid_data.specs.declared.solid.LoopAt.{LoopAt}
-use Rattle.edge_uses.specs.Cells.{Celled, cell_of, with_cell}
-use Rattle.edge_uses.specs.Ranges.{IsWithin, IsSpanOf}
+use Rattle.solid_data.specs.Cells.{Celled, cell_of, with_cell}
+use Rattle.solid_data.specs.Ranges.{IsWithin, IsSpanOf}
+use Rattle.solid_data.specs.declared.spanning.Span.{Span}
 use Rattle.edge_uses.specs.ShellRows.{ShellRows, AreRows}
 use Rattle.edge_uses.specs.declared.row.Row.{Row}
-use Rattle.edge_uses.specs.declared.spanning.Span.{Span}
 use Rattle.shell_tables.specs.Starting.{no_starts, one_start_more, AreStarts, no_points, one_point_more, ArePoints, AreStartCells, ArePointCells}
 use Rattle.shell_tables.specs.declared.starting.Starts.{Starts}
 use Rattle.shell_tables.specs.declared.starting.Points.{Points}

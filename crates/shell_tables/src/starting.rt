@@ -1,15 +1,15 @@
 //! How many rows start at each vertex, and how many loops without an edge lie there.
 
 ghost use Rattle.std.specs.Prelude.{◌≡◌, ◌<◌, Contains, IfOk};
-ghost use Rattle.edge_uses.specs.Cells.{cell_of, with_cell};
-ghost use Rattle.edge_uses.specs.Ranges.{IsWithin};
+ghost use Rattle.solid_data.specs.Cells.{cell_of, with_cell};
+ghost use Rattle.solid_data.specs.Ranges.{IsWithin};
 ghost use Rattle.edge_uses.specs.ShellRows.{ShellRows};
 ghost use Rattle.shell_tables.specs.Starting.{one_start_more, one_point_more, AreStartCells, ArePointCells, AreStarts, ArePoints};
 ghost use Rattle.solid_data.specs.declared.TheConstants.{PART_LIMIT};
 
-use edge_uses::{Cells, Rows, point_at, row_at};
+use edge_uses::{Rows, point_at, row_at};
 use iges_base::NoMemory;
-use solid_data::{FaceAt, LoopAt, VertexId};
+use solid_data::{Cells, FaceAt, LoopAt, VertexId};
 use std::alloc::Global;
 
 /// How many rows start at a vertex, and the first of them, from 0; 0 too where none does.

@@ -2,11 +2,11 @@
 use Rattle.std.specs.Prelude.{◌≡◌, ◌++◌, ℕ, List, Some, slice_get, true}
 use Rattle.std.proofs.Common.{sym, ◌∙◌, ap, subst}
 use Rattle.std.proofs.lemmas.Option.{slice_get_within, get_or_from_slice_get}
+use Rattle.solid_data.specs.Ranges.{IsWithin, IsSpanOf}
+use Rattle.solid_data.specs.declared.spanning.Span.{Span}
 use Rattle.edge_uses.specs.RowRelations.{row_count}
-use Rattle.edge_uses.specs.Ranges.{IsWithin, IsSpanOf}
 use Rattle.edge_uses.specs.ShellRows.{ShellRows}
 use Rattle.edge_uses.specs.Tally.{IsTally, IsSeen, seen_of}
-use Rattle.edge_uses.specs.declared.spanning.Span.{Span}
 use Rattle.edge_uses.specs.declared.tally.Seen.{Seen}
 use Rattle.solid_faults.specs.declared.edge.Unpaired.{Unpaired}
 use Rattle.solid_faults.specs.Edges.{edge_unpaired, unpaired_at}

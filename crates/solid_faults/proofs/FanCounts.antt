@@ -4,6 +4,7 @@ use Rattle.std.proofs.Common.{refl, ◌∙◌, ap, arith, ⊎_elim}
 use Rattle.std.proofs.lemmas.Bool.{eq-eqb, eqb-true, and_from, and_parts, cases_lt}
 use Rattle.std.proofs.lemmas.Option.{same_Some}
 use Rattle.edge_uses.specs.declared.row.Row.{Row}
+use Rattle.shell_components.proofs.GroupSteps.{one_if}
 use Rattle.solid_faults.specs.Fans.{fans_from}
 
 -- row j starts at the vertex, and is the least of its fan
@@ -31,9 +32,6 @@ tests_here v i r rs f fs h =
     let k = and_parts (r.from.0 == v) (f == i) h in
     let e : i ≡ i + 0 = omega arith in
     record { row = r; at = refl; starts = eqb-true r.from.0 v k.0; least = ap Some (eqb-true f i k.1 ∙ e) }
-
-one_if : (b : Bool) → b ≡ true → ◌≡◌ {A = ℕ} (if b then 1 else 0) 1
-one_if b e = ap (λ t. if t then 1 else 0) e
 
 pub found_fan : (v i : ℕ) (rs : List Row) (fs : List ℕ) → 1 ≤ fans_from v i rs fs → (j : ℕ) × FanAt v i rs fs j
 found_fan v i [] fs h = absurd (omega (arith, h))

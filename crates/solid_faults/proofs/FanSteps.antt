@@ -7,10 +7,10 @@ use Rattle.std.proofs.lemmas.List.{drop_all, get_or-replicate, length-replicate,
 use Rattle.std.proofs.lemmas.Option.{slice_get_within, get_or_from_slice_get}
 use Rattle.solid_data.proofs.Members.{All-at, has_get, split_at, count_by-total, Has-from_Contains}
 use Rattle.solid_data.specs.declared.solid.LoopAt.{LoopAt}
+use Rattle.solid_data.specs.declared.spanning.Span.{Span}
+use Rattle.solid_data.specs.Cells.{Celled}
+use Rattle.solid_data.specs.Ranges.{IsWithin, IsSpanOf}
 use Rattle.edge_uses.specs.declared.row.Row.{Row}
-use Rattle.edge_uses.specs.declared.spanning.Span.{Span}
-use Rattle.edge_uses.specs.Cells.{Celled}
-use Rattle.edge_uses.specs.Ranges.{IsWithin, IsSpanOf}
 use Rattle.edge_uses.specs.ShellRows.{ShellRows, AreRows}
 use Rattle.edge_uses.proofs.Counting.{times, times_few}
 use Rattle.edge_uses.proofs.Tallies.{one_if, set_same, set_other}

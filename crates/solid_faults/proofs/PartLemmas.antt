@@ -7,12 +7,12 @@ use Rattle.std.proofs.lemmas.Option.{slice_get_within, get_or_from_slice_get}
 use Rattle.solid_data.specs.Chain.{Steps}
 use Rattle.solid_data.proofs.Members.{Has, All-at, All-from, has_get, has_map, map_has, count_by-total, Has-from_Contains}
 use Rattle.solid_data.proofs.Trail.{leads_here, leads_one, leads_trans}
+use Rattle.solid_data.specs.declared.spanning.Span.{Span}
+use Rattle.solid_data.specs.Ranges.{IsWithin, IsSpanOf}
 use Rattle.edge_uses.specs.declared.row.Row.{Row}
-use Rattle.edge_uses.specs.declared.spanning.Span.{Span}
 use Rattle.edge_uses.specs.declared.tally.Seen.{Seen}
 use Rattle.edge_uses.specs.RowRelations.{row_count}
 use Rattle.edge_uses.specs.Mates.{RunsOn}
-use Rattle.edge_uses.specs.Ranges.{IsWithin, IsSpanOf}
 use Rattle.edge_uses.specs.ShellRows.{ShellRows}
 use Rattle.edge_uses.specs.Tally.{IsSeen, seen_of}
 use Rattle.edge_uses.proofs.Counting.{counted}

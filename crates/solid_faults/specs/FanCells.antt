@@ -1,7 +1,7 @@
 -- Private: counts for the vertices of a shell.
 use Rattle.std.specs.Prelude.{◌≡◌, ◌-◌, ℕ, Bool}
-use Rattle.edge_uses.specs.Cells.{Celled}
-use Rattle.edge_uses.specs.Ranges.{IsSpanOf}
+use Rattle.solid_data.specs.Cells.{Celled}
+use Rattle.solid_data.specs.Ranges.{IsSpanOf}
 use Rattle.edge_uses.specs.ShellRows.{ShellRows, AreRows}
 use Rattle.solid_faults.specs.Fans.{added}
 

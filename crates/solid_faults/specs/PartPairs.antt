@@ -1,7 +1,7 @@
 -- For each row its face, and the face of one chosen row of its edge.
 use Rattle.std.specs.Prelude.{ℕ, ◌==◌, List, map, Option, Some, None, slice_get, if◌then◌else◌}
+use Rattle.solid_data.specs.declared.spanning.Span.{Span}
 use Rattle.edge_uses.specs.declared.row.Row.{Row}
-use Rattle.edge_uses.specs.declared.spanning.Span.{Span}
 use Rattle.edge_uses.specs.declared.tally.Seen.{Seen}
 use Rattle.edge_uses.specs.ShellRows.{ShellRows}
 use Rattle.edge_uses.specs.Tally.{seen_of}

@@ -1,8 +1,8 @@
 -- Private: rows whose edges are tallied.
 use Rattle.std.specs.Prelude.{List}
-use Rattle.edge_uses.specs.declared.spanning.Span.{Span}
+use Rattle.solid_data.specs.declared.spanning.Span.{Span}
+use Rattle.solid_data.specs.Ranges.{IsSpanOf}
 use Rattle.edge_uses.specs.declared.tally.Seen.{Seen}
-use Rattle.edge_uses.specs.Ranges.{IsSpanOf}
 use Rattle.edge_uses.specs.ShellRows.{ShellRows, AreRows}
 use Rattle.edge_uses.specs.Tally.{IsTally}
 

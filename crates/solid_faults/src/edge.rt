@@ -2,7 +2,7 @@
 
 ghost use Rattle.std.specs.Prelude.{◌≡◌, ◌<◌, ◌++◌, ◌+◌, ◌≤◌, Some, length, slice_get, IfOk, map};
 ghost use Rattle.std.specs.List.{AllByRecursion, enumerate_from};
-ghost use Rattle.edge_uses.specs.Ranges.{IsWithin};
+ghost use Rattle.solid_data.specs.Ranges.{IsWithin};
 ghost use Rattle.edge_uses.specs.Tally.{seen_of, IsTally};
 ghost use Rattle.solid_faults.specs.Edges.{unpaired_at, unpaired_of, rows_on_edge, row_on};
 ghost use Rattle.solid_data.specs.declared.TheConstants.{PART_LIMIT};
@@ -48,7 +48,7 @@ fn edge_at(rows: &Rows, i: usize) -> EdgeId
 
 /// The edges of a shell that haven't exactly one row along them and one against them, by rising
 /// number.
-pub fn unpaired_edges(alloc: Global, rows: &Rows) -> Result<Vec<Unpaired>, NoMemory>
+pub(crate) fn unpaired_edges(alloc: Global, rows: &Rows) -> Result<Vec<Unpaired>, NoMemory>
     ensures { IfOk result (λ out. out.items ≡ unpaired_of rows.now) }
 {
     let tally = tally_of(alloc, rows)?;

@@ -1,31 +1,15 @@
 //! The fans of rows round the vertices of a shell.
 
 ghost use Rattle.std.specs.Prelude.{◌≡◌, ◌<◌, ◌++◌, ◌∷◌, [], ◌^◌, length, IfOk};
-ghost use Rattle.edge_uses.specs.RowRelations.{Turns};
 ghost use Rattle.edge_uses.specs.Mates.{ArePaired};
 ghost use Rattle.solid_faults.specs.Fans.{AreFans};
 ghost use Rattle.solid_faults.specs.TurnPairs.{AreTurns};
 
-use edge_uses::Paired;
+use crate::part::push_pair;
+use edge_uses::{Paired, turned};
 use iges_base::NoMemory;
 use shell_components::components;
-use solid_data::RowId;
 use std::alloc::Global;
-
-// The row that a row turns to; both count from 0.
-fn turned(paired: &Paired<'_>, r: u32) -> u32
-    requires { r < length paired.now.rows }
-    ensures { Turns paired.now r result }
-{
-    paired.turn(RowId(r)).unwrap().0
-}
-
-fn push_pair(out: &mut Vec<(u32, u32)>, a: u32, b: u32) -> Result<(), NoMemory>
-    ensures { IfOk result (λ _. out.new.items ≡ out.old.items ++ (a, b) ∷ []) }
-{
-    out.push((a, b))?;
-    Ok(())
-}
 
 // Each row with the row that it turns to.
 fn turns_of(alloc: Global, paired: &Paired<'_>) -> Result<Vec<(u32, u32)>, NoMemory>

@@ -1,15 +1,16 @@
 //! The gaps of loops.
 
-ghost use Rattle.std.specs.Prelude.{◌≡◌, ◌+◌, ◌<◌, ◌≤◌, ◌++◌, Bool, length, map, flat_map, slice_get, option_copied, IfOk, IfSome, get_or};
+ghost use Rattle.std.specs.Prelude.{◌≡◌, ◌+◌, ◌<◌, ◌≤◌, ◌++◌, Bool, length, map, flat_map, slice_get, IfOk, IfSome, get_or};
 ghost use Rattle.solid_data.specs.Ring.{next_of_each};
 ghost use Rattle.solid_data.specs.SolidData.{same_flag, placed_in_face, placed_loops};
-ghost use Rattle.edge_uses.specs.Joins.{begin_of, start_of, end_of};
+ghost use Rattle.edge_uses.specs.Joins.{start_of, end_of};
 ghost use Rattle.edge_uses.specs.Joining.{IsFewFace, IsFewShell, placed_at};
 ghost use Rattle.solid_faults.specs.Gaps.{gap_at, loop_gaps, gaps_of};
 ghost use Rattle.solid_data.specs.declared.TheConstants.{PART_LIMIT};
 
+use edge_uses::{ends_at, next_place, starts_at};
 use iges_base::{EntryNo, NoMemory};
-use solid_data::{Edge, FaceAt, FaceUse, Loop, LoopAt, LoopUse, Shell, ShellAt, Solid};
+use solid_data::{FaceAt, FaceUse, Loop, LoopAt, LoopUse, Shell, ShellAt, Solid};
 use std::alloc::Global;
 
 /// A use of a loop that ends at another vertex than the next one starts at.
@@ -21,45 +22,6 @@ pub struct Gap {
     pub entity: EntryNo,
     /// The tuple of the use in the loop's record, from 1.
     pub tuple: u32,
-}
-
-/// The vertex where an edge begins that is walked along it or against it; 0 where there is no edge.
-pub fn begins_at(edge: Option<&Edge>, along: bool) -> u32
-    ensures { result ≡ begin_of (option_copied edge.entry) along }
-{
-    match edge {
-        None => 0,
-        Some(edge) => { if along { edge.from.0 } else { edge.to.0 } }
-    }
-}
-
-/// The vertex where a use starts, by the flag of its tuple alone; 0 where the solid hasn't its edge.
-pub fn starts_at(solid: &Solid, item: LoopUse) -> u32
-    ensures { result ≡ start_of solid.now item }
-{
-    match item {
-        LoopUse::EdgeUse { edge, along } => begins_at(solid.edge(edge), along),
-        LoopUse::VertexUse { vertex } => vertex.0,
-    }
-}
-
-/// The vertex where a use ends, by the flag of its tuple alone; 0 where the solid hasn't its edge.
-pub fn ends_at(solid: &Solid, item: LoopUse) -> u32
-    ensures { result ≡ end_of solid.now item }
-{
-    match item {
-        LoopUse::EdgeUse { edge, along } => begins_at(solid.edge(edge), !along),
-        LoopUse::VertexUse { vertex } => vertex.0,
-    }
-}
-
-fn next_place(i: usize, len: usize) -> usize
-    requires { i < len }
-    ensures inside { result < len }
-    ensures next { i + 1 < len → result ≡ i + 1 }
-    ensures last { len ≤ i + 1 → result ≡ 0 }
-{
-    if i + 1 < len { i + 1 } else { 0 }
 }
 
 fn end_of_use(solid: &Solid, uses: &[LoopUse], i: usize) -> u32

@@ -19,12 +19,12 @@ mod tallying;
 mod unlinking;
 
 pub use closing::is_closed;
-pub use edge::{Unpaired, rows_of_edge, unpaired_edges};
+pub use edge::{Unpaired, rows_of_edge};
 pub use failing::{Linking, ShellFaults, apart_in, faults, faults_of};
 pub use fan::Unlinked;
 pub use flagging::is_closed_flagged;
-pub use gap::{Gap, begins_at, ends_at, gaps, starts_at};
+pub use gap::{Gap, gaps};
 pub use law::faults_are_definite;
 pub use part::firsts;
-pub use shared::below_next;
+pub use shared::{below_next, below_shell};
 pub use tallying::{UseCounts, use_counts};

@@ -1,7 +1,7 @@
 //! The parts of a shell.
 
 ghost use Rattle.std.specs.Prelude.{◌≡◌, ◌<◌, ◌++◌, ◌∷◌, [], Some, length, map, slice_get, IfOk};
-ghost use Rattle.edge_uses.specs.Ranges.{IsWithin};
+ghost use Rattle.solid_data.specs.Ranges.{IsWithin};
 ghost use Rattle.edge_uses.specs.Tally.{seen_of};
 ghost use Rattle.solid_faults.specs.PartPairs.{chosen_row, chosen_face, part_pair, part_pairs};
 ghost use Rattle.solid_faults.specs.Parts.{AreParts};
@@ -35,7 +35,7 @@ fn other_face(rows: &Rows, tally: &Tally<'_>, row: Row) -> u32
     }
 }
 
-fn push_pair(out: &mut Vec<(u32, u32)>, a: u32, b: u32) -> Result<(), NoMemory>
+pub(crate) fn push_pair(out: &mut Vec<(u32, u32)>, a: u32, b: u32) -> Result<(), NoMemory>
     ensures { IfOk result (λ _. out.new.items ≡ out.old.items ++ (a, b) ∷ []) }
 {
     out.push((a, b))?;

@@ -13,17 +13,8 @@ ghost use Rattle.solid_faults.specs.Edges.{shared_of};
 
 use edge_uses::{Rows, rows, vertex_at};
 use iges_base::NoMemory;
-use solid_data::{ShellAt, Solid, VertexId};
+use solid_data::{ShellAt, Solid, VertexId, push_if};
 use std::alloc::Global;
-
-fn push_if(out: &mut Vec<u32>, wanted: bool, n: u32) -> Result<(), NoMemory>
-    ensures { IfOk result (λ _. out.new.items ≡ out.old.items ++ (if wanted then n ∷ [] else [])) }
-{
-    if wanted {
-        out.push(n)?;
-    }
-    Ok(())
-}
 
 /// One more than the greatest vertex of the shells before and of the next one, whose rows are given:
 /// the vertices of all these are the ones below it.

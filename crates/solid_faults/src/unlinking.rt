@@ -1,15 +1,15 @@
 //! Which vertices of a shell aren't linked.
 
 ghost use Rattle.std.specs.Prelude.{◌≡◌, ◌<◌, ◌-◌, ◌==◌, ◌++◌, Contains, Some, length, slice_get, IfOk, get_or};
-ghost use Rattle.edge_uses.specs.Ranges.{IsWithin};
+ghost use Rattle.solid_data.specs.Ranges.{IsWithin};
 ghost use Rattle.solid_faults.specs.FanCells.{counted_more, IsOnVertices};
 ghost use Rattle.solid_faults.specs.Fans.{AreFanCounts, ArePointCounts, unlinked_at, unlinked_of};
 ghost use Rattle.solid_data.specs.declared.TheConstants.{PART_LIMIT};
 
 use crate::fan::Unlinked;
-use edge_uses::{Cells, Rows, point_at, row_at, vertex_at};
+use edge_uses::{Rows, point_at, row_at, vertex_at};
 use iges_base::NoMemory;
-use solid_data::VertexId;
+use solid_data::{Cells, VertexId};
 use std::alloc::Global;
 
 fn least_at(leasts: &[u32], i: usize) -> u32

@@ -6,12 +6,11 @@ ghost use Rattle.tried_remedies.specs.Tried.{IsTried, AreTried};
 
 use change_fits::fits;
 use change_passes::passes_before;
-use edge_uses::rows;
 use iges_base::{ItemList, NoMemory};
 use remedy_search::search;
 use shell_change::{Geometry, Known, Remedy};
 use solid_data::{ShellAt, Solid};
-use solid_faults::below_next;
+use solid_faults::below_shell;
 use std::alloc::Global;
 
 fn is_of(remedy: &Remedy, shell: ShellAt) -> bool
@@ -41,19 +40,6 @@ fn is_tried(
     }
     let pass = passes_before(alloc, solid, &remedy.change, below)?;
     Ok(pass)
-}
-
-fn below_shell(alloc: Global, solid: &Solid, shell: ShellAt) -> Result<usize, NoMemory>
-    requires { shell.0 ≤ length solid.now.shells }
-    ensures { IfOk result (λ below. AreBelow solid.now shell.0 below) }
-{
-    solid.recall_numbering();
-    let mut below = 0;
-    'shells: for k in 0..shell.0 {
-        let rows = rows(alloc, solid, ShellAt(k))?;
-        below = below_next(below, &rows);
-    }
-    Ok(below)
 }
 
 /// The same as `tried_remedies`, where the number is given that the vertices of the shells before this one lie below: whoever

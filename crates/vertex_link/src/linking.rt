@@ -11,10 +11,10 @@ ghost use Rattle.shell_tables.specs.Starting.{AreStartCells, ArePointCells};
 use crate::corners::Links;
 use crate::fault::LinkFault;
 use crate::walking::corner_at;
-use edge_uses::{Cells, Paired, vertex_at};
+use edge_uses::{Paired, vertex_at};
 use iges_base::NoMemory;
 use shell_tables::{Points, Starts, all_points, all_starts, points_at, starts_at};
-use solid_data::{Corner, Corners};
+use solid_data::{Cells, Corner, Corners};
 use std::alloc::Global;
 
 fn push_corner(corners: &mut Corners, corner: Corner) -> Result<(), NoMemory>

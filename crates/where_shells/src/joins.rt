@@ -11,9 +11,10 @@ use crate::lines::{
     put_count, put_curve_words, put_edge_words, put_face_line, put_head, put_vertex_line,
 };
 use crate::view::{Page, ShellView};
+use edge_uses::{ends_at, starts_at};
 use iges_base::{EntryNo, NoMemory, Out};
 use solid_data::{FaceUse, Loop, LoopAt, LoopUse, Rule};
-use solid_faults::{Gap, ends_at, starts_at};
+use solid_faults::Gap;
 use where_text::{put_more_items, put_number};
 
 fn put_use_words(out: &mut Out, view: &ShellView<'_>, item: LoopUse) -> Result<(), NoMemory>

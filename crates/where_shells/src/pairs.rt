@@ -11,11 +11,11 @@ ghost use Rattle.where_text.specs.Listing.{shown};
 
 use crate::lines::{put_curve_words, put_edge_words, put_face, put_rule, put_vertex_line};
 use crate::view::{Page, ShellView};
-use edge_uses::Rows;
+use edge_uses::{Rows, begins_at};
 use iges_base::{NoMemory, Out};
 use shell_facts::{Groups, RowPlace, row_places, rows_by_edge};
 use solid_data::{EdgeId, EdgeKey, Rule};
-use solid_faults::{Unpaired, begins_at, use_counts};
+use solid_faults::{Unpaired, use_counts};
 use std::alloc::Global;
 use where_text::{put_more_facts, put_more_items, put_number, put_rule_sentence, put_word};
 

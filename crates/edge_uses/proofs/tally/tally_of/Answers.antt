@@ -1,5 +1,5 @@
 use Rattle.std.proofs.Common.{arith, length, ap, subst, ◌∙◌}
-use Rattle.edge_uses.specs.Ranges.{IsSpanOf}
+use Rattle.solid_data.specs.Ranges.{IsSpanOf}
 use Rattle.edge_uses.proofs.Tallies.{next_few, next_known, next_seen, next_within, seen_done, tally_first}
 use Rattle.edge_uses.proofs.tally.tally_of.Goals as goal
 

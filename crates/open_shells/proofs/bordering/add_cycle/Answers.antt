@@ -6,7 +6,7 @@ use Rattle.std.proofs.lemmas.List.{map-append}
 use Rattle.solid_data.specs.declared.solid.RowId.{RowId}
 use Rattle.edge_uses.proofs.Steps.{default_apart}
 use Rattle.open_certificate.specs.Sound.{IsBorder}
-use Rattle.shell_flood.specs.Reaching.{row_numbers}
+use Rattle.shell_reach.specs.Reaching.{row_numbers}
 use Rattle.open_shells.specs.BorderParts.{IsLoop}
 use Rattle.open_shells.proofs.BorderLoops.{bordering_adds, loop_below}
 use Rattle.open_shells.proofs.bordering.add_cycle.Goals as goal

@@ -1,7 +1,7 @@
 use Rattle.std.proofs.Common.{arith, sym, ap, subst, ◌≡◌, ◌++◌, ◌∷◌, [], ℕ, length, length-append}
 use Rattle.edge_uses.specs.ShellRows.{ShellRows}
 use Rattle.edge_uses.proofs.RowNumbers.{numbers_pushed}
-use Rattle.shell_flood.specs.Reaching.{row_numbers}
+use Rattle.shell_reach.specs.Reaching.{row_numbers}
 use Rattle.open_shells.proofs.BorderRows.{Passed, passed_more, loop_closed, never_back}
 use Rattle.open_shells.proofs.bordering.cycle_from.Goals as goal
 

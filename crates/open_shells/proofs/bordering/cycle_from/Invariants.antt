@@ -1,6 +1,6 @@
 use Rattle.std.proofs.Common.{◌≡◌, ◌<◌, length}
 use Rattle.open_certificate.specs.Sound.{IsBorder}
-use Rattle.shell_flood.specs.Reaching.{row_numbers}
+use Rattle.shell_reach.specs.Reaching.{row_numbers}
 use Rattle.open_shells.proofs.BorderRows.{Passed}
 use Rattle.open_shells.proofs.bordering.cycle_from.Given as goal
 

@@ -1,7 +1,7 @@
 use Rattle.std.proofs.Common.{arith, ap, length}
 use Rattle.std.specs.Prelude.{map}
 use Rattle.edge_uses.specs.ShellRows.{ShellRows}
-use Rattle.shell_flood.specs.Reaching.{row_numbers}
+use Rattle.shell_reach.specs.Reaching.{row_numbers}
 use Rattle.open_shells.proofs.BorderLoops.{bordering_done}
 use Rattle.open_shells.proofs.bordering.cycles_of.Goals as goal
 

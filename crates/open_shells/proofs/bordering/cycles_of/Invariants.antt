@@ -1,5 +1,5 @@
 use Rattle.std.proofs.Common.{map}
-use Rattle.shell_flood.specs.Reaching.{row_numbers}
+use Rattle.shell_reach.specs.Reaching.{row_numbers}
 use Rattle.open_shells.specs.BorderParts.{IsBordering}
 use Rattle.open_shells.proofs.bordering.cycles_of.Given as goal
 

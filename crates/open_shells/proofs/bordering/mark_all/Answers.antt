@@ -1,5 +1,5 @@
 use Rattle.std.proofs.Common.{arith, refl, ◌+◌, get_or}
-use Rattle.shell_flood.specs.Reaching.{row_numbers}
+use Rattle.shell_reach.specs.Reaching.{row_numbers}
 use Rattle.std.proofs.Common.{take}
 use Rattle.open_shells.proofs.BorderLoops.{marks_more, taken_more, row_low}
 use Rattle.open_shells.proofs.bordering.mark_all.Goals as goal

@@ -1,7 +1,7 @@
 use Rattle.std.proofs.Common.{◌≡◌, ℕ, get_or, take, vec_len}
 use Rattle.std.specs.Prelude.{◌↔◌, ◌⊎◌, true, false}
 use Rattle.solid_data.proofs.Members.{Has}
-use Rattle.shell_flood.specs.Reaching.{row_numbers}
+use Rattle.shell_reach.specs.Reaching.{row_numbers}
 use Rattle.open_shells.proofs.bordering.mark_all.Given as goal
 
 abbrev pub invariant-rows : goal.invariant-rows

@@ -1,5 +1,5 @@
 use Rattle.std.proofs.Common.{◌∙◌, ◌≡◌, sym, ap, arith, Some, slice_get, length}
-use Rattle.edge_uses.specs.Ranges.{IsWithin}
+use Rattle.solid_data.specs.Ranges.{IsWithin}
 use Rattle.edge_uses.proofs.Steps.{none_of}
 use Rattle.edge_uses.specs.ShellRows.{ShellRows}
 use Rattle.open_certificate.specs.Sound.{IsFanned}

@@ -1,6 +1,6 @@
 use Rattle.std.proofs.Common.{◌≡◌, ◌++◌, ◌∷◌, [], sym, ap, subst, arith, length, length-append, ℕ}
 use Rattle.std.proofs.lemmas.Option.{slice_get_within}
-use Rattle.shell_flood.specs.Reaching.{row_numbers}
+use Rattle.shell_reach.specs.Reaching.{row_numbers}
 use Rattle.edge_uses.proofs.RowNumbers.{numbers_pushed}
 use Rattle.open_shells.proofs.FanWalks.{Walked, turn_same, walked_more, back_early, back_in_time, back_least, not_back, path_whole, path_short, begin_starts}
 use Rattle.open_shells.proofs.FanWalks.{not_both}

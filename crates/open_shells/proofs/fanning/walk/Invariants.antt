@@ -1,6 +1,6 @@
 use Rattle.std.proofs.Common.{◌≡◌, length}
 use Rattle.edge_uses.specs.RowRelations.{StartsAt}
-use Rattle.shell_flood.specs.Reaching.{row_numbers}
+use Rattle.shell_reach.specs.Reaching.{row_numbers}
 use Rattle.open_shells.proofs.FanWalks.{Walked}
 use Rattle.open_shells.proofs.fanning.walk.Given as goal
 

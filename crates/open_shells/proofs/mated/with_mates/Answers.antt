@@ -1,6 +1,6 @@
 use Rattle.std.proofs.lemmas.List.Elements.{recursion_from_All}
+use Rattle.solid_data.specs.Ranges.{IsWithin}
 use Rattle.edge_uses.proofs.Mating.{rows_within}
-use Rattle.edge_uses.specs.Ranges.{IsWithin}
 use Rattle.open_shells.proofs.mated.with_mates.Goals as goal
 
 pub mates_by-made-requires-clause-rows : goal.mates_by-made-requires-clause-rows

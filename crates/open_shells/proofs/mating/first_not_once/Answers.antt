@@ -1,4 +1,4 @@
-use Rattle.edge_uses.specs.Ranges.{IsWithin}
+use Rattle.solid_data.specs.Ranges.{IsWithin}
 use Rattle.solid_data.proofs.Members.{All-at, has_get}
 use Rattle.std.proofs.Common.{sym, ◌∙◌, ◌≡◌, true, false}
 use Rattle.open_certificate.specs.Sound.{IsOnce}

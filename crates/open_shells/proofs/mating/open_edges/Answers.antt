@@ -1,4 +1,4 @@
-use Rattle.edge_uses.specs.Ranges.{IsWithin}
+use Rattle.solid_data.specs.Ranges.{IsWithin}
 use Rattle.std.proofs.Common.{arith}
 use Rattle.open_certificate.specs.Sound.{IsOnce}
 use Rattle.open_shells.specs.Mating.{AreRowsOf}

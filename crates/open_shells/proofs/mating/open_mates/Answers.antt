@@ -1,5 +1,5 @@
 use Rattle.solid_data.proofs.Members.{All-at, has_get}
-use Rattle.edge_uses.specs.Ranges.{IsWithin}
+use Rattle.solid_data.specs.Ranges.{IsWithin}
 use Rattle.edge_uses.specs.declared.row.Row.{Row}
 use Rattle.std.proofs.Common.{arith, ap, ◌∷◌, [], length, length-append}
 use Rattle.open_shells.proofs.OnceMates.{row_once, mate_pushed, seen_there}

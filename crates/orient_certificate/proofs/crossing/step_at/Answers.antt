@@ -26,5 +26,5 @@ returns c =
     let at : slice_get c.args.rows.now.rows c.args.r ≡ Some c.unwrap-row.result = search rules in
     let at_m : slice_get c.args.rows.now.rows c.other_of-partner.result ≡ Some c.unwrap-other.result = search rules in
     step_made c.args.rows.now c.args.by_edge.now.span c.args.by_edge.now.seen c.args.forwards.now c.args.r c.other_of-partner.result c.unwrap-row.result
-    c.unwrap-other.result c.same.result c.bare.result c.bare-2.result
-    c.requires.whole c.requires.span c.requires.by_edge c.requires.two at c.other_of-partner.ensures at_m c.bare.ensures c.bare-2.ensures c.same.ensures
+    c.unwrap-other.result c.same_flags.result c.bare.result c.bare-2.result
+    c.requires.whole c.requires.span c.requires.by_edge c.requires.two at c.other_of-partner.ensures at_m c.bare.ensures c.bare-2.ensures c.same_flags.ensures

@@ -1,6 +1,6 @@
 use Rattle.std.proofs.Common.{rules, ◌≡◌, ◌<◌, ◌∙◌, sym, ap, subst, Some, slice_get, get_or, length}
 use Rattle.std.proofs.lemmas.Option.{slice_get_within, get_or_from_slice_get}
-use Rattle.edge_uses.specs.Ranges.{IsWithin}
+use Rattle.solid_data.specs.Ranges.{IsWithin}
 use Rattle.edge_uses.proofs.FirstOf.{left_in_less, left_in_fails}
 use Rattle.orient_certificate.specs.Partners.{HasTwoRows}
 use Rattle.orient_certificate.specs.declared.rows_by_edge.Seen.{Seen}

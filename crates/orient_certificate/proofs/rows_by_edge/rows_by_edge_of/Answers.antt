@@ -1,5 +1,5 @@
 use Rattle.std.proofs.Common.{rules, ◌≡◌, ◌∙◌, subst, Some, slice_get}
-use Rattle.edge_uses.specs.Ranges.{IsSpanOf}
+use Rattle.solid_data.specs.Ranges.{IsSpanOf}
 use Rattle.orient_certificate.proofs.Tallying.{row_few, row_known, row_seen, row_within, tally_first}
 use Rattle.orient_certificate.proofs.rows_by_edge.rows_by_edge_of.Goals as goal
 

@@ -1,5 +1,5 @@
 use Rattle.std.proofs.Common.{sym, subst}
-use Rattle.edge_uses.specs.Ranges.{IsWithin}
+use Rattle.solid_data.specs.Ranges.{IsWithin}
 use Rattle.shell_facts.proofs.LowSteps.{kept_more, low_known, low_within, low_step}
 use Rattle.shell_facts.proofs.parting.lower_all.Goals as goal
 

@@ -1,6 +1,6 @@
 use Rattle.std.proofs.Common.{◌≡◌, ◌||◌, ◌&&◌, ◌==◌, ℕ, nat_lt, drop}
 use Rattle.std.specs.List.{list_any}
-use Rattle.edge_uses.specs.Ranges.{IsWithin}
+use Rattle.solid_data.specs.Ranges.{IsWithin}
 use Rattle.shell_facts.specs.PartTables.{is_low, AreKept}
 use Rattle.shell_facts.proofs.parting.lower_all.Given as goal
 

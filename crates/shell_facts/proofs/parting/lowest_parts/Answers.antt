@@ -1,7 +1,7 @@
 use Rattle.std.specs.Prelude.{All, Contains}
 use Rattle.std.proofs.Common.{◌∙◌, ap, sym, subst, arith, length, flat_map}
+use Rattle.solid_data.specs.Ranges.{IsWithin}
 use Rattle.edge_uses.specs.Before.{face_vertices}
-use Rattle.edge_uses.specs.Ranges.{IsWithin}
 use Rattle.shell_facts.proofs.LowSteps.{face_step, marks_kept}
 use Rattle.shell_facts.proofs.PartSteps.{all_of_part}
 use Rattle.shell_facts.proofs.parting.lowest_parts.Goals as goal

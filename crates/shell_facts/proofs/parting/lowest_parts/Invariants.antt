@@ -1,7 +1,7 @@
 use Rattle.std.proofs.Common.{◌≡◌, ◌<◌, ◌^◌, ◌||◌, ◌==◌, ℕ, nat_lt, drop, flat_map}
 use Rattle.std.specs.List.{list_any}
+use Rattle.solid_data.specs.Ranges.{IsWithin}
 use Rattle.edge_uses.specs.Before.{face_vertices}
-use Rattle.edge_uses.specs.Ranges.{IsWithin}
 use Rattle.shell_facts.specs.PartFacts.{faces_where, faces_before}
 use Rattle.shell_facts.specs.PartTables.{is_low, AreMarks}
 use Rattle.shell_facts.proofs.parting.lowest_parts.Given as goal

@@ -2,8 +2,8 @@ use Rattle.std.specs.Prelude.{All, Contains}
 use Rattle.std.proofs.Common.{ℕ, ◌≡◌, ◌<◌, ◌^◌, ◌∙◌, ap, sym, subst, arith, Some, length, slice_get, option_copied}
 use Rattle.std.proofs.lemmas.List.{length-map}
 use Rattle.solid_data.proofs.Members.{has_get}
+use Rattle.solid_data.specs.Ranges.{IsSpanOf}
 use Rattle.edge_uses.specs.Before.{faces_vertices}
-use Rattle.edge_uses.specs.Ranges.{IsSpanOf}
 use Rattle.edge_uses.proofs.Made.{rows_known}
 use Rattle.solid_faults.specs.declared.edge.Unpaired.{Unpaired}
 use Rattle.shell_facts.proofs.PartSteps.{firsts_low, the_shell, unpaired_within, unpaired_few, vertices_occur, vertices_within, firsts_each}

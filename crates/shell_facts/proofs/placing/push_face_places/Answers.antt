@@ -12,4 +12,4 @@ loops-preserved c =
     (sym c.index-loops-i.is) c.loops.invariant
     (c.in_ok-push_loop_places.ensures (record { face = record { 0 = c.args.at }; place = c.loops.i })
     ∙ ap (λ b. c.loops.out.items ++ loop_places c.args.solid.now c.args.face.now (placed_at c.args.at b (c.loops.i, c.index-loops-i.result)))
-    c.same-forwards.ensures)
+    c.same_flags-forwards.ensures)

@@ -1,5 +1,5 @@
 use Rattle.std.proofs.Common.{◌∙◌, arith, subst}
-use Rattle.edge_uses.specs.Ranges.{IsSpanOf}
+use Rattle.solid_data.specs.Ranges.{IsSpanOf}
 use Rattle.solid_faults.proofs.FanSteps.{fans_done, fans_first, fans_next, from_few, from_inside, from_known, on_vertices}
 use Rattle.solid_faults.proofs.unlinking.fan_counts.Goals as goal
 

@@ -1,5 +1,5 @@
 use Rattle.std.proofs.Common.{◌∙◌, arith, subst}
-use Rattle.edge_uses.specs.Ranges.{IsSpanOf}
+use Rattle.solid_data.specs.Ranges.{IsSpanOf}
 use Rattle.solid_faults.proofs.FanSteps.{on_vertices, point_few, point_inside, point_known, points_done, points_first, points_next}
 use Rattle.solid_faults.proofs.unlinking.point_counts.Goals as goal
 

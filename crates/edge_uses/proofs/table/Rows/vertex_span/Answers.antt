@@ -1,5 +1,5 @@
 use Rattle.std.proofs.Common.{subst}
-use Rattle.edge_uses.specs.Ranges.{IsSpanOf}
+use Rattle.solid_data.specs.Ranges.{IsSpanOf}
 use Rattle.edge_uses.proofs.table.Rows.vertex_span.Goals as goal
 
 pub returns : goal.returns

@@ -2,8 +2,8 @@ use Rattle.std.proofs.Common.{◌≡◌, ◌∙◌, ap, sym, subst, flat_map, le
 use Rattle.std.specs.Prelude.{All}
 use Rattle.solid_data.specs.SolidData.{occurring}
 use Rattle.solid_data.specs.declared.solid.FaceUse.{FaceUse}
+use Rattle.solid_data.specs.Ranges.{IsWithin}
 use Rattle.edge_uses.specs.Before.{face_vertices}
-use Rattle.edge_uses.specs.Ranges.{IsWithin}
 use Rattle.shell_components.specs.FaceUses.{face_edges}
 use Rattle.shell_components.specs.Groups.{places_of}
 use Rattle.shell_facts.specs.PartFacts.{part_faces, part_edges, part_vertices, IsPart}

@@ -1,2 +1,0 @@
-pub mod Floods
-pub mod Crossings

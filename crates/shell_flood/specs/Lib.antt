@@ -1,4 +1,0 @@
-pub mod Reaching
-pub mod Faults
-pub mod OneMate
-pub mod Flood
