@@ -1,4 +1,4 @@
-use Rattle.std.proofs.Common.{◌≡◌, ◌∙◌, ap, subst, map, [], ◌∷◌, ◌++◌, List, ℕ, ℤ, rules, to_z, of_z, w64}
+use Rattle.std.proofs.Common.{◌∙◌, ap, subst, map, [], ◌∷◌, ◌++◌, List, ℕ}
 use Rattle.iges_fields.specs.declared.value.Value.TheVariants as value
 use Rattle.iges_write.specs.Filling.{fill}
 use Rattle.iges_write.specs.Parts.{parts}
@@ -12,9 +12,7 @@ returns-in_err-fill_record c =
     let t = c.set_tail.new.self in
     let lines = λ (n : ℕ). fill n [] (parts n c.args.delims.now (value.Int c.args.kind.now ∷ c.args.values.now)) in
     let is = c.set_tail.ensures in
-    let kind : to_z w64 (of_z w64 c.args.kind.now) ≡ c.args.kind.now = search rules in
-    let filled = subst (λ (z : ℤ). Fails c.in_err-fill_record.field-0.0 (put_lines t (fill t.width [] (parts t.width c.args.delims.now
-    (value.Int z ∷ c.args.values.now))))) kind (c.in_err-fill_record.ensures {u = tt}) in
+    let filled = c.in_err-fill_record.ensures {u = tt} in
     same_fails c.from_residual.result _ _ _
     (subst (λ (n : ℕ). Fails c.in_err-fill_record.field-0.0 (put_lines s (map (λ (l : List ℕ). l ++ record_tail c.args.number) (lines n))))
     (ap (λ (x : Sheet). x.width) is)
@@ -27,8 +25,6 @@ returns c =
     let t = c.set_tail.new.self in
     let lines = λ (n : ℕ). fill n [] (parts n c.args.delims.now (value.Int c.args.kind.now ∷ c.args.values.now)) in
     let is = c.set_tail.ensures in
-    let kind : to_z w64 (of_z w64 c.args.kind.now) ≡ c.args.kind.now = search rules in
-    let filled = subst (λ (z : ℤ). c.fill_record.new.self ≡ put_lines t (fill t.width [] (parts t.width c.args.delims.now (value.Int z ∷ c.args.values.now))))
-    kind (c.in_ok-fill_record.ensures {u = tt}) in
+    let filled = c.in_ok-fill_record.ensures {u = tt} in
     c.clear_tail.ensures ∙ record_done s t c.fill_record.new.self (record_tail c.args.number) (lines t.width) c.requires.empty c.requires.no_tail is filled
     ∙ ap (λ (n : ℕ). put_lines s (map (λ (l : List ℕ). l ++ record_tail c.args.number) (lines n))) (ap (λ (x : Sheet). x.width) is)
