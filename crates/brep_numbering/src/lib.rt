@@ -11,5 +11,4 @@ mod table;
 pub use marks::{Mark, Marks};
 pub use number_set::NumberSet;
 pub use numbering::Numbering;
-pub use positions::{Positions, end_position};
 pub use table::ListTable;
