@@ -28,7 +28,7 @@ pub record EdgeFits (k : ShellCheckState) (a b e : ℕ) : Type 0 where
   pub fits : (at : Progress) → at.last_edge ≡ k.last_edge → FitsEdge k.rows at a b × (edge_of k.rows (edge a b) ≡ Some e)
 
 -- the progress with this last edge
-progress_at : Option ℕ → Progress
+pub progress_at : Option ℕ → Progress
 progress_at last = progress_of false 0 (due_of 0 0 0 0) [] last None []
 
 pub progress_at_last : (last : Option ℕ) → (progress_at last).last_edge ≡ last

@@ -20,7 +20,7 @@ use Rattle.edge_uses.specs.RowRelations.{point_count, AreMates, Follows, Turns, 
 use Rattle.edge_uses.specs.Around.{IsPoint, IsReached}
 use Rattle.edge_uses.specs.Joins.{loop_obligations, join_obligations}
 use Rattle.shell_rules.specs.ShellObligations.{reach_obligations}
-use Rattle.shell_rules.proofs.Decided.{edge_id_decided, paired_decided, reached_decided, follows_decided, turns_decided, turns_below, some_start, point_decided}
+use Rattle.shell_rules.proofs.Decided.{number, edge_id_decided, paired_decided, reached_decided, follows_decided, turns_decided, turns_below, some_start, point_decided}
 use Rattle.open_certificate.specs.Sound.{row_total, IsOnce, IsFan, IsFanned}
 use Rattle.open_certificate.specs.Obligations.{OpenObligation, AllHold, FirstFalse, as_open, edge_obligation, fan_obligation, open_shell_obligations, of_shells}
 use Rattle.open_certificate.specs.Obligations.{open_obligations}
@@ -38,9 +38,6 @@ mates_decided d r m =
     (λ (row : Row). (mate : Row) × (slice_get d.rows m ≡ Some mate) × ((row.edge ≡ mate.edge) × (row.along ≡ not mate.along)))
     (λ row. decided_found (slice_get d.rows m) (λ (mate : Row). (row.edge ≡ mate.edge) × (row.along ≡ not mate.along))
     (λ mate. decided_both (edge_id_decided row.edge mate.edge) (decided_bool row.along (not mate.along)))))
-
-number : ℕ → ℕ
-number n = n
 
 chains_decided : (d : ShellRows) (r s : ℕ) → Decided (LeadsTo (Turns d) r s)
 chains_decided d r s = leads_decided (Turns d) (turns_decided d) (above_all number d.follows) (turns_below d) r s

@@ -18,7 +18,7 @@ use Rattle.cert_state.specs.Ring.{FitsCornerLine}
 use Rattle.cert_state.proofs.Arrays.{CanMate, MateCases, with_mates, mate_cases, mates_more, faces_more}
 use Rattle.cert_state.proofs.CornerFits.{named_below}
 use Rattle.cert_state.proofs.Progressing.{due_of, progress_of}
-use Rattle.cert_state.proofs.Telling.{not_passed, progress_at_last}
+use Rattle.cert_state.proofs.Telling.{not_passed, progress_at, progress_at_last}
 use Rattle.open_certificate.specs.Line.{OpenLine, shell, edge, lone, cycle, path, point, reach, border}
 use Rattle.open_certificate.specs.Progress.{OpenProgress, progress_from_latest, shell_of, shared, edge_in, vertex_in, face_in, border_in, border_rows}
 use Rattle.open_certificate.specs.Progress.{FitsShell}
@@ -43,10 +43,6 @@ with_edge k a b e n l = record k { edges_due = n; listed = l; mates = with_mates
 -- where an edge line fits behind the last edge
 pub record EdgeFits (k : OpenCheckState) (a b e : ℕ) : Type 0 where
   pub fits : (at : Progress) → at.last_edge ≡ k.last_edge → FitsEdge k.rows at a b × (edge_of k.rows (pair_edge a b) ≡ Some e)
-
--- the progress with this last edge
-progress_at : Option ℕ → Progress
-progress_at last = progress_of false 0 (due_of 0 0 0 0) [] last None []
 
 pub can_mate : (k : OpenCheckState) (a b e : ℕ) → IsCheckState k → EdgeFits k a b e → CanMate k.mates a b
 can_mate k a b e kept h = by_fit (h.fits (progress_at k.last_edge) (progress_at_last k.last_edge)).0

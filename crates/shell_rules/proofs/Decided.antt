@@ -58,7 +58,7 @@ turns_decided d r s =
     decided_alike (λ (m, lt, (mates, follows)). (m, mates, follows)) (λ (m, mates, follows). (m, slice_get_within d.follows m s follows, (mates, follows)))
     (decided_bounded (λ m. AreMates d r m × Follows d m s) (λ m. decided_both (mates_decided d r m) (follows_decided d m s)) (length d.follows))
 
-number : ℕ → ℕ
+pub number : ℕ → ℕ
 number n = n
 
 pub turns_below : (d : ShellRows) (r s : ℕ) → Turns d r s → s < above_all number d.follows
