@@ -6,7 +6,7 @@ use Rattle.iges_params.specs.IsFile.{IsFile}
 use Rattle.brep_walk.specs.SolidOf.{solid_of}
 use Rattle.cert_lines.specs.declared.version.Version.{Version}
 use Rattle.cert_lines.specs.declared.version.Version.TheVariants.{One}
-use Rattle.topo_certificate.specs.declared.TheConstants.{CERT_LIMIT}
+use Rattle.cert_text.specs.declared.TheConstants.{CERT_LIMIT}
 use Rattle.topo_certificate.specs.Upgraded.{upgraded}
 use Rattle.cert_accept.specs.Accepted.{IsAcceptedAlone}
 

@@ -9,7 +9,7 @@ use Rattle.cert_accept.proofs.CheckedParts.{accepted_is_checked}
 use Rattle.cert_lines.specs.Line.{end, spelling}
 use Rattle.cert_accept.proofs.PartOutcomes.{solid_short}
 use Rattle.command_replies.specs.declared.answer.Answer.TheVariants.{Done}
-use Rattle.topo_certificate.specs.declared.TheConstants.{CERT_LIMIT}
+use Rattle.cert_text.specs.declared.TheConstants.{CERT_LIMIT}
 use Rattle.command_replies.specs.Due.{Owed}
 use Rattle.certificate_commands.specs.Due.{OfBook, parts_accepted, OfLines, lines_accepted, OfCertificate, opened, OfVersion}
 

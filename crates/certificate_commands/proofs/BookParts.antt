@@ -17,7 +17,7 @@ use Rattle.cert_lines.specs.Opening.{Opens, IsHeaded}
 use Rattle.cert_text.specs.declared.fault.Illegal.{Illegal}
 use Rattle.cert_lines.specs.declared.version.Version.TheVariants.{One, Two, Three}
 use Rattle.cert_lines.proofs.CutLines.{cut_spelled}
-use Rattle.topo_certificate.specs.declared.TheConstants.{CERT_LIMIT}
+use Rattle.cert_text.specs.declared.TheConstants.{CERT_LIMIT}
 use Rattle.cert_state.specs.Progress.{progress_after, FitsLine}
 use Rattle.topo_certificate.specs.Legal.{AreFitting, IsLegal, IsPartBad}
 use Rattle.topo_certificate.specs.Feeding.{FedState}

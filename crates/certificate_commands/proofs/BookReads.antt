@@ -9,7 +9,7 @@ use Rattle.iges_io.specs.declared.reading.TheConstants.{PIECE}
 use Rattle.iges_io.proofs.Streams.{consumes_none, consumes_more, takes_more}
 use Rattle.solid_data.specs.SolidData.{SolidData}
 use Rattle.cert_lines.specs.declared.version.Version.{Version}
-use Rattle.topo_certificate.specs.declared.TheConstants.{CERT_LIMIT}
+use Rattle.cert_text.specs.declared.TheConstants.{CERT_LIMIT}
 use Rattle.topo_certificate.specs.Feeding.{FedState, IsFedPart}
 use Rattle.topo_certificate.specs.PartEnds.{EndsPart}
 use Rattle.certificate_commands.specs.declared.books.NextSolid.{NextSolid}

@@ -11,7 +11,7 @@ use Rattle.cert_lines.specs.Line.{cut_lines}
 use Rattle.cert_lines.specs.Opening.{Opens, IsHeaded}
 use Rattle.cert_text.specs.declared.fault.Illegal.{Illegal}
 use Rattle.cert_lines.specs.declared.version.Version.TheVariants.{Two, Three}
-use Rattle.topo_certificate.specs.declared.TheConstants.{CERT_LIMIT}
+use Rattle.cert_text.specs.declared.TheConstants.{CERT_LIMIT}
 use Rattle.topo_certificate.specs.Feeding.{FedState, IsFedPart}
 use Rattle.topo_certificate.specs.Legal.{IsLegal, IsPartBad}
 use Rattle.topo_certificate.specs.PartEnds.{EndsPart}

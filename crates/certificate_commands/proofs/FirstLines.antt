@@ -6,7 +6,7 @@ use Rattle.std.specs.Io.KnownBytes.{Consumes, IsAtEnd}
 use Rattle.iges_io.proofs.Streams.{consumes_none, consumes_more}
 use Rattle.cert_lines.specs.Opening.{IsBadOpening}
 use Rattle.cert_text.specs.declared.fault.Illegal.{Illegal}
-use Rattle.topo_certificate.specs.declared.TheConstants.{CERT_LIMIT}
+use Rattle.cert_text.specs.declared.TheConstants.{CERT_LIMIT}
 use Rattle.topo_certificate.specs.declared.opening.Stage.{Stage}
 use Rattle.topo_certificate.specs.declared.opening.Stage.TheVariants as stage
 use Rattle.topo_certificate.specs.OpeningFed.{Shows, IsOpening, IsWaiting}

@@ -6,7 +6,7 @@ use Rattle.iges_io.specs.Reading.{TakesAtMost}
 use Rattle.iges_io.specs.declared.reading.TheConstants.{PIECE}
 use Rattle.iges_io.proofs.Streams.{consumes_none, consumes_more}
 use Rattle.iges_params.specs.Contents.{Contents}
-use Rattle.topo_certificate.specs.declared.TheConstants.{CERT_LIMIT}
+use Rattle.cert_text.specs.declared.TheConstants.{CERT_LIMIT}
 use Rattle.certificate_commands.specs.declared.books.PartStart.{PartStart}
 use Rattle.command_replies.specs.declared.reply.Stop.{Stop}
 use Rattle.command_replies.specs.Texts.{accepted_line, accepted_lines}

@@ -9,7 +9,7 @@ use Rattle.cert_lines.specs.Opening.{Opens}
 use Rattle.cert_text.specs.declared.fault.Illegal.{Illegal}
 use Rattle.cert_lines.specs.declared.version.Version.{Version}
 use Rattle.cert_lines.specs.declared.version.Version.TheVariants.{One, Two, Three}
-use Rattle.topo_certificate.specs.declared.TheConstants.{CERT_LIMIT}
+use Rattle.cert_text.specs.declared.TheConstants.{CERT_LIMIT}
 use Rattle.topo_certificate.specs.Legal.{IsLegal, IsFirstBad}
 use Rattle.topo_certificate.specs.Upgraded.{upgraded}
 use Rattle.cert_accept.specs.Accepted.{checked}

@@ -9,7 +9,7 @@ use Rattle.cert_lines.specs.Line.{solid, cut_lines, IsSpelled}
 use Rattle.cert_lines.specs.Opening.{Opens, IsHeaded}
 use Rattle.cert_lines.specs.declared.version.Version.{Version}
 use Rattle.cert_lines.specs.declared.version.Version.TheVariants.{Three}
-use Rattle.topo_certificate.specs.declared.TheConstants.{CERT_LIMIT}
+use Rattle.cert_text.specs.declared.TheConstants.{CERT_LIMIT}
 use Rattle.topo_certificate.specs.Feeding.{FedState, IsFedPart}
 use Rattle.topo_certificate.specs.PartEnds.{EndsPart}
 use Rattle.cert_accept.specs.Accepted.{Part, part_lines, solids_named, IsGoodPart}

@@ -11,7 +11,7 @@ use Rattle.cert_lines.specs.Opening.{Opens, IsBadOpening}
 use Rattle.cert_lines.specs.declared.version.Version.{Version}
 use Rattle.cert_lines.specs.declared.version.Version.TheVariants.{One, Two, Three}
 use Rattle.cert_text.specs.declared.fault.Illegal.{Illegal}
-use Rattle.topo_certificate.specs.declared.TheConstants.{CERT_LIMIT}
+use Rattle.cert_text.specs.declared.TheConstants.{CERT_LIMIT}
 use Rattle.topo_certificate.specs.Feeding.{FedState, IsFed}
 use Rattle.cert_accept.specs.Accepted.{checked}
 use Rattle.command_replies.specs.declared.reply.Reply.{Reply}

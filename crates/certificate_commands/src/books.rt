@@ -16,13 +16,14 @@ ghost use Rattle.cert_lines.specs.declared.version.Version.TheVariants.{Two};
 use crate::checking::part_solid;
 use crate::decided::decided_reply;
 use brep_walk::Walker;
+use cert_text::CERT_LIMIT;
 use command_replies::{Answer, Reply, Stop, illegal, put_accepted, too_large};
 use iges_base::{EntryNo, NoMemory, Out};
 use iges_io::{NextPiece, PIECE, Source, next_piece};
 use iges_params::File;
 use solid_data::Solid;
 use std::alloc::Global;
-use topo_certificate::{CERT_LIMIT, Checker, PartStep};
+use topo_certificate::{Checker, PartStep};
 
 /// The line that names the solid of a part has come.
 #[derive(Clone, Copy)]

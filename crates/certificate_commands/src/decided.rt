@@ -9,10 +9,10 @@ ghost use Rattle.std.specs.Bool.{MatchBool};
 ghost use Rattle.std.specs.Io.KnownBytes.{Consumes};
 ghost use Rattle.std.specs.Prelude.{◌≡◌, ◌-◌, ◌≤◌, List, ℕ, Option, length, IfOk};
 
+use cert_text::CERT_LIMIT;
 use command_replies::{Reply, Stop, too_large};
 use iges_io::{NextPiece, PIECE, Source, next_piece};
 use std::alloc::Global;
-use topo_certificate::CERT_LIMIT;
 
 // Reads the rest of a certificate, of which so many bytes have come: whether the certificate is no larger than it may be.
 fn read_rest<C: Source>(cert: &mut C, piece: &mut [u8], came: u64) -> Result<bool, Stop>

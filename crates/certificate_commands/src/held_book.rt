@@ -16,12 +16,13 @@ ghost use Rattle.std.specs.Prelude.{◌≡◌, ◌+◌, ◌≤◌, ◌++◌, [],
 use crate::books::{NextSolid, feed};
 use crate::checking::part_solid;
 use brep_walk::Walker;
+use cert_text::CERT_LIMIT;
 use command_replies::{Reply, illegal};
 use iges_base::{EntryNo, NoMemory};
 use iges_params::File;
 use solid_data::Solid;
 use std::alloc::Global;
-use topo_certificate::{CERT_LIMIT, Checker};
+use topo_certificate::Checker;
 
 /// What judging a part of a book that is held whole came to.
 #[derive(Drop)]

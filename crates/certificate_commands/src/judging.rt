@@ -5,11 +5,12 @@ ghost use Rattle.certificate_commands.specs.Judging.{HasChecked, HasTooMany, IsO
 ghost use Rattle.std.specs.Bool.{MatchBool};
 ghost use Rattle.std.specs.Prelude.{◌≡◌, ◌-◌, ◌≤◌, List, ℕ, length, IfOk};
 
+use cert_text::CERT_LIMIT;
 use command_replies::{Reply, Stop, accepted, illegal};
 use iges_base::{EntryNo, NoMemory};
 use iges_io::{NextPiece, PIECE, Source, next_piece};
 use std::alloc::Global;
-use topo_certificate::{CERT_LIMIT, Checker, Version};
+use topo_certificate::{Checker, Version};
 
 /// Whether certificates of this version are of one solid.
 pub fn is_of_one(version: Version) -> bool

@@ -3,10 +3,11 @@ ghost use Rattle.std.specs.Prelude.{◌≡◌, List, ℕ, length, IfOk};
 ghost use Rattle.cert_lines.specs.Opening.{IsBadOpening};
 ghost use Rattle.topo_certificate.specs.OpeningFed.{IsOpening, IsWaiting};
 
+use cert_text::{CERT_LIMIT, Illegal};
 use command_replies::Stop;
 use iges_base::EntryNo;
 use iges_io::{NextPiece, PIECE, Source, next_piece};
-use topo_certificate::{CERT_LIMIT, Illegal, Opening, OpeningStep, Version};
+use topo_certificate::{Opening, OpeningStep, Version};
 
 /// The first two lines of a certificate have come, and are good.
 #[derive(Clone, Copy)]

@@ -15,13 +15,14 @@ use crate::checking::named_solid;
 use crate::held_book::book_refusal;
 use crate::judging::is_of_one;
 use cert_lines::read_opening;
+use cert_text::{CERT_LIMIT, Illegal};
 use command_replies::{Answer, Reply, Stop, bytes_in, illegal, too_large};
 use iges_base::{Bytes, EntryNo, NoMemory};
 use iges_io::Source;
 use iges_params::File;
 use solid_data::Solid;
 use std::alloc::Global;
-use topo_certificate::{CERT_LIMIT, Checker, Illegal, UpgradeFault, Version, check, upgrade};
+use topo_certificate::{Checker, UpgradeFault, Version, check, upgrade};
 
 // The reply with the text of version 2.
 fn upgraded_reply(alloc: Global, solid: &Solid, certificate: &[u8]) -> Result<Reply, NoMemory>

@@ -12,12 +12,13 @@ use crate::checking::named_solid;
 use crate::decided::decided_reply;
 use crate::judging::{end_reply, feed_rest, is_of_one};
 use crate::opening::{Opened, OpeningEnd, opening_in};
+use cert_text::CERT_LIMIT;
 use command_replies::{Reply, Stop, buffer, illegal, too_large};
 use iges_io::{PIECE, Source};
 use iges_params::File;
 use solid_data::Solid;
 use std::alloc::Global;
-use topo_certificate::{CERT_LIMIT, Checker};
+use topo_certificate::Checker;
 
 // The reply for a certificate of one solid whose first two lines have come and are good, by a checker that was given none
 // of its further lines.

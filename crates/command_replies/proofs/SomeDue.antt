@@ -7,7 +7,7 @@ use Rattle.iges_params.specs.IsFile.{IsFile}
 use Rattle.iges_params.specs.Refusal.{HasOneReading}
 use Rattle.iges_params.proofs.FileExact.{one_reading}
 use Rattle.solid_data.proofs.Decisions.{Decided, decided_within}
-use Rattle.topo_certificate.specs.declared.TheConstants.{CERT_LIMIT}
+use Rattle.cert_text.specs.declared.TheConstants.{CERT_LIMIT}
 use Rattle.command_replies.specs.declared.answer.Answer.{Answer}
 use Rattle.command_replies.specs.declared.answer.Answer.TheVariants as answer
 use Rattle.command_replies.specs.Texts.{bad_file_line}

@@ -2,11 +2,11 @@ ghost use Rattle.command_replies.specs.Texts.{accepted_line, bad_file_line, fail
 ghost use Rattle.std.specs.Prelude.{◌≡◌, ◌++◌, [], IfOk};
 
 use crate::answer::Answer;
+use cert_text::Illegal;
 use iges_base::{Bytes, EntryNo, NoMemory, Out, write_number};
 use iges_lines::LineFault;
 use solid_data::Failing;
 use std::alloc::Global;
-use topo_certificate::Illegal;
 
 /// What is to be answered, and the text that is to be written.
 #[derive(Drop)]

@@ -12,6 +12,7 @@ use crate::extracting::extract_solid;
 use crate::form::{CertificateCommand, Command, EntityCommand, FileCommand, WholeCommand};
 use crate::listing::list_solids;
 use crate::showing::show_solid;
+use cert_text::CERT_LIMIT;
 use certificate_commands::{upgrade_certificate, verify_certificate};
 use command_replies::{Reply, Stop};
 use iges_fields::NoMemory;
@@ -20,7 +21,6 @@ use iges_params::File;
 use open_commands::{certify_shell, verify_shell};
 use orient_commands::{orient_solid, verify_orientation};
 use std::alloc::Global;
-use topo_certificate::CERT_LIMIT;
 
 // The reply to a command for all of a file.
 fn whole_reply(alloc: Global, command: WholeCommand, file: File) -> Result<Reply, NoMemory>

@@ -17,7 +17,7 @@ use Rattle.solid_data.specs.Obligations.{AllHold, FirstFalse}
 use Rattle.solid_data.specs.declared.verdict.Failing.{Failing}
 use Rattle.solid_data.proofs.Decisions.{Decided, decided_within}
 use Rattle.solid_data.proofs.ObligationsDecided.{all_or_first_false}
-use Rattle.topo_certificate.specs.declared.TheConstants.{CERT_LIMIT}
+use Rattle.cert_text.specs.declared.TheConstants.{CERT_LIMIT}
 use Rattle.open_commands.specs.Verdict.{open_checked}
 use Rattle.open_commands.specs.Due.{OfOpen, OfShellLines, OfOpenVerify, open_fail_line, open_misplaced, open_unsound, open_certified, place_fails, line_bad}
 use Rattle.open_commands.specs.Due.{lines_accepted, certificate_too_large, opening_bad, opened}

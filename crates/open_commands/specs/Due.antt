@@ -11,7 +11,7 @@ use Rattle.open_certificate.specs.Obligations.{rule_name}
 use Rattle.open_certificate.specs.declared.verdict.OpenFailing.{OpenFailing}
 use Rattle.solid_data.specs.Obligations.{AllHold, FirstFalse}
 use Rattle.solid_data.specs.declared.verdict.Failing.{Failing}
-use Rattle.topo_certificate.specs.declared.TheConstants.{CERT_LIMIT}
+use Rattle.cert_text.specs.declared.TheConstants.{CERT_LIMIT}
 use Rattle.open_commands.specs.Verdict.{IsOpenAcceptedFor}
 use Rattle.open_commands.specs.Verdict.{open_checked}
 use Rattle.open_commands.specs.Opening.{OpensShell, IsBadOpening}

@@ -9,6 +9,7 @@ ghost use Rattle.open_commands.specs.Due.{OfOpenVerify, OfShellLines};
 use crate::checking::checked_shell;
 use crate::judging::judge_lines;
 use crate::opening::read_opening;
+use cert_text::CERT_LIMIT;
 use command_replies::{Reply, Stop, accepted, bytes_in, failed, illegal};
 use iges_base::{EntryNo, NoMemory};
 use iges_io::Source;
@@ -16,7 +17,6 @@ use iges_params::File;
 use open_shells::OpenChecker;
 use shell_rules::CheckFault;
 use std::alloc::Global;
-use topo_certificate::CERT_LIMIT;
 
 // The reply for a certificate that names a shell in its second line, by the text from that line on.
 fn lines_reply(alloc: Global, file: File, no: EntryNo, lines: &[u8]) -> Result<Reply, NoMemory>

@@ -20,7 +20,7 @@ use Rattle.brep_walk.proofs.Found.{solid_is_numbered}
 use Rattle.cert_lines.specs.Line.{cut_lines}
 use Rattle.cert_text.specs.declared.fault.Illegal.{Illegal}
 use Rattle.cert_text.specs.declared.fault.Illegal.TheVariants.{Misspelt, Unfit, Missing}
-use Rattle.topo_certificate.specs.declared.TheConstants.{CERT_LIMIT}
+use Rattle.cert_text.specs.declared.TheConstants.{CERT_LIMIT}
 use Rattle.orient_certificate.specs.Flags.{FlagsFit, rows_at}
 use Rattle.orient_certificate.specs.Laws.{ExactlyOne}
 use Rattle.cert_text.specs.Text.{IsShort}

@@ -7,7 +7,7 @@ use Rattle.solid_data.specs.declared.verdict.Failing.{Failing}
 use Rattle.brep_walk.specs.Places.{places}
 use Rattle.brep_walk.specs.SolidOf.{solid_of}
 use Rattle.cert_text.specs.declared.fault.Illegal.{Illegal}
-use Rattle.topo_certificate.specs.declared.TheConstants.{CERT_LIMIT}
+use Rattle.cert_text.specs.declared.TheConstants.{CERT_LIMIT}
 use Rattle.orient_certificate.specs.Line.{IsSpelled}
 use Rattle.orient_certificate.specs.Outcome.{rule_name}
 use Rattle.orient_certificate.specs.declared.fault.OrientFailing.{OrientFailing}

@@ -1,7 +1,7 @@
 //! Why a text isn't taken as an orientation.
 
+use cert_text::Illegal;
 use iges_base::NoMemory as OutOfMemory;
-use topo_certificate::Illegal;
 
 /// Why a text isn't taken as an orientation.
 #[derive(Clone, Copy)]

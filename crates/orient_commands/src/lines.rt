@@ -10,10 +10,10 @@ use crate::fault::TextFault;
 use crate::fitting::fits;
 use crate::reading::read_line;
 use cert_lines::first_line;
+use cert_text::Illegal;
 use face_orient::OrientLine;
 use solid_data::{ShellAt, Solid};
 use std::alloc::Global;
-use topo_certificate::Illegal;
 
 /// The text after the line of a shell, which fits.
 fn behind_shell<'a>(

@@ -11,10 +11,10 @@ ghost use Rattle.orient_commands.specs.Text.{Names, IsBadHead};
 
 use crate::fault::TextFault;
 use cert_lines::first_line;
+use cert_text::Illegal;
 use face_orient::{OrientLine, OrientLineFault, orient_line};
 use iges_base::EntryNo;
 use std::alloc::Global;
-use topo_certificate::Illegal;
 
 /// The line that bytes spell, which are the line of this number.
 pub(crate) fn read_line(alloc: Global, line: &[u8], number: u64) -> Result<OrientLine, TextFault>

@@ -15,6 +15,7 @@ use crate::lines::check_lines;
 use crate::orienting::shell_failed;
 use crate::reading::read_head;
 use brep_walk::{WalkFault, walk};
+use cert_text::CERT_LIMIT;
 use command_replies::{Reply, Stop, accepted, bytes_in, failed, illegal};
 use face_orient::OrientFault;
 use iges_base::{EntryNo, NoMemory};
@@ -22,7 +23,6 @@ use iges_io::Source;
 use iges_params::File;
 use solid_data::Solid;
 use std::alloc::Global;
-use topo_certificate::CERT_LIMIT;
 
 /// The reply for lines after one that names a solid of which COUNT holds.
 fn lines_reply(alloc: Global, solid: &Solid, no: EntryNo, text: &[u8]) -> Result<Reply, NoMemory>

@@ -14,11 +14,9 @@ pub use cert_lines::{
     ShellPart, ShellParts, Version, head_line, one_line, one_opening, solid_line, write_book,
     write_certificate,
 };
+pub use cert_text::CERT_LIMIT;
 pub use checker::{Checker, PartStep};
 pub use law::{legal_or_first_bad, one_bad_in_part};
 pub use opening::{Opening, OpeningStep};
 pub use text::check;
 pub use upgrading::{UpgradeFault, upgrade};
-
-/// The most bytes that a certificate may have to be read.
-pub const CERT_LIMIT: u64 = 536_870_912;

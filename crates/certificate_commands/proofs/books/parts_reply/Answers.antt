@@ -1,7 +1,7 @@
 use Rattle.std.proofs.Common.{◌≡◌, ◌∙◌, ◌-◌, [], length, refl, arith}
 use Rattle.std.proofs.Common.{ap, sym, ◌++◌, List, ℕ}
 use Rattle.iges_io.specs.declared.reading.TheConstants.{PIECE}
-use Rattle.topo_certificate.specs.declared.TheConstants.{CERT_LIMIT}
+use Rattle.cert_text.specs.declared.TheConstants.{CERT_LIMIT}
 use Rattle.command_replies.specs.Texts.{accepted_line}
 use Rattle.certificate_commands.specs.Books.{passed}
 use Rattle.certificate_commands.proofs.Judged.{accepted_more}

@@ -1,5 +1,5 @@
 use Rattle.std.proofs.Common.{◌≡◌, ◌-◌, [], ℕ, List, Option, length}
-use Rattle.topo_certificate.specs.declared.TheConstants.{CERT_LIMIT}
+use Rattle.cert_text.specs.declared.TheConstants.{CERT_LIMIT}
 use Rattle.iges_io.specs.declared.reading.TheConstants.{PIECE}
 use Rattle.certificate_commands.specs.Books.{HasBegun, IsPlace, passed}
 use Rattle.command_replies.specs.Texts.{accepted_lines}

@@ -1,5 +1,5 @@
 use Rattle.std.proofs.Common.{◌≡◌, ◌≤◌, ◌-◌, length}
-use Rattle.topo_certificate.specs.declared.TheConstants.{CERT_LIMIT}
+use Rattle.cert_text.specs.declared.TheConstants.{CERT_LIMIT}
 use Rattle.iges_io.specs.declared.reading.TheConstants.{PIECE}
 use Rattle.certificate_commands.specs.Books.{IsInPart, held}
 use Rattle.certificate_commands.proofs.BookReads.{ReadsPart, between}

@@ -1,5 +1,5 @@
 use Rattle.std.proofs.Common.{◌≡◌, ◌≤◌, ◌-◌, length}
-use Rattle.topo_certificate.specs.declared.TheConstants.{CERT_LIMIT}
+use Rattle.cert_text.specs.declared.TheConstants.{CERT_LIMIT}
 use Rattle.iges_io.specs.declared.reading.TheConstants.{PIECE}
 use Rattle.certificate_commands.proofs.Judged.{IsReadSoFar}
 use Rattle.certificate_commands.proofs.decided.read_rest.Given as goal

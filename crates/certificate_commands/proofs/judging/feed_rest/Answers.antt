@@ -1,7 +1,7 @@
 use Rattle.std.proofs.Common.{◌≡◌, ◌∙◌, length, take, refl, arith}
 use Rattle.command_replies.proofs.Feeds.{read_long}
 use Rattle.certificate_commands.proofs.Judged.{fed_none, fed_more, fed_whole, read_too_many}
-use Rattle.topo_certificate.specs.declared.TheConstants.{CERT_LIMIT}
+use Rattle.cert_text.specs.declared.TheConstants.{CERT_LIMIT}
 use Rattle.iges_io.specs.declared.reading.TheConstants.{PIECE}
 use Rattle.command_replies.proofs.Taken.{rest_past}
 use Rattle.certificate_commands.proofs.judging.feed_rest.Goals as goal

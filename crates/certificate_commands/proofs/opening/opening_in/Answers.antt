@@ -1,7 +1,7 @@
 use Rattle.std.proofs.Common.{◌≡◌, ◌+◌, ◌∙◌, length, take, refl, arith}
 use Rattle.command_replies.proofs.Feeds.{read_long}
 use Rattle.certificate_commands.proofs.FirstLines.{opened_more, opened_too_many, opened_bad, opened_both}
-use Rattle.topo_certificate.specs.declared.TheConstants.{CERT_LIMIT}
+use Rattle.cert_text.specs.declared.TheConstants.{CERT_LIMIT}
 use Rattle.iges_io.specs.declared.reading.TheConstants.{PIECE}
 use Rattle.command_replies.proofs.Taken.{takes_past, takes_piece}
 use Rattle.certificate_commands.proofs.opening.opening_in.Goals as goal

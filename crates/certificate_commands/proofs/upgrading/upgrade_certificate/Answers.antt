@@ -1,4 +1,4 @@
-use Rattle.topo_certificate.specs.declared.TheConstants.{CERT_LIMIT}
+use Rattle.cert_text.specs.declared.TheConstants.{CERT_LIMIT}
 use Rattle.command_replies.proofs.Replying.{too_large_owed}
 use Rattle.certificate_commands.specs.Due.{OfUpgrade, certificate_too_large}
 use Rattle.certificate_commands.proofs.upgrading.upgrade_certificate.Goals as goal

@@ -1,5 +1,5 @@
 use Rattle.std.proofs.Common.{refl, subst, List, ℕ, ◌≤◌, length}
-use Rattle.topo_certificate.specs.declared.TheConstants.{CERT_LIMIT}
+use Rattle.cert_text.specs.declared.TheConstants.{CERT_LIMIT}
 use Rattle.topo_certificate.specs.Upgraded.{upgraded}
 use Rattle.command_replies.specs.Due.{OfText, text_done, text_too_large}
 use Rattle.command_replies.proofs.Owing.{owed_so}

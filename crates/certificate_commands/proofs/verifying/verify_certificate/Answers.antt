@@ -1,6 +1,6 @@
 use Rattle.std.proofs.Common.{◌≡◌, ◌++◌, length, arith}
 use Rattle.iges_io.specs.declared.reading.TheConstants.{PIECE}
-use Rattle.topo_certificate.specs.declared.TheConstants.{CERT_LIMIT}
+use Rattle.cert_text.specs.declared.TheConstants.{CERT_LIMIT}
 use Rattle.certificate_commands.proofs.Judged.{OfYes, too_large_owed, early_owed, bad_opening_decides, opened_place}
 use Rattle.std.proofs.lemmas.Result.{IfOk-from_err}
 use Rattle.certificate_commands.proofs.Readings.{ended_whole, large_whole, ran_out_first, reads_behind, stopped_so}

@@ -1,4 +1,4 @@
-use Rattle.topo_certificate.specs.declared.TheConstants.{CERT_LIMIT}
+use Rattle.cert_text.specs.declared.TheConstants.{CERT_LIMIT}
 use Rattle.command_replies.proofs.Replying.{too_large_owed}
 use Rattle.orient_commands.specs.Due.{OfOrientVerify, text_too_large}
 use Rattle.orient_commands.proofs.verifying.verify_orientation.Goals as goal
