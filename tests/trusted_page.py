@@ -137,7 +137,7 @@ class Page:
         for path in (*self.run, COMMAND):
             for crate, module, names in DECLARED.findall(self.sources[path]):
                 left += [(crate, name) for name in re.findall(r"\w+", module if module.endswith("Variants") else f"{module} {names}")]
-        left += [("iges_solid_cmd", "Words")]
+        left += [("command_replies", "Words")]
         while left:
             crate, name = left.pop()
             for path, other in bodies:

@@ -6,3 +6,4 @@ pub mod SomeDue
 pub mod Verdicts
 pub mod Owing
 pub mod Endings
+mod ShortNumbers

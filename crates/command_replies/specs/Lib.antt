@@ -4,3 +4,4 @@ pub mod Due
 pub mod Outcome
 pub mod Replies
 pub mod Ending
+pub mod Numbers

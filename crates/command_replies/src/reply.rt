@@ -47,6 +47,16 @@ pub fn too_large(alloc: Global) -> Reply
     }
 }
 
+/// The reply to words of no listed form: the usage line. It errs only where memory runs out.
+pub fn usage_reply(alloc: Global, usage: &[u8]) -> Result<Reply, NoMemory>
+    ensures { IfOk result (λ reply. (reply.answer ≡ Answer.Usage) × (reply.text ≡ usage.now)) }
+{
+    Ok(Reply {
+        answer: Answer::Usage,
+        text: Bytes::copy(alloc, usage)?,
+    })
+}
+
 /// The reply for a bad file. It errs only where memory runs out.
 pub fn bad_file(alloc: Global, fault: LineFault) -> Result<Reply, NoMemory>
     ensures { IfOk result (λ reply. (reply.answer ≡ Answer.BadFile)

@@ -1,10 +1,10 @@
 -- The forms that the words of a command line may have.
-use Rattle.std.specs.Prelude.{ℕ, ◌≤◌, Bool, true, false, ◌&&◌, nat_eq, nat_le, List, [], ◌∷◌, ◌++◌, length, map, flat_map, zip, Option, Some, None, option_map}
+use Rattle.std.specs.Prelude.{ℕ, ◌≤◌, Bool, true, false, ◌&&◌, nat_eq, List, [], ◌∷◌, ◌++◌, length, map, flat_map, zip, Option, Some, None, option_map}
 use Rattle.std.specs.Prelude.{option_and_then, unwrap_or, find, position, slice_get, bytes_eq, codes}
 use Rattle.std.specs.List.{list_any, list_all}
 use Rattle.std.specs.Str.Parse.{digits_value}
 use Rattle.iges_base.specs.declared.TheConstants.{LINE_LIMIT}
-use Rattle.iges_base.specs.Word.{are_digits}
+use Rattle.command_replies.specs.Numbers.{is_number}
 use Rattle.iges_solid_cmd.specs.declared.form.Command.{Command}
 use Rattle.iges_solid_cmd.specs.declared.form.Command.TheVariants as command
 use Rattle.iges_solid_cmd.specs.declared.form.FileCommand.TheVariants as of_file
@@ -69,8 +69,7 @@ abbrev pub fits : FormSlot → List ℕ → Bool
 fits (word text) w = bytes_eq w text
 fits file w = true
 fits certificate w = true
-fits (number digits least greatest) w =
-    are_digits w && nat_le (length w) digits && nat_le least (digits_value 10 w) && nat_le (digits_value 10 w) greatest
+fits (number digits least greatest) w = is_number digits least greatest w
 
 -- the words are in the slots, one in each
 abbrev pub all_fit : List FormSlot → List (List ℕ) → Bool

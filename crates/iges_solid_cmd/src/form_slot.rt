@@ -1,11 +1,9 @@
-ghost use Rattle.iges_base.specs.Word.{are_digits};
-ghost use Rattle.iges_solid_cmd.specs.Forms.{fits, holds, number};
+ghost use Rattle.iges_solid_cmd.specs.Forms.{fits, holds};
 ghost use Rattle.iges_solid_cmd.specs.FormTable.{slot_meant};
-ghost use Rattle.std.specs.Char.{is_ascii_digit};
-ghost use Rattle.std.specs.List.{list_all};
-ghost use Rattle.std.specs.Prelude.{◌≡◌, ◌&&◌, MatchOption, Some, false, length, nat_le, true};
+ghost use Rattle.std.specs.Prelude.{◌≡◌, Some, true};
 ghost use Rattle.std.specs.Str.Parse.{digits_value};
 
+use command_replies::number_in;
 use iges_base::LINE_LIMIT;
 
 /// What a word of a form is.
@@ -46,37 +44,6 @@ pub const SAMPLE_NUMBER: FormSlot = FormSlot::Number {
     least: 3,
     greatest: 200,
 };
-
-fn all_digits(word: &[u8]) -> bool
-    ensures { result ≡ list_all is_ascii_digit word.now }
-{
-    word.iter().all(|b| b.is_ascii_digit())
-}
-
-// Whether a word is at least one digit and at most so many.
-fn is_short_number(word: &[u8], digits: usize) -> bool
-    ensures { result ≡ (are_digits word.now && nat_le (length word.now) digits) }
-{
-    !word.is_empty() && all_digits(word) && word.len() <= digits
-}
-
-// The number from the least to the greatest that a word writes in at most so many digits.
-fn number_in(word: &str, digits: usize, least: u32, greatest: u32) -> Option<u32>
-    ensures { MatchOption result (fits (number digits least greatest) word.now ≡ false)
-        (λ n. (fits (number digits least greatest) word.now ≡ true)
-        × (n ≡ digits_value 10 word.now)) }
-{
-    if !is_short_number(word.as_bytes(), digits) {
-        return None;
-    }
-    let Ok(n) = word.parse::<u32>() else {
-        return None;
-    };
-    if n < least || n > greatest {
-        return None;
-    }
-    Some(n)
-}
 
 impl FormSlot {
     /// Whether a word may be in the slot.

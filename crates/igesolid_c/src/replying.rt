@@ -9,10 +9,10 @@ use crate::text::TextSink;
 use crate::words::words_in;
 use command_replies::Answer;
 use iges_base::NoMemory;
-use iges_solid_cmd::{Words, run};
-use repair_commands::{Words as RepairWords, run_repair};
+use iges_solid_cmd::run;
+use repair_commands::run_repair;
 use std::alloc::Global;
-use where_command::{Words as WhereWords, run_where};
+use where_command::run_where;
 
 // The status where memory ran out.
 const NO_MEMORY: u32 = 6;
@@ -54,7 +54,7 @@ pub fn reply(
 ) -> Result<Replied, NoMemory>
     ensures { IfOk result (λ r. IsDue words.now file.now certificate.now r.status r.text.text) }
 {
-    let words: Words = words_in(alloc, words)?;
+    let words = words_in(alloc, words)?;
     let mut file = ByteSource::new(file);
     let mut certificate = ByteSource::new(certificate);
     let mut text = TextSink::new(alloc);
@@ -66,7 +66,7 @@ pub fn reply(
 pub fn where_reply(alloc: Global, words: &[u8], file: &[u8]) -> Result<Replied, NoMemory>
     ensures { IfOk result (λ r. IsDueOfWhere words.now file.now r.status r.text.text) }
 {
-    let words: WhereWords = words_in(alloc, words)?;
+    let words = words_in(alloc, words)?;
     let mut file = ByteSource::new(file);
     let mut text = TextSink::new(alloc);
     let answer = run_where(alloc, &words, &mut file, &mut text);
@@ -77,7 +77,7 @@ pub fn where_reply(alloc: Global, words: &[u8], file: &[u8]) -> Result<Replied, 
 pub fn repair_reply(alloc: Global, words: &[u8], file: &[u8]) -> Result<Replied, NoMemory>
     ensures { IfOk result (λ r. IsDueOfRepair words.now file.now r.status r.text.text) }
 {
-    let words: RepairWords = words_in(alloc, words)?;
+    let words = words_in(alloc, words)?;
     let mut file = ByteSource::new(file);
     let mut text = TextSink::new(alloc);
     let answer = run_repair(alloc, &words, &mut file, &mut text);

@@ -1,6 +1,5 @@
 pub mod FlagsDecided
 pub mod NeverDone
-pub mod ShortWords
 pub mod GivenWords
 pub mod SameBytes
 pub mod OwedRows

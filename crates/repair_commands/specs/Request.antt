@@ -1,7 +1,7 @@
 -- What the words of a command line ask for.
-use Rattle.std.specs.Prelude.{ℕ, ◌-◌, Bool, ◌&&◌, ◌||◌, nat_le, nat_lt, List, [], ◌∷◌, length, Option, Some, None, bytes_eq, codes, option_map, if◌then◌else◌}
+use Rattle.std.specs.Prelude.{ℕ, ◌-◌, ◌||◌, nat_lt, List, [], ◌∷◌, Option, Some, None, bytes_eq, codes, option_map, if◌then◌else◌}
 use Rattle.std.specs.Str.Parse.{digits_value}
-use Rattle.iges_base.specs.Word.{are_digits}
+use Rattle.command_replies.specs.Numbers.{is_entry_number}
 use Rattle.solid_mend.specs.declared.mending.Choice.{Choice}
 use Rattle.solid_mend.specs.declared.mending.Choice.TheVariants.{Sure, Numbered}
 use Rattle.repair_commands.specs.declared.request.LineCommand.{LineCommand}
@@ -9,21 +9,17 @@ use Rattle.repair_commands.specs.declared.request.LineCommand.TheVariants.{Relay
 use Rattle.repair_commands.specs.declared.request.Request.{Request}
 use Rattle.repair_commands.specs.declared.request.Request.TheVariants as request
 
--- one to seven digits that aren't all 0
-abbrev pub is_number : List ℕ → Bool
-is_number word = are_digits word && nat_le (length word) 7 && nat_le 1 (digits_value 10 word)
-
 abbrev pub command_named : List ℕ → Option LineCommand
 command_named word = if bytes_eq word (codes "relayout") then Some Relayout else (if bytes_eq word (codes "layout") then Some Layout else None)
 
 abbrev pub one_request : List ℕ → Option Request
-one_request number = if is_number number then Some (request.Reorient (digits_value 10 number)) else None
+one_request number = if is_entry_number number then Some (request.Reorient (digits_value 10 number)) else None
 
 abbrev pub mend_request : List ℕ → Choice → Option Request
-mend_request number choice = if is_number number then Some (request.Mend (digits_value 10 number) choice) else None
+mend_request number choice = if is_entry_number number then Some (request.Mend (digits_value 10 number) choice) else None
 
 abbrev pub mended_request : List ℕ → Choice → Option Request
-mended_request number choice = if is_number number then Some (request.Mended (digits_value 10 number) choice) else None
+mended_request number choice = if is_entry_number number then Some (request.Mended (digits_value 10 number) choice) else None
 
 abbrev pub numbered_request : List ℕ → List ℕ → Option Request
 numbered_request command number =

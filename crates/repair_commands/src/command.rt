@@ -10,10 +10,9 @@ ghost use Rattle.command_replies.specs.Ending.{IsComplete, Outcome};
 ghost use Rattle.repair_commands.specs.Owed.{IsOwed};
 
 use crate::reorienting::reorient_solid;
-use crate::replies::{bytes_reply, usage_reply};
-use crate::request::{LineCommand, Request};
-use crate::words::Words;
-use command_replies::{Answer, Reply, Stop, bytes_in, file_in, finish};
+use crate::replies::bytes_reply;
+use crate::request::{LineCommand, Request, USAGE, request_of};
+use command_replies::{Answer, Reply, Stop, Words, bytes_in, file_in, finish, usage_reply};
 use iges_base::FILE_LIMIT;
 use iges_io::{PIECE, Sink, Source};
 use mend_commands::{Choice, mend_solid};
@@ -113,9 +112,9 @@ fn reply_to<F: Source>(alloc: Global, words: &Words, file: &mut F) -> Result<Rep
     ensures reads { IsErrOf result Stop.ReadFault → IsSome (request_of words.now) }
     ensures unread { IsNone (request_of words.now) → file.new ≡ file.old }
 {
-    match words.request() {
+    match request_of(words) {
         Some(request) => source_reply(alloc, request, file),
-        None => Ok(usage_reply(alloc)?),
+        None => Ok(usage_reply(alloc, USAGE)?),
     }
 }
 

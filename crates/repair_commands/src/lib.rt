@@ -7,9 +7,8 @@ mod reorienting;
 mod replies;
 mod report;
 mod request;
-mod words;
 
 pub use command::run_repair;
+pub use command_replies::Words;
 pub use law::{in_layout_is_told, one_answer, one_reorient_answer, some_answer, unoriented_is_no};
-pub use request::{LineCommand, Request};
-pub use words::Words;
+pub use request::{LineCommand, Request, file_named};

@@ -1,7 +1,6 @@
 //! The replies to what is asked of the lines of a file.
 
 ghost use Rattle.iges_base.specs.declared.TheConstants.{FILE_LIMIT};
-ghost use Rattle.repair_commands.specs.Request.{usage_line};
 ghost use Rattle.repair_commands.specs.Due.{OfLines, IsLaid, OfLayout, OfNoLayout};
 ghost use Rattle.repair_commands.specs.Texts.{bad_layout_line, changes_text, in_layout_line};
 ghost use Rattle.std.specs.Prelude.{◌≡◌, ◌≤◌, IfOk, MatchResult, length};
@@ -13,20 +12,7 @@ use iges_base::{Bytes, FILE_LIMIT, NoMemory, Out};
 use line_layout::{LayoutFault, RelaidFault, relaid};
 use std::alloc::Global;
 
-const USAGE: &[u8] =
-    b"usage: igesolid-repair relayout FILE | layout FILE | reorient FILE N | mend FILE N [R] | mended FILE N [R]\n";
-
 const IN_LAYOUT: &[u8] = b"in layout\n";
-
-/// The reply to words of no listed form.
-pub fn usage_reply(alloc: Global) -> Result<Reply, NoMemory>
-    ensures { IfOk result (λ reply. (reply.answer ≡ Answer.Usage) × (reply.text ≡ usage_line)) }
-{
-    Ok(Reply {
-        answer: Answer::Usage,
-        text: Bytes::copy(alloc, USAGE)?,
-    })
-}
 
 fn bad_layout(alloc: Global, fault: LayoutFault) -> Result<Reply, NoMemory>
     ensures { IfOk result (λ reply. (reply.answer ≡ Answer.BadFile)

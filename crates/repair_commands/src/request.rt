@@ -1,11 +1,14 @@
-ghost use Rattle.iges_base.specs.Word.{are_digits};
-ghost use Rattle.repair_commands.specs.Request.{request_of, choice_at, choice_of, chosen_request, command_named, is_number, mend_request, mended_request, numbered_request, one_request, second};
-ghost use Rattle.std.specs.Char.{is_ascii_digit};
-ghost use Rattle.std.specs.List.{list_all};
-ghost use Rattle.std.specs.Prelude.{◌≡◌, ◌&&◌, MatchOption, None, Some, false, true, length, map, nat_le, option_map, string_bytes};
-ghost use Rattle.std.specs.Str.Parse.{digits_value};
+//! What the words of a command line ask for, and the file that they name.
 
+ghost use Rattle.repair_commands.specs.Request.{choice_at, choice_of, chosen_request, command_named, file_named, mend_request, mended_request, numbered_request, one_request, request_of, second};
+ghost use Rattle.std.specs.Prelude.{◌≡◌, MatchOption, None, Some, map, option_map, string_bytes};
+
+use command_replies::{Words, entry_number_in};
 use mend_commands::Choice;
+
+/// The usage line.
+pub const USAGE: &[u8] =
+    b"usage: igesolid-repair relayout FILE | layout FILE | reorient FILE N | mend FILE N [R] | mended FILE N [R]\n";
 
 /// A command on the lines of a file.
 #[derive(Clone, Copy)]
@@ -27,35 +30,6 @@ pub enum Request {
     Mend(u32, Choice),
     /// What is changed to make that file.
     Mended(u32, Choice),
-}
-
-fn all_digits(word: &[u8]) -> bool
-    ensures { result ≡ list_all is_ascii_digit word.now }
-{
-    word.iter().all(|b| b.is_ascii_digit())
-}
-
-fn is_short_number(word: &[u8]) -> bool
-    ensures { result ≡ (are_digits word.now && nat_le (length word.now) 7) }
-{
-    !word.is_empty() && all_digits(word) && word.len() <= 7
-}
-
-// The number that one to seven digits write, but for 0.
-fn number_in(word: &str) -> Option<u32>
-    ensures { MatchOption result (is_number word.now ≡ false)
-        (λ n. (is_number word.now ≡ true) × (n ≡ digits_value 10 word.now)) }
-{
-    if !is_short_number(word.as_bytes()) {
-        return None;
-    }
-    let Ok(n) = word.parse::<u32>() else {
-        return None;
-    };
-    if n == 0 {
-        return None;
-    }
-    Some(n)
 }
 
 fn command_named(word: &str) -> Option<LineCommand>
@@ -82,7 +56,7 @@ fn lines_request(command: &str) -> Option<Request>
 fn one_request(number: &str) -> Option<Request>
     ensures { result ≡ one_request number.now }
 {
-    match number_in(number) {
+    match entry_number_in(number) {
         Some(n) => Some(Request::Reorient(n)),
         None => None,
     }
@@ -91,7 +65,7 @@ fn one_request(number: &str) -> Option<Request>
 fn mend_request(number: &str, choice: Choice) -> Option<Request>
     ensures { result ≡ mend_request number.now choice }
 {
-    match number_in(number) {
+    match entry_number_in(number) {
         Some(n) => Some(Request::Mend(n, choice)),
         None => None,
     }
@@ -100,7 +74,7 @@ fn mend_request(number: &str, choice: Choice) -> Option<Request>
 fn mended_request(number: &str, choice: Choice) -> Option<Request>
     ensures { result ≡ mended_request number.now choice }
 {
-    match number_in(number) {
+    match entry_number_in(number) {
         Some(n) => Some(Request::Mended(n, choice)),
         None => None,
     }
@@ -155,8 +129,7 @@ fn chosen_request(command: &str, number: &str, word: &str) -> Option<Request>
     None
 }
 
-/// What these words ask for; None where they have no listed form.
-pub fn request_in(words: &[String]) -> Option<Request>
+fn request_in(words: &[String]) -> Option<Request>
     ensures { result ≡ request_of (map string_bytes words.now) }
 {
     match words {
@@ -169,13 +142,31 @@ pub fn request_in(words: &[String]) -> Option<Request>
     }
 }
 
-/// The second word; None where there are fewer.
-pub fn second_of(words: &[String]) -> Option<&str>
+// The second word; None where there are fewer.
+fn second_of(words: &[String]) -> Option<&str>
     ensures { MatchOption result (second (map string_bytes words.now) ≡ None)
         (λ word. second (map string_bytes words.now) ≡ Some word.now) }
 {
     match words {
         [_, word, ..] => Some(word.as_str()),
         _ => None,
+    }
+}
+
+/// What the words ask for; None where they have no listed form.
+pub fn request_of(words: &Words) -> Option<Request>
+    ensures { result ≡ request_of words.now }
+{
+    request_in(words.as_slice())
+}
+
+/// The name of the file that the words name; None where they have no listed form.
+pub fn file_named(words: &Words) -> Option<&str>
+    ensures { MatchOption result (file_named words.now ≡ None)
+        (λ name. file_named words.now ≡ Some name.now) }
+{
+    match request_of(words) {
+        Some(_) => second_of(words.as_slice()),
+        None => None,
     }
 }

@@ -1,4 +1,3 @@
-pub mod ShortWords
 pub mod GivenWords
 pub mod Outcomes
 pub mod OneFaults

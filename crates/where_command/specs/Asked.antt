@@ -1,18 +1,14 @@
 -- What the words of a command line ask for.
-use Rattle.std.specs.Prelude.{ℕ, Bool, ◌&&◌, nat_le, List, [], ◌∷◌, length, Option, Some, None, bytes_eq, codes, if◌then◌else◌}
+use Rattle.std.specs.Prelude.{ℕ, List, [], ◌∷◌, Option, Some, None, bytes_eq, codes, if◌then◌else◌}
 use Rattle.std.specs.Str.Parse.{digits_value}
-use Rattle.iges_base.specs.Word.{are_digits}
+use Rattle.command_replies.specs.Numbers.{is_entry_number}
 use Rattle.where_text.specs.declared.listing.Listing.{Listing}
 use Rattle.where_text.specs.declared.listing.Listing.TheVariants as listing
 use Rattle.where_command.specs.declared.asked.Asked.{Asked}
 use Rattle.where_command.specs.declared.asked.Asked.TheVariants as asked
 
--- one to seven digits that aren't all 0
-abbrev pub is_number : List ℕ → Bool
-is_number word = are_digits word && nat_le (length word) 7 && nat_le 1 (digits_value 10 word)
-
 abbrev pub one_asked : List ℕ → Listing → Option Asked
-one_asked number l = if is_number number then Some (asked.Solid (digits_value 10 number) l) else None
+one_asked number l = if is_entry_number number then Some (asked.Solid (digits_value 10 number) l) else None
 
 -- FILE, FILE N or FILE N all
 abbrev pub asked_of : List (List ℕ) → Option Asked

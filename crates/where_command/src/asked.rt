@@ -1,11 +1,13 @@
-ghost use Rattle.std.specs.Prelude.{◌≡◌, ◌&&◌, None, MatchOption, bytes_eq, codes, false, if◌then◌else◌, length, map, nat_le, string_bytes, true};
-ghost use Rattle.iges_base.specs.Word.{are_digits};
-ghost use Rattle.std.specs.Char.{is_ascii_digit};
-ghost use Rattle.std.specs.List.{list_all};
-ghost use Rattle.std.specs.Str.Parse.{digits_value};
-ghost use Rattle.where_command.specs.Asked.{asked_of, is_number, one_asked};
+//! What the words of a command line ask for, and the file that they name.
 
+ghost use Rattle.std.specs.Prelude.{◌≡◌, ◌∷◌, [], List, MatchOption, None, Some, bytes_eq, codes, if◌then◌else◌, map, string_bytes, ℕ};
+ghost use Rattle.where_command.specs.Asked.{asked_of, file_named, one_asked};
+
+use command_replies::{Words, entry_number_in};
 use where_text::Listing;
+
+/// The usage line.
+pub const USAGE: &[u8] = b"usage: igesolid-where FILE [N [all]]\n";
 
 /// What the words of a command line ask for.
 #[derive(Clone, Copy)]
@@ -16,40 +18,11 @@ pub enum Asked {
     Solid(u32, Listing),
 }
 
-fn all_digits(word: &[u8]) -> bool
-    ensures { result ≡ list_all is_ascii_digit word.now }
-{
-    word.iter().all(|b| b.is_ascii_digit())
-}
-
-fn is_short_number(word: &[u8]) -> bool
-    ensures { result ≡ (are_digits word.now && nat_le (length word.now) 7) }
-{
-    !word.is_empty() && all_digits(word) && word.len() <= 7
-}
-
-// The number that one to seven digits write, but for 0.
-fn number_in(word: &str) -> Option<u32>
-    ensures { MatchOption result (is_number word.now ≡ false)
-        (λ n. (is_number word.now ≡ true) × (n ≡ digits_value 10 word.now)) }
-{
-    if !is_short_number(word.as_bytes()) {
-        return None;
-    }
-    let Ok(n) = word.parse::<u32>() else {
-        return None;
-    };
-    if n == 0 {
-        return None;
-    }
-    Some(n)
-}
-
 // None where the word is no directory number.
 fn one_asked(number: &str, listing: Listing) -> Option<Asked>
     ensures { result ≡ one_asked number.now listing }
 {
-    match number_in(number) {
+    match entry_number_in(number) {
         Some(n) => Some(Asked::Solid(n, listing)),
         None => None,
     }
@@ -66,8 +39,7 @@ fn all_asked(number: &str, word: &str) -> Option<Asked>
     None
 }
 
-/// What these words ask for; None where they have no listed form.
-pub fn asked_in(words: &[String]) -> Option<Asked>
+fn asked_in(words: &[String]) -> Option<Asked>
     ensures { result ≡ asked_of (map string_bytes words.now) }
 {
     match words {
@@ -75,5 +47,34 @@ pub fn asked_in(words: &[String]) -> Option<Asked>
         [_, number] => one_asked(number.as_str(), Listing::Few),
         [_, number, word] => all_asked(number.as_str(), word.as_str()),
         _ => None,
+    }
+}
+
+// The first of the words.
+fn first_of(words: &[String]) -> Option<&str>
+    ensures { MatchOption result (words.now ≡ [])
+        (λ name. (rest : List (List ℕ)) × (map string_bytes words.now ≡ name.now ∷ rest)) }
+{
+    match words {
+        [] => None,
+        [file, ..] => Some(file.as_str()),
+    }
+}
+
+/// What the words ask for; None where they have no listed form.
+pub fn asked_of(words: &Words) -> Option<Asked>
+    ensures { result ≡ asked_of words.now }
+{
+    asked_in(words.as_slice())
+}
+
+/// The name of the file that the words name; None where they have no listed form.
+pub fn file_named(words: &Words) -> Option<&str>
+    ensures { MatchOption result (file_named words.now ≡ None)
+        (λ name. file_named words.now ≡ Some name.now) }
+{
+    match asked_of(words) {
+        Some(_) => first_of(words.as_slice()),
+        None => None,
     }
 }

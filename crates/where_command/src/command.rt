@@ -9,11 +9,10 @@ ghost use Rattle.where_command.specs.Due.{DueFor};
 ghost use Rattle.command_replies.specs.Ending.{IsComplete, Outcome};
 ghost use Rattle.where_command.specs.Owed.{IsOwed};
 
-use crate::asked::Asked;
+use crate::asked::{Asked, USAGE, asked_of};
 use crate::reading::file_in;
-use crate::replies::{contents_reply, usage_reply};
-use crate::words::Words;
-use command_replies::{Answer, Reply, Stop, finish};
+use crate::replies::contents_reply;
+use command_replies::{Answer, Reply, Stop, Words, finish, usage_reply};
 use iges_io::{PIECE, Sink, Source};
 use std::alloc::Global;
 
@@ -42,9 +41,9 @@ fn reply_to<F: Source>(alloc: Global, words: &Words, file: &mut F) -> Result<Rep
     ensures reads { IsErrOf result Stop.ReadFault → IsSome (asked_of words.now) }
     ensures unread { IsNone (asked_of words.now) → file.new ≡ file.old }
 {
-    match words.asked() {
+    match asked_of(words) {
         Some(asked) => source_reply(alloc, asked, file),
-        None => Ok(usage_reply(alloc)?),
+        None => Ok(usage_reply(alloc, USAGE)?),
     }
 }
 

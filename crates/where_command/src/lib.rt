@@ -6,9 +6,8 @@ mod command;
 mod law;
 mod reading;
 mod replies;
-mod words;
 
-pub use asked::Asked;
+pub use asked::{Asked, file_named};
 pub use command::run_where;
+pub use command_replies::Words;
 pub use law::{closed_is_told, one_answer, told_remedies_pass};
-pub use words::Words;

@@ -2,30 +2,17 @@
 
 ghost use Rattle.solid_hints.specs.ShellHints.{ShellRemedies};
 ghost use Rattle.std.specs.Prelude.{◌≡◌, IfOk, List};
-ghost use Rattle.where_command.specs.Asked.{usage_line};
 ghost use Rattle.where_command.specs.Due.{OfContents, OfOverview, OfSolid, answer_to, answer_where};
 
 use crate::asked::Asked;
 use command_replies::{Answer, Reply};
-use iges_fields::{Bytes, EntryNo, NoMemory};
+use iges_fields::{EntryNo, NoMemory};
 use solid_data::Verdict;
 use std::alloc::Global;
 use where_overview::tell_all;
 use where_places::PlacedFile;
 use where_solids::tell;
 use where_text::Listing;
-
-const USAGE: &[u8] = b"usage: igesolid-where FILE [N [all]]\n";
-
-/// The reply to words of no listed form.
-pub fn usage_reply(alloc: Global) -> Result<Reply, NoMemory>
-    ensures { IfOk result (λ reply. (reply.answer ≡ Answer.Usage) × (reply.text ≡ usage_line)) }
-{
-    Ok(Reply {
-        answer: Answer::Usage,
-        text: Bytes::copy(alloc, USAGE)?,
-    })
-}
 
 fn answer_to(verdict: Verdict) -> Answer
     ensures { result ≡ answer_to verdict }

@@ -2,4 +2,4 @@ use Rattle.std.proofs.Common.{◌≡◌, ◌++◌, map, take}
 use Rattle.igesolid_c.proofs.words.add_all.Given as goal
 
 abbrev pub invariant-adds : goal.invariant-adds
-invariant-adds g l = g.W.WordList.words l.words ≡ g.W.WordList.words l.fn.words ++ map (λ x. x.now) (take l.piece-index l.pieces)
+invariant-adds l = l.words ≡ l.fn.words ++ map (λ x. x.now) (take l.piece-index l.pieces)

@@ -1,8 +1,8 @@
-ghost use Rattle.std.specs.Prelude.{◌≡◌, ◌∷◌, ◌++◌, [], IfOk, None, Some, MatchOption, OnErr, OnOk, drop, map, string_bytes};
-ghost use Rattle.std.specs.Vec.Iter.{into_iter_items};
-ghost use Rattle.repair_commands.specs.Request.{request_of, file_named};
+//! The words that a program is given.
 
-use crate::request::{Request, request_in, second_of};
+ghost use Rattle.std.specs.Prelude.{◌≡◌, ◌∷◌, ◌++◌, [], IfOk, OnErr, OnOk, drop, map, string_bytes};
+ghost use Rattle.std.specs.Vec.Iter.{into_iter_items};
+
 use iges_base::NoMemory;
 use std::alloc::Global;
 use std::env::Args;
@@ -53,21 +53,10 @@ impl Words {
         Ok(())
     }
 
-    /// What the words ask for; None where they have no listed form.
-    pub fn request(&self) -> Option<Request>
-        ensures { result ≡ request_of self.now }
+    /// The words in their order.
+    pub fn as_slice(&self) -> &[String]
+        ensures { map string_bytes result.now ≡ self.now }
     {
-        request_in(self.words.as_slice())
-    }
-
-    /// The name of the file that the words name; None where they have no listed form.
-    pub fn file(&self) -> Option<&str>
-        ensures { MatchOption result (file_named self.now ≡ None)
-            (λ name. file_named self.now ≡ Some name.now) }
-    {
-        match self.request() {
-            Some(_) => second_of(self.words.as_slice()),
-            None => None,
-        }
+        self.words.as_slice()
     }
 }

@@ -3,7 +3,7 @@ use Rattle.std.proofs.lemmas.List.{drop-map, map-id}
 use Rattle.std.proofs.lemmas.Iterator.{items_from_drains}
 use Rattle.std.proofs.lemmas.Iterator.Adapters.{YieldsList-from_skip, YieldsList-from_vec}
 use Rattle.std.specs.Vec.Iter.{into_iter_items, into_iter_len}
-use Rattle.where_command.proofs.words.Words.behind_name.Goals as goal
+use Rattle.command_replies.proofs.words.Words.behind_name.Goals as goal
 
 pub returns : goal.returns
 returns c =
