@@ -16,7 +16,7 @@ pub use counts::{ShellCounts, TallyCounts};
 pub use cutting::{first_ended, first_line};
 pub use law::{lines_are_decided, one_line, one_opening};
 pub use leading::{leading_edge, leading_reach};
-pub use opening::{head_line, read_opening, solid_line};
+pub use opening::{at_line, head_line, read_opening, solid_line};
 pub use parsed::{Judged, ParsedLine, judge};
 pub use parts::{Certificate, Certificates, EdgePairs, ReachRows, ShellPart, ShellParts};
 pub use solid_data::{Corner as CornerLine, Corners};

@@ -40,7 +40,8 @@ pub fn solid_line(line: &[u8]) -> Result<EntryNo, Misfit>
     }
 }
 
-fn at_line(misfit: Misfit, line: u64) -> Illegal
+/// What is wrong with the line of this number.
+pub fn at_line(misfit: Misfit, line: u64) -> Illegal
     ensures { result ≡ illegal_at misfit line }
 {
     match misfit {

@@ -53,9 +53,47 @@ impl Model for OpenState {
 
     ghost Value = { OpenCheckState };
 
-    ghost view = { λ k. record { entity = k.entity.0; rows = k.rows; sizes = k.sizes.items; alone = k.alone.items; begun = k.begun; mates = k.mates.items; lone = k.lone.items; lone_count = k.lone_count; reached = k.reached.items; edges_due = k.edges_due; corners_due = k.corners_due; reach_due = k.reach_due; borders_due = k.borders_due; listed = k.listed; bordered = k.bordered; last_edge = k.last_edge; last_vertex = k.last_vertex; last_border = k.last_border } };
+    ghost view = { λ k. record {
+      entity = k.entity.0;
+      rows = k.rows;
+      sizes = k.sizes.items;
+      alone = k.alone.items;
+      begun = k.begun;
+      mates = k.mates.items;
+      lone = k.lone.items;
+      lone_count = k.lone_count;
+      reached = k.reached.items;
+      edges_due = k.edges_due;
+      corners_due = k.corners_due;
+      reach_due = k.reach_due;
+      borders_due = k.borders_due;
+      listed = k.listed;
+      bordered = k.bordered;
+      last_edge = k.last_edge;
+      last_vertex = k.last_vertex;
+      last_border = k.last_border;
+    } };
 
-    ghost invariant = { λ k. IsCheckState (record { entity = k.entity.0; rows = k.rows; sizes = k.sizes.items; alone = k.alone.items; begun = k.begun; mates = k.mates.items; lone = k.lone.items; lone_count = k.lone_count; reached = k.reached.items; edges_due = k.edges_due; corners_due = k.corners_due; reach_due = k.reach_due; borders_due = k.borders_due; listed = k.listed; bordered = k.bordered; last_edge = k.last_edge; last_vertex = k.last_vertex; last_border = k.last_border }) };
+    ghost invariant = { λ k. IsCheckState (record {
+      entity = k.entity.0;
+      rows = k.rows;
+      sizes = k.sizes.items;
+      alone = k.alone.items;
+      begun = k.begun;
+      mates = k.mates.items;
+      lone = k.lone.items;
+      lone_count = k.lone_count;
+      reached = k.reached.items;
+      edges_due = k.edges_due;
+      corners_due = k.corners_due;
+      reach_due = k.reach_due;
+      borders_due = k.borders_due;
+      listed = k.listed;
+      bordered = k.bordered;
+      last_edge = k.last_edge;
+      last_vertex = k.last_vertex;
+      last_border = k.last_border;
+    }) };
 }
 
 ghost use Rattle.std.specs.Prelude.{◌≡◌, ◌<◌, IfOk, length, replicate, ◌∷◌, [], false};

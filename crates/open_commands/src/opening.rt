@@ -1,22 +1,12 @@
 //! The first two lines of an open shell's certificate.
 
-ghost use Rattle.std.specs.Prelude.{◌≡◌, MatchResult};
+ghost use Rattle.std.specs.Prelude.{MatchResult};
 ghost use Rattle.cert_lines.specs.Line.{cut_lines};
-ghost use Rattle.cert_lines.specs.Opening.{illegal_at};
 ghost use Rattle.open_commands.specs.Opening.{OpensShell, IsBadOpening};
 
-use cert_lines::first_line;
+use cert_lines::{at_line, first_line};
 use iges_base::EntryNo;
-use open_shells::{Illegal, Misfit, open_head, shell_number};
-
-fn at_line(misfit: Misfit, line: u64) -> Illegal
-    ensures { result ≡ illegal_at misfit line }
-{
-    match misfit {
-        Misfit::Misspelt => Illegal::Misspelt { line },
-        Misfit::Unfit => Illegal::Unfit { line },
-    }
-}
+use open_shells::{Illegal, open_head, shell_number};
 
 /// The shell that a certificate names in its second line, and the text from that line on; or the first of the first two
 /// lines that is missing, misspelt or unfit.

@@ -4,14 +4,13 @@ ghost use Rattle.std.specs.Prelude.{◌≡◌, ◌≤◌, ◌<◌, ◌++◌, ◌
 ghost use Rattle.iges_base.specs.Ended.{ended};
 ghost use Rattle.iges_base.specs.InLine.{is_in_line};
 ghost use Rattle.cert_lines.specs.Line.{first_limit};
-ghost use Rattle.cert_lines.specs.Opening.{illegal_at};
 ghost use Rattle.cert_lines.specs.Opening.{Opens, IsBadOpening};
 ghost use Rattle.cert_lines.specs.declared.version.Version.{Version as Edition};
 ghost use Rattle.cert_text.specs.declared.fault.Illegal.TheVariants.{Missing, Misspelt};
 ghost use Rattle.topo_certificate.specs.OpeningFed.{HasCome, IsOpening, IsStep, IsWaiting, StageAfter, Stays, StaysAtEnd};
 
 use crate::line_start::LineStart;
-use cert_lines::{Illegal, Misfit, Version, first_ended, head_line, solid_line};
+use cert_lines::{Illegal, Version, at_line, first_ended, head_line, solid_line};
 use iges_base::EntryNo;
 use std::marker::Model;
 
@@ -58,16 +57,6 @@ impl Model for Opening {
     ghost view = { λ o. record { kept = o.start; stage = o.stage } };
 
     ghost invariant = { λ o. length o.start ≤ 64 };
-}
-
-// The fault of the line with this number.
-fn at_line(misfit: Misfit, line: u64) -> Illegal
-    ensures { result ≡ illegal_at misfit line }
-{
-    match misfit {
-        Misfit::Misspelt => Illegal::Misspelt { line },
-        Misfit::Unfit => Illegal::Unfit { line },
-    }
 }
 
 // How far the opening has come after a line.
