@@ -1,71 +1,85 @@
 //! What may still be done to a shell once it is sewn and faces are removed.
 
 use crate::found::{Found, add_trial};
-use shell_trial::{Facts, Memory, NONE, Table, Trial, copy_of, short, table_of};
+use shell_trial::{Facts, Memory, Table, Trial, copy_of, table_of};
 use trial_seams::Sewn;
-use trial_steps::{By, fill, has_same_way, part, split_edges, split_vertices, turn, turn_uses};
+use trial_steps::{
+    By, can_split_edges, fans_of, fill, is_whole, part, split_edges, split_vertices, turn,
+    turn_uses,
+};
 
-fn is_crowded(table: &Table) -> bool {
-    'rows: for i in 0..table.rows.len() {
-        let row = table.row(short(i));
-        if row.edge != NONE && table.rows_on(row.edge) > 2 {
-            return true;
-        }
-    }
-    false
+// Whether each loop joins, and the rows of each edge with two run opposite; with the rows, if something was turned for that.
+#[derive(Drop)]
+enum Straight {
+    Not,
+    Already,
+    Now(Table),
 }
 
-// The rows of a shell, if each loop joins and the rows of each edge with two run opposite.
-fn straight(table: Table) -> Option<Table> {
-    if table.gaps.is_empty() && !has_same_way(&table) {
-        Some(table)
+fn straightened(table: Table) -> Straight {
+    if table.gaps.is_empty() && !table.same_way {
+        Straight::Now(table)
     } else {
-        None
+        Straight::Not
     }
 }
 
-// Turns what runs the wrong way. The rows, if each loop joins then, and the rows of each edge with two run opposite.
-fn straighten(memory: &mut Memory, facts: &Facts, trial: &mut Trial) -> Option<Table> {
-    let table = turn(memory, facts, trial);
-    if table.gaps.is_empty() {
-        return straight(table);
+// Turns uses in the loops that have gaps, and what runs the wrong way then.
+fn straighten_loops(
+    memory: &mut Memory,
+    facts: &Facts,
+    trial: &mut Trial,
+    table: &Table,
+) -> Straight {
+    if !turn_uses(memory, facts, trial, table) {
+        return Straight::Not;
     }
-    if !turn_uses(memory, facts, trial, &table) {
-        return None;
+    let now = table_of(memory, facts, trial);
+    if !now.same_way {
+        return straightened(now);
     }
-    straight(turn(memory, facts, trial))
+    if !turn(memory, facts, trial, &now) {
+        return Straight::Not;
+    }
+    straightened(table_of(memory, facts, trial))
 }
 
-// Parts a shell, if it isn't parted yet. The rows then.
-fn parted(memory: &mut Memory, facts: &Facts, trial: &mut Trial, table: Table) -> Table {
-    if trial.piece_count < 2 && part(memory, facts, trial, &table, By::All) {
-        return table_of(memory, facts, trial);
+// Turns what runs the wrong way.
+fn straighten(memory: &mut Memory, facts: &Facts, trial: &mut Trial, table: &Table) -> Straight {
+    let turned = table.same_way && turn(memory, facts, trial, table);
+    if !table.gaps.is_empty() {
+        return straighten_loops(memory, facts, trial, table);
     }
-    table
+    if turned {
+        return straightened(table_of(memory, facts, trial));
+    }
+    if table.same_way {
+        Straight::Not
+    } else {
+        Straight::Already
+    }
 }
 
-// Splits the vertices of a shell. The rows then.
-fn split(memory: &mut Memory, facts: &Facts, trial: &mut Trial, table: Table) -> Table {
-    if split_vertices(memory, facts, trial, &table) {
-        return table_of(memory, facts, trial);
-    }
-    table
-}
-
-// Parts a shell, splits its vertices and fills its rims; if it passes, it is a remedy.
+// Parts a shell, if it isn't parted yet, splits its vertices and fills its rims; if it passes, it is a remedy. None of this changes
+// the rows of an edge.
 fn finish(
     memory: &mut Memory,
     facts: &Facts,
     sewn: &Sewn,
     trial: &mut Trial,
-    table: Table,
+    table: &Table,
     found: &mut Found,
 ) {
-    let table = parted(memory, facts, trial, table);
-    let table = split(memory, facts, trial, table);
-    if fill(memory, facts, trial, &table) {
-        add_trial(memory, facts, sewn, trial, found);
+    if !is_whole(table) {
+        return;
     }
+    if trial.piece_count < 2 {
+        let _parted = part(memory, facts, trial, table, By::All);
+    }
+    let fans = fans_of(memory, table);
+    split_vertices(memory, facts, trial, table, &fans);
+    fill(memory, facts, trial, table, &fans);
+    add_trial(memory, facts, sewn, trial, found);
 }
 
 // Makes crowded edges edges of two rows, in one of three ways. The rows then, if that way does something.
@@ -82,10 +96,12 @@ fn thin(
         }
         return Some(table_of(memory, facts, trial));
     }
-    if !split_edges(memory, facts, trial, table, way.saturating_sub(1)) {
-        return None;
+    split_edges(memory, facts, trial, table, way.saturating_sub(1));
+    let now = table_of(memory, facts, trial);
+    if now.same_way && turn(memory, facts, trial, &now) {
+        return Some(table_of(memory, facts, trial));
     }
-    Some(turn(memory, facts, trial))
+    Some(now)
 }
 
 fn try_way(
@@ -98,28 +114,42 @@ fn try_way(
 ) {
     let (way, table) = way;
     if let Some(thinned) = thin(memory, facts, trial, table, way) {
-        finish(memory, facts, sewn, trial, thinned, found);
+        finish(memory, facts, sewn, trial, &thinned, found);
     }
 }
 
-/// Tries what may still be done to a shell, and adds the remedies that there are.
+// What may be done to a shell of which each loop joins, and the rows of each edge with two run opposite.
+fn try_straight(
+    memory: &mut Memory,
+    facts: &Facts,
+    sewn: &Sewn,
+    trial: &mut Trial,
+    table: &Table,
+    found: &mut Found,
+) {
+    if !table.crowded {
+        return finish(memory, facts, sewn, trial, table, found);
+    }
+    let ways = if can_split_edges(table) { 3 } else { 1 };
+    'ways: for way in 0..ways {
+        let mut other = copy_of(memory, trial);
+        try_way(memory, facts, sewn, &mut other, (way, table), found);
+    }
+}
+
+/// Tries what may still be done to a shell, of which these are the rows, and adds the remedies that there are.
 pub(crate) fn try_ways(
     memory: &mut Memory,
     facts: &Facts,
     sewn: &Sewn,
     trial: &mut Trial,
+    table: &Table,
     found: &mut Found,
 ) {
     found.count_trial();
-    let Some(table) = straighten(memory, facts, trial) else {
-        return;
-    };
-    if !is_crowded(&table) {
-        finish(memory, facts, sewn, trial, table, found);
-        return;
-    }
-    'ways: for way in 0..3 {
-        let mut other = copy_of(memory, trial);
-        try_way(memory, facts, sewn, &mut other, (way, &table), found);
+    match straighten(memory, facts, trial, table) {
+        Straight::Not => {}
+        Straight::Already => try_straight(memory, facts, sewn, trial, table, found),
+        Straight::Now(now) => try_straight(memory, facts, sewn, trial, &now, found),
     }
 }

@@ -3,7 +3,7 @@
 use shell_change::Remedy;
 use shell_trial::{Facts, Memory, Trial, at, is_set, set, short};
 use solid_data::ShellAt;
-use trial_changes::{are_alike, change_of, removed_alike};
+use trial_changes::{Seams, change_of, is_alike, removed_alike, seams_of};
 use trial_seams::Sewn;
 
 // So many remedies are told.
@@ -54,11 +54,11 @@ fn shares_some(facts: &Facts) -> bool {
     false
 }
 
-// The place of a remedy that does the same, and its cost; None if there is none.
-fn same_at(remedies: &[Remedy], splits: &[u32], remedy: &Remedy, split: u32) -> Option<(u32, u32)> {
+// The place of a remedy that does the same as a trial with these seams, and its cost; None if there is none.
+fn same_at(found: &Found, facts: &Facts, trial: &Trial, seams: &Seams) -> Option<(u32, u32)> {
     let mut i = 0u32;
-    'remedies: for other in remedies {
-        if at(splits, i) == split && are_alike(&other.change, &remedy.change) {
+    'remedies: for other in found.remedies.as_slice() {
+        if at(&found.splits, i) == trial.split && is_alike(facts, trial, seams, &other.change) {
             return Some((i, other.cost));
         }
         i = i.saturating_add(1);
@@ -86,19 +86,6 @@ fn leave_out(found: &mut Found, i: u32) {
     }
 }
 
-// Whether a remedy that does the same stays, since it costs no more; one that costs more goes.
-fn has_as_good(found: &mut Found, remedy: &Remedy, split: u32) -> bool {
-    match same_at(&found.remedies, &found.splits, remedy, split) {
-        None => false,
-        Some((i, cost)) => {
-            if cost > remedy.cost {
-                leave_out(found, i);
-            }
-            cost <= remedy.cost
-        }
-    }
-}
-
 fn insert<T: Drop>(memory: &mut Memory, list: &mut Vec<T>, place: usize, item: T) {
     if place <= list.len() && list.insert(place, item).is_err() {
         memory.run_out();
@@ -111,6 +98,35 @@ fn add(memory: &mut Memory, found: &mut Found, remedy: Remedy, split: u32) {
     insert(memory, &mut found.splits, place, split);
     found.remedies.truncate(MOST_TOLD);
     found.splits.truncate(MOST_TOLD);
+}
+
+// Whether a remedy of this cost would come after all that are told.
+fn is_too_dear(found: &Found, cost: u32) -> bool {
+    found.remedies.len() >= MOST_TOLD && place_for(&found.remedies, cost) >= MOST_TOLD
+}
+
+// Puts a trial among the remedies, unless one that does the same costs no more; one that costs more goes.
+fn add_unlike(memory: &mut Memory, facts: &Facts, sewn: &Sewn, trial: &Trial, found: &mut Found) {
+    let cost = trial.cost.max(1);
+    let seams = seams_of(memory, facts, trial, sewn);
+    let same = same_at(found, facts, trial, &seams);
+    if let Some((_, other)) = same {
+        if other <= cost {
+            return;
+        }
+    }
+    let Some(change) = change_of(memory, facts, sewn, trial, seams, found.shell) else {
+        return;
+    };
+    if let Some((i, _)) = same {
+        leave_out(found, i);
+    }
+    let remedy = Remedy {
+        change,
+        cost,
+        sure: trial.sure,
+    };
+    add(memory, found, remedy, trial.split);
 }
 
 /// Puts a trial after which the shell passes among the remedies.
@@ -127,16 +143,8 @@ pub(crate) fn add_trial(
             return;
         }
     }
-    let Some(change) = change_of(memory, facts, sewn, trial, found.shell) else {
-        return;
-    };
-    let remedy = Remedy {
-        change,
-        cost: trial.cost.max(1),
-        sure: trial.sure,
-    };
-    if !has_as_good(found, &remedy, trial.split) {
-        add(memory, found, remedy, trial.split);
+    if !is_too_dear(found, trial.cost.max(1)) {
+        add_unlike(memory, facts, sewn, trial, found);
     }
 }
 

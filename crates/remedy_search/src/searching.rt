@@ -4,21 +4,34 @@ use crate::ending::try_ways;
 use crate::found::{Found, settle};
 use iges_base::NoMemory;
 use shell_change::{Known, Remedy};
-use shell_trial::{Facts, Memory, Trial, copy_of, facts_of, first_trial, table_of};
+use shell_trial::{Facts, Memory, Table, Trial, copy_of, facts_of, first_trial, table_of};
 use solid_data::{ShellAt, Solid};
 use std::alloc::Global;
 use trial_removals::{copies, like_faces, removals, remove};
-use trial_seams::{SeamCounts, Sewn, sew};
+use trial_seams::{SeamCounts, Sewn, seams_at, sew};
+
+const NO_SEAMS: SeamCounts = SeamCounts {
+    sure: 0,
+    ends: 0,
+    curve: 0,
+    gaps: 0,
+};
 
 // Tries a sewn shell, as it is and with each set of faces removed that may be too many.
-fn try_removals(memory: &mut Memory, facts: &Facts, sewn: &Sewn, trial: &Trial, found: &mut Found) {
+fn try_removals(
+    memory: &mut Memory,
+    facts: &Facts,
+    sewn: &Sewn,
+    trial: &Trial,
+    table: &Table,
+    found: &mut Found,
+) {
     let mut plain = copy_of(memory, trial);
-    try_ways(memory, facts, sewn, &mut plain, found);
+    try_ways(memory, facts, sewn, &mut plain, table, found);
     if found.is_over() {
         return;
     }
-    let table = table_of(memory, facts, trial);
-    let removals = removals(memory, facts, trial, &table);
+    let removals = removals(memory, facts, trial, table);
     'removals: for i in 0..removals.len() {
         if found.is_over() {
             break 'removals;
@@ -26,8 +39,28 @@ fn try_removals(memory: &mut Memory, facts: &Facts, sewn: &Sewn, trial: &Trial, 
         let mut other = copy_of(memory, trial);
         remove(&mut other, &removals[i]);
         other.sure = false;
-        try_ways(memory, facts, sewn, &mut other, found);
+        let rows = table_of(memory, facts, &other);
+        try_ways(memory, facts, sewn, &mut other, &rows, found);
     }
+}
+
+// Sews a shell by these seams, if there are any, and tries it.
+fn try_sewn(
+    memory: &mut Memory,
+    facts: &Facts,
+    sewn: Sewn,
+    trial: &Trial,
+    table: &Table,
+    found: &mut Found,
+) {
+    if sewn.counts == NO_SEAMS {
+        return try_removals(memory, facts, &sewn, trial, table, found);
+    }
+    let mut sewn = sewn;
+    let mut other = copy_of(memory, trial);
+    sew(memory, facts, table, &mut other, &mut sewn);
+    let rows = table_of(memory, facts, &other);
+    try_removals(memory, facts, &sewn, &other, &rows, found)
 }
 
 fn is_among(seen: &[SeamCounts], counts: SeamCounts) -> bool {
@@ -40,17 +73,17 @@ fn is_among(seen: &[SeamCounts], counts: SeamCounts) -> bool {
 }
 
 // Tries a shell unsewn, and sewn at each level that sews other numbers than those before.
-fn try_levels(memory: &mut Memory, facts: &Facts, trial: &Trial, found: &mut Found) {
+fn try_levels(memory: &mut Memory, facts: &Facts, trial: &Trial, table: &Table, found: &mut Found) {
     let mut seen = memory.list();
     'levels: for level in 0..5 {
         if found.is_over() {
             break 'levels;
         }
-        let mut other = copy_of(memory, trial);
-        let sewn = sew(memory, facts, &mut other, level);
-        if !is_among(&seen, sewn.counts) {
-            memory.add(&mut seen, sewn.counts);
-            try_removals(memory, facts, &sewn, &other, found);
+        let sewn = seams_at(memory, facts, table, level);
+        let counts = sewn.counts;
+        if !is_among(&seen, counts) {
+            memory.add(&mut seen, counts);
+            try_sewn(memory, facts, sewn, trial, table, found);
         }
     }
 }
@@ -58,11 +91,11 @@ fn try_levels(memory: &mut Memory, facts: &Facts, trial: &Trial, found: &mut Fou
 // Tries a shell as it is, and without the faces that are there twice.
 fn try_all(memory: &mut Memory, facts: &Facts, like: &[u32], found: &mut Found) {
     let trial = first_trial(memory, facts);
-    try_levels(memory, facts, &trial, found);
+    let table = table_of(memory, facts, &trial);
+    try_levels(memory, facts, &trial, &table, found);
     if found.is_over() {
         return;
     }
-    let table = table_of(memory, facts, &trial);
     let copies = copies(memory, facts, &table, like);
     'copies: for i in 0..copies.len() {
         if found.is_over() {
@@ -70,7 +103,8 @@ fn try_all(memory: &mut Memory, facts: &Facts, like: &[u32], found: &mut Found) 
         }
         let mut other = copy_of(memory, &trial);
         remove(&mut other, &copies[i]);
-        try_levels(memory, facts, &other, found);
+        let rows = table_of(memory, facts, &other);
+        try_levels(memory, facts, &other, &rows, found);
     }
 }
 

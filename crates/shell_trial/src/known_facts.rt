@@ -54,7 +54,7 @@ fn curve_key(curve: CurveKnown, place: u32) -> Key {
 }
 
 fn sure_classes(memory: &mut Memory, edges: &[EdgeFact]) -> Vec<u32> {
-    let mut keys = memory.list();
+    let mut keys = memory.room(edges.len());
     'edges: for i in 0..edges.len() {
         memory.add(&mut keys, sure_key(edges[i], short(i)));
     }
@@ -62,7 +62,7 @@ fn sure_classes(memory: &mut Memory, edges: &[EdgeFact]) -> Vec<u32> {
 }
 
 fn ends_classes(memory: &mut Memory, edges: &[EdgeFact]) -> Vec<u32> {
-    let mut keys = memory.list();
+    let mut keys = memory.room(edges.len());
     'edges: for i in 0..edges.len() {
         memory.add(&mut keys, ends_key(edges[i], short(i)));
     }
@@ -76,7 +76,7 @@ const NO_CURVE: CurveKnown = CurveKnown {
 
 fn curve_classes(memory: &mut Memory, known: &Known, edges: &[EdgeFact]) -> Vec<u32> {
     let curves = known.geometry.curves.as_slice();
-    let mut keys = memory.list();
+    let mut keys = memory.room(edges.len());
     'edges: for i in 0..edges.len() {
         let curve = item_at(curves, edges[i].number, NO_CURVE);
         memory.add(&mut keys, curve_key(curve, short(i)));

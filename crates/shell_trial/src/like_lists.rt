@@ -18,7 +18,7 @@ const NO_ENTRY: Entry = Entry {
 
 // Each two entries of one owner, one after the other, as a key; the last one of an odd number alone.
 fn pairs(memory: &mut Memory, entries: &[Entry]) -> Vec<Key> {
-    let mut out = memory.list();
+    let mut out = memory.room(entries.len());
     let mut count = 0u32;
     let mut taken = false;
     'entries: for i in 0..entries.len() {
@@ -38,7 +38,7 @@ fn pairs(memory: &mut Memory, entries: &[Entry]) -> Vec<Key> {
 
 // The owners of these pairs, with the numbers of their classes.
 fn halved(memory: &mut Memory, entries: &[Entry], classes: &[u32]) -> Vec<Entry> {
-    let mut out = memory.list();
+    let mut out = memory.room(entries.len());
     let mut count = 0u32;
     let mut taken = false;
     'entries: for i in 0..entries.len() {

@@ -38,9 +38,31 @@ impl Memory {
         Vec::new(self.alloc)
     }
 
+    /// A list of nothing, with room for so many.
+    pub fn room<T: Drop>(&mut self, count: usize) -> Vec<T> {
+        match Vec::with_capacity(self.alloc, count) {
+            Ok(list) => list,
+            Err(_) => {
+                self.ran_out = true;
+                Vec::new(self.alloc)
+            }
+        }
+    }
+
     /// A list of nothing.
     pub fn items<T: Drop>(&self) -> ItemList<T> {
         ItemList::new(self.alloc)
+    }
+
+    /// A list of nothing, with room for so many.
+    pub fn items_room<T: Drop>(&mut self, count: usize) -> ItemList<T> {
+        match ItemList::with_room(self.alloc, count) {
+            Ok(list) => list,
+            Err(_) => {
+                self.ran_out = true;
+                ItemList::new(self.alloc)
+            }
+        }
     }
 
     /// So many times the same.

@@ -120,7 +120,7 @@ pub fn read_vertices(
     below: usize,
 ) -> Vec<VertexFact> {
     let places = known.geometry.places.as_slice();
-    let mut out = memory.list();
+    let mut out = memory.room(numbers.len());
     'vertices: for i in 0..numbers.len() {
         let number = numbers[i];
         memory.add(
@@ -169,7 +169,7 @@ pub fn read_edges(
     known: &Known,
     numbers: Numbers<'_>,
 ) -> Vec<EdgeFact> {
-    let mut out = memory.list();
+    let mut out = memory.room(numbers.edges.len());
     'edges: for i in 0..numbers.edges.len() {
         memory.add(&mut out, edge_fact(solid, known, numbers, numbers.edges[i]));
     }

@@ -12,8 +12,6 @@ pub struct Row {
     pub edge: u32,
     /// Whether it runs along the edge by all three flags.
     pub along: bool,
-    pub start: u32,
-    pub end: u32,
     /// What follows it.
     pub next: u32,
     /// The next row of its edge; `NONE` if it is the last.
@@ -38,13 +36,15 @@ pub struct Table {
     /// Of each edge how many rows it has.
     pub count: Vec<u32>,
     pub gaps: Vec<Gap>,
+    /// Whether some edge has two rows that run the same way.
+    pub same_way: bool,
+    /// Whether some edge has more than two rows.
+    pub crowded: bool,
 }
 
 const NO_ROW: Row = Row {
     edge: NONE,
     along: false,
-    start: NONE,
-    end: NONE,
     next: NONE,
     same: NONE,
 };
@@ -54,18 +54,9 @@ impl Table {
         item_at(&self.rows, i, NO_ROW)
     }
 
-    pub fn put_row(&mut self, i: u32, row: Row) {
-        put_item(&mut self.rows, i, row);
-    }
-
     /// How many rows an edge has.
     pub fn rows_on(&self, edge: u32) -> u32 {
         item_at(&self.count, edge, 0)
-    }
-
-    fn follow(&mut self, row: u32, next: u32) {
-        let was = self.row(row);
-        self.put_row(row, Row { next, ..was });
     }
 
     /// Where a row alone has its edge.
@@ -88,59 +79,68 @@ fn bare_ends(trial: &Trial, item: TrialUse) -> (u32, u32) {
     }
 }
 
-fn row_of(trial: &Trial, item: TrialUse, back: bool) -> Row {
-    let (from, to) = bare_ends(trial, item);
-    let (start, end) = if back { (to, from) } else { (from, to) };
-    Row {
-        edge: item.item,
-        along: item.along != back,
-        start,
-        end,
-        next: NONE,
-        same: NONE,
+fn add_gap(memory: &mut Memory, table: &mut Table, at_loop: u32, end: u32, start: u32) {
+    if end != start {
+        memory.add(
+            &mut table.gaps,
+            Gap {
+                at_loop,
+                end,
+                start,
+            },
+        );
     }
 }
 
-fn add_gaps(memory: &mut Memory, trial: &Trial, table: &mut Table, number: u32, walk: LoopFact) {
-    'uses: for t in 0..walk.uses {
-        let here = walk.first_use.saturating_add(t);
-        let last = t + 1 >= walk.uses;
-        let after = if last {
-            walk.first_use
-        } else {
-            here.saturating_add(1)
-        };
-        let (_, end) = bare_ends(trial, trial.item(here));
-        let (start, _) = bare_ends(trial, trial.item(after));
-        if end != start {
-            memory.add(
-                &mut table.gaps,
-                Gap {
-                    at_loop: number,
-                    end,
-                    start,
-                },
-            );
-        }
+fn put_next(rows: &mut [Row], i: u32, next: u32) {
+    let i = i as usize;
+    if i < rows.len() {
+        rows[i].next = next;
+    }
+}
+
+fn put_same(rows: &mut [Row], i: u32, same: u32) {
+    let i = i as usize;
+    if i < rows.len() {
+        rows[i].same = same;
     }
 }
 
 fn link(table: &mut Table, before: u32, after: u32, back: bool) {
     if back {
-        table.follow(after, before);
+        put_next(&mut table.rows, after, before);
     } else {
-        table.follow(before, after);
+        put_next(&mut table.rows, before, after);
     }
 }
 
-fn add_rows(trial: &Trial, table: &mut Table, walk: LoopFact, back: bool) {
+// Puts a row behind the rows of its edge that there are.
+fn add_row(table: &mut Table, lasts: &mut [u32], here: u32, row: Row) {
+    put_item(&mut table.rows, here, row);
+    let last = at(lasts, row.edge);
+    if last == NONE {
+        put(&mut table.first, row.edge, here);
+    } else {
+        put_same(&mut table.rows, last, here);
+    }
+    put(lasts, row.edge, here);
+    more(&mut table.count, row.edge);
+}
+
+fn add_rows(trial: &Trial, table: &mut Table, lasts: &mut [u32], walk: LoopFact, back: bool) {
     let mut first = NONE;
     let mut before = NONE;
     'uses: for t in 0..walk.uses {
         let here = walk.first_use.saturating_add(t);
         let item = trial.item(here);
         if item.on_edge {
-            table.put_row(here, row_of(trial, item, back));
+            let row = Row {
+                edge: item.item,
+                along: item.along != back,
+                next: NONE,
+                same: NONE,
+            };
+            add_row(table, lasts, here, row);
             if first == NONE {
                 first = here;
             } else {
@@ -154,30 +154,54 @@ fn add_rows(trial: &Trial, table: &mut Table, walk: LoopFact, back: bool) {
     }
 }
 
-fn add_loops(memory: &mut Memory, facts: &Facts, trial: &Trial, table: &mut Table) {
+fn add_gaps(memory: &mut Memory, trial: &Trial, table: &mut Table, number: u32, walk: LoopFact) {
+    if walk.uses == 0 {
+        return;
+    }
+    let (begin, mut end) = bare_ends(trial, trial.item(walk.first_use));
+    'uses: for t in 1..walk.uses {
+        let here = walk.first_use.saturating_add(t);
+        let (start, next) = bare_ends(trial, trial.item(here));
+        add_gap(memory, table, number, end, start);
+        end = next;
+    }
+    add_gap(memory, table, number, end, begin);
+}
+
+fn add_loops(
+    memory: &mut Memory,
+    facts: &Facts,
+    trial: &Trial,
+    table: &mut Table,
+    lasts: &mut [u32],
+) {
     'loops: for i in 0..facts.loops.len() {
         let number = short(i);
         let walk = facts.walk(number);
         if at(&trial.pieces, walk.face) != NONE {
             let back = is_set(&trial.flags, walk.face) != facts.flag;
-            add_rows(trial, table, walk, back);
+            add_rows(trial, table, lasts, walk, back);
             add_gaps(memory, trial, table, number, walk);
         }
     }
 }
 
-// Chains the rows of each edge, from the first on.
-fn add_chains(table: &mut Table, uses: u32) {
-    'uses: for back in 0..uses {
-        let here = uses - 1 - back;
-        let row = table.row(here);
-        if row.edge != NONE {
-            let same = at(&table.first, row.edge);
-            table.put_row(here, Row { same, ..row });
-            put(&mut table.first, row.edge, here);
-            more(&mut table.count, row.edge);
-        }
+// Whether the first two rows of an edge run the same way.
+fn run_alike(table: &Table, edge: u32) -> bool {
+    let row = table.row(at(&table.first, edge));
+    row.along == table.row(row.same).along
+}
+
+fn look_over(table: &mut Table) {
+    let mut same_way = false;
+    let mut crowded = false;
+    'edges: for edge in 0..short(table.count.len()) {
+        let count = table.rows_on(edge);
+        same_way = same_way || count == 2 && run_alike(table, edge);
+        crowded = crowded || count > 2;
     }
+    table.same_way = same_way;
+    table.crowded = crowded;
 }
 
 /// The rows of a trial.
@@ -188,10 +212,19 @@ pub fn table_of(memory: &mut Memory, facts: &Facts, trial: &Trial) -> Table {
         first: memory.filled(edges, NONE),
         count: memory.filled(edges, 0),
         gaps: memory.list(),
+        same_way: false,
+        crowded: false,
     };
-    add_loops(memory, facts, trial, &mut table);
-    add_chains(&mut table, short(trial.uses.len()));
+    let mut lasts = memory.filled(edges, NONE);
+    add_loops(memory, facts, trial, &mut table, &mut lasts);
+    look_over(&mut table);
     table
+}
+
+/// At which vertex a row starts.
+pub fn start_of(trial: &Trial, row: Row) -> u32 {
+    let edge = trial.edge(row.edge);
+    if row.along { edge.from } else { edge.to }
 }
 
 /// The mate of a row; `NONE` where it has none.
@@ -207,10 +240,4 @@ pub fn mate(table: &Table, i: u32) -> u32 {
     } else {
         NONE
     }
-}
-
-/// The turn of a row: what follows its mate; `NONE` where it has none.
-pub fn turn_of(table: &Table, i: u32) -> u32 {
-    let mate = mate(table, i);
-    table.row(mate).next
 }

@@ -140,7 +140,7 @@ impl Trial {
 }
 
 fn first_edges(memory: &mut Memory, edges: &[EdgeFact]) -> Vec<TrialEdge> {
-    let mut out = memory.list();
+    let mut out = memory.room(edges.len());
     'edges: for i in 0..edges.len() {
         let edge = edges[i];
         memory.add(
@@ -157,7 +157,7 @@ fn first_edges(memory: &mut Memory, edges: &[EdgeFact]) -> Vec<TrialEdge> {
 }
 
 fn first_vertices(memory: &mut Memory, count: u32) -> Vec<TrialVertex> {
-    let mut out = memory.list();
+    let mut out = memory.room(count as usize);
     'vertices: for like in 0..count {
         memory.add(
             &mut out,
@@ -171,7 +171,7 @@ fn first_vertices(memory: &mut Memory, count: u32) -> Vec<TrialVertex> {
 }
 
 fn first_flags(memory: &mut Memory, faces: &[FaceFact]) -> Vec<bool> {
-    let mut out = memory.list();
+    let mut out = memory.room(faces.len());
     'faces: for i in 0..faces.len() {
         memory.add(&mut out, faces[i].flag);
     }

@@ -2,7 +2,7 @@
 
 use crate::moving::{Moves, are_too_many, move_of, no_moves};
 use crate::naming::{edge_name, names_of, vertex_name};
-use crate::seaming::seams_of;
+use crate::seaming::Seams;
 use crate::telling::loop_now;
 use crate::views::Views;
 use iges_base::ItemList;
@@ -21,7 +21,7 @@ fn face_now(
     piece: u32,
 ) -> FaceNow {
     let face = views.facts.face(number);
-    let mut loops = memory.items();
+    let mut loops = memory.items_room(face.loops as usize);
     'loops: for i in 0..face.loops {
         let at_loop = face.first_loop.saturating_add(i);
         let told = loop_now(memory, views, moves, at_loop);
@@ -44,7 +44,7 @@ fn fate_of(memory: &mut Memory, views: Views<'_>, moves: &mut Moves, number: u32
 }
 
 fn fates(memory: &mut Memory, views: Views<'_>, moves: &mut Moves) -> ItemList<Fate> {
-    let mut out = memory.items();
+    let mut out = memory.items_room(views.facts.faces.len());
     'faces: for i in 0..views.facts.faces.len() {
         if !are_too_many(views.facts, moves) {
             let fate = fate_of(memory, views, moves, short(i));
@@ -70,7 +70,7 @@ fn new_edge(memory: &mut Memory, views: Views<'_>, moves: &mut Moves, number: u3
 }
 
 fn new_edges(memory: &mut Memory, views: Views<'_>, moves: &mut Moves) -> ItemList<NewEdge> {
-    let mut out = memory.items();
+    let mut out = memory.items_room(views.names.edges.len());
     'edges: for i in 0..views.names.edges.len() {
         let edge = new_edge(memory, views, moves, views.names.edges[i]);
         memory.add_item(&mut out, edge);
@@ -79,7 +79,7 @@ fn new_edges(memory: &mut Memory, views: Views<'_>, moves: &mut Moves) -> ItemLi
 }
 
 fn new_vertices(memory: &mut Memory, views: Views<'_>) -> ItemList<NewVertex> {
-    let mut out = memory.items();
+    let mut out = memory.items_room(views.names.vertices.len());
     'vertices: for i in 0..views.names.vertices.len() {
         let vertex = views.trial.vertex(views.names.vertices[i]);
         memory.add_item(
@@ -98,7 +98,7 @@ const NO_ROW: RimRow = RimRow {
 };
 
 fn rim_now(memory: &mut Memory, views: Views<'_>, rim: TrialRim) -> Rim {
-    let mut edges = memory.items();
+    let mut edges = memory.items_room(rim.count as usize);
     'edges: for i in 0..rim.count {
         let row = item_at(&views.trial.rim_rows, rim.first.saturating_add(i), NO_ROW);
         memory.add_item(
@@ -116,7 +116,7 @@ fn rim_now(memory: &mut Memory, views: Views<'_>, rim: TrialRim) -> Rim {
 }
 
 fn rims(memory: &mut Memory, views: Views<'_>) -> ItemList<Rim> {
-    let mut out = memory.items();
+    let mut out = memory.items_room(views.trial.rims.len());
     'rims: for i in 0..views.trial.rims.len() {
         let rim = rim_now(memory, views, views.trial.rims[i]);
         memory.add_item(&mut out, rim);
@@ -130,10 +130,10 @@ fn changed(
     facts: &Facts,
     sewn: &Sewn,
     trial: &Trial,
+    seams: Seams,
     shell: ShellAt,
 ) -> (Change, bool) {
     let names = names_of(memory, facts, trial);
-    let seams = seams_of(memory, facts, trial, sewn);
     let mut moves = no_moves(memory, facts, sewn);
     let views = Views {
         facts,
@@ -159,14 +159,15 @@ fn changed(
     (change, few)
 }
 
-/// The change that a trial made of a shell; None if it would have too many moves.
+/// The change that a trial made of a shell, with these seams; None if it would have too many moves.
 pub fn change_of(
     memory: &mut Memory,
     facts: &Facts,
     sewn: &Sewn,
     trial: &Trial,
+    seams: Seams,
     shell: ShellAt,
 ) -> Option<Change> {
-    let (change, few) = changed(memory, facts, sewn, trial, shell);
+    let (change, few) = changed(memory, facts, sewn, trial, seams, shell);
     if few { Some(change) } else { None }
 }

@@ -1,37 +1,35 @@
 //! Whether two changes of one shell do the same.
 
-use shell_change::{Change, FaceNow, Fate, LoopNow, Seam, Told};
-use shell_trial::{Memory, at};
+use crate::seaming::Seams;
+use crate::telling::is_reversed;
+use shell_change::{Change, Fate, LoopNow, Seam, Told};
+use shell_trial::{Facts, Memory, NONE, Trial, at, is_set, short};
 
-fn loops_are_alike(a: &[LoopNow], b: &[LoopNow]) -> bool {
-    'loops: for i in 0..a.len() {
-        if i < b.len() && a[i].reversed != b[i].reversed {
+fn loops_are_same(facts: &Facts, trial: &Trial, number: u32, loops: &[LoopNow]) -> bool {
+    let first = facts.face(number).first_loop;
+    'loops: for i in 0..loops.len() {
+        if is_reversed(facts, trial, first.saturating_add(short(i))) != loops[i].reversed {
             return false;
         }
     }
     true
 }
 
-fn faces_are_alike(a: &FaceNow, b: &FaceNow) -> bool {
-    a.piece == b.piece
-        && a.flag == b.flag
-        && loops_are_alike(a.loops.as_slice(), b.loops.as_slice())
-}
-
-fn fates_are_alike(a: &Fate, b: &Fate) -> bool {
-    match (a, b) {
-        (Fate::Removed, Fate::Removed) => true,
-        (Fate::Kept(a), Fate::Kept(b)) => faces_are_alike(a, b),
-        _ => false,
+fn is_fate(facts: &Facts, trial: &Trial, number: u32, fate: &Fate) -> bool {
+    let piece = at(&trial.pieces, number);
+    match fate {
+        Fate::Removed => piece == NONE,
+        Fate::Kept(face) => {
+            face.piece == piece
+                && face.flag == is_set(&trial.flags, number)
+                && loops_are_same(facts, trial, number, face.loops.as_slice())
+        }
     }
 }
 
-fn all_fates_are_alike(a: &[Fate], b: &[Fate]) -> bool {
-    if a.len() != b.len() {
-        return false;
-    }
-    'faces: for i in 0..a.len() {
-        if !fates_are_alike(&a[i], &b[i]) {
+fn are_fates(facts: &Facts, trial: &Trial, fates: &[Fate]) -> bool {
+    'faces: for i in 0..fates.len() {
+        if !is_fate(facts, trial, short(i), &fates[i]) {
             return false;
         }
     }
@@ -54,12 +52,12 @@ fn seams_are_alike(a: &[Seam], b: &[Seam]) -> bool {
         && count_told(a, Told::Curve) == count_told(b, Told::Curve)
 }
 
-/// Whether two changes remove the same faces, leave the same flags, pieces and reversed loops, and have as many seams of each
-/// kind and as many rims.
-pub fn are_alike(a: &Change, b: &Change) -> bool {
-    a.rims.len() == b.rims.len()
-        && seams_are_alike(a.seams.as_slice(), b.seams.as_slice())
-        && all_fates_are_alike(a.faces.as_slice(), b.faces.as_slice())
+/// Whether a trial removes the same faces as a change of the shell, leaves the same flags, pieces and reversed loops, and has as
+/// many seams of each kind and as many rims.
+pub fn is_alike(facts: &Facts, trial: &Trial, seams: &Seams, change: &Change) -> bool {
+    trial.rims.len() == change.rims.len()
+        && seams_are_alike(seams.list.as_slice(), change.seams.as_slice())
+        && are_fates(facts, trial, change.faces.as_slice())
 }
 
 // For each face that is removed the first one that is like it, by rising number.
@@ -86,7 +84,7 @@ pub fn removed_alike(memory: &mut Memory, a: &Change, b: &Change, like: &[u32]) 
     }
     let mut same = true;
     'faces: for i in 0..a.len() {
-        let i = shell_trial::short(i);
+        let i = short(i);
         same = same && at(&a, i) == at(&b, i);
     }
     same

@@ -105,7 +105,7 @@ pub(crate) fn move_of(
     vertex: u32,
 ) -> Option<u32> {
     let least = at(&views.sewn.least, vertex);
-    if views.facts.vertex(vertex).place == views.facts.vertex(least).place {
+    if least == vertex || views.facts.vertex(vertex).place == views.facts.vertex(least).place {
         return None;
     }
     if at(&moves.last, vertex) == NONE {

@@ -6,11 +6,11 @@ use shell_trial::{Facts, Memory, NONE, Trial, at, is_set, put, set, short};
 use solid_data::EdgeId;
 use trial_seams::Sewn;
 
-/// The seams of a change, and the number of each by the edge that is left.
+/// The seams of a change, and the number of each by the edge that is left; none where nothing was sewn.
 #[derive(Drop)]
-pub(crate) struct Seams {
-    pub(crate) list: ItemList<Seam>,
-    pub(crate) numbers: Vec<u32>,
+pub struct Seams {
+    pub list: ItemList<Seam>,
+    pub numbers: Vec<u32>,
 }
 
 // Which edges the faces that are kept used.
@@ -26,8 +26,22 @@ fn used_before(memory: &mut Memory, facts: &Facts, trial: &Trial) -> Vec<bool> {
     out
 }
 
+fn are_none(sewn: &Sewn) -> bool {
+    sewn.counts.sure == 0 && sewn.counts.ends == 0 && sewn.counts.curve == 0
+}
+
+fn no_seams(memory: &Memory) -> Seams {
+    Seams {
+        list: memory.items(),
+        numbers: memory.list(),
+    }
+}
+
 /// The pairs that were sewn, but of those that aren't told by curves only such that a face that is kept used the edge left.
-pub(crate) fn seams_of(memory: &mut Memory, facts: &Facts, trial: &Trial, sewn: &Sewn) -> Seams {
+pub fn seams_of(memory: &mut Memory, facts: &Facts, trial: &Trial, sewn: &Sewn) -> Seams {
+    if are_none(sewn) {
+        return no_seams(memory);
+    }
     let used = used_before(memory, facts, trial);
     let count = short(facts.edges.len());
     let mut list = memory.items();

@@ -5,7 +5,7 @@ use crate::naming::{edge_name, vertex_name};
 use crate::views::Views;
 use iges_base::ItemList;
 use shell_change::{EdgeNow, LoopNow, UseNow};
-use shell_trial::{Facts, LoopFact, Memory, NONE, TrialUse, at, is_set};
+use shell_trial::{Facts, LoopFact, Memory, NONE, Trial, TrialUse, at, is_set};
 
 const NO_USE: TrialUse = TrialUse {
     on_edge: false,
@@ -46,6 +46,11 @@ fn is_changed_by_reversing(facts: &Facts, walk: LoopFact) -> bool {
         }
     }
     false
+}
+
+/// Whether a loop is reversed by a trial, so that its uses change.
+pub(crate) fn is_reversed(facts: &Facts, trial: &Trial, number: u32) -> bool {
+    is_set(&trial.reversed, number) && is_changed_by_reversing(facts, facts.walk(number))
 }
 
 fn place_of(views: Views<'_>, vertex: u32) -> u32 {
@@ -126,9 +131,8 @@ pub(crate) fn loop_now(
     number: u32,
 ) -> LoopNow {
     let walk = views.facts.walk(number);
-    let turned = is_set(&views.trial.reversed, number);
-    let reversed = turned && is_changed_by_reversing(views.facts, walk);
-    let mut uses = memory.items();
+    let reversed = is_reversed(views.facts, views.trial, number);
+    let mut uses = memory.items_room(walk.uses as usize);
     'uses: for t in 0..walk.uses {
         let before = use_before(views.facts, walk, t, reversed);
         let now = views.trial.item(walk.first_use.saturating_add(t));

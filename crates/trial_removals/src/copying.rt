@@ -1,19 +1,8 @@
 //! Faces that are there twice.
 
+use crate::patches::free_edges;
 use crate::removing::{Removal, add_new};
-use shell_trial::{Facts, Memory, NONE, Table, at, more, put, short};
-
-// How many free edges each face has.
-fn free_edges(memory: &mut Memory, facts: &Facts, table: &Table) -> Vec<u32> {
-    let mut out = memory.filled(short(facts.faces.len()), 0);
-    'rows: for i in 0..table.rows.len() {
-        let i = short(i);
-        if table.is_free(i) {
-            more(&mut out, at(&facts.face_of, i));
-        }
-    }
-    out
-}
+use shell_trial::{Facts, Memory, NONE, Table, at, put, short};
 
 // Of each set of like faces, at its first face, the one with the fewest free edges; of equal ones the first or the last.
 fn best(memory: &mut Memory, like: &[u32], free: &[u32], last: bool) -> Vec<u32> {

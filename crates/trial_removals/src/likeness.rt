@@ -32,7 +32,7 @@ fn use_key(facts: &Facts, item: TrialUse, place: u32) -> Key {
 }
 
 fn use_classes(memory: &mut Memory, facts: &Facts) -> Vec<u32> {
-    let mut keys = memory.list();
+    let mut keys = memory.room(facts.uses.len());
     'uses: for i in 0..facts.uses.len() {
         memory.add(&mut keys, use_key(facts, facts.uses[i], short(i)));
     }
@@ -40,7 +40,7 @@ fn use_classes(memory: &mut Memory, facts: &Facts) -> Vec<u32> {
 }
 
 fn use_entries(memory: &mut Memory, facts: &Facts, classes: &[u32]) -> Vec<Entry> {
-    let mut out = memory.list();
+    let mut out = memory.room(facts.uses.len());
     'uses: for i in 0..facts.uses.len() {
         let i = short(i);
         memory.add(
@@ -66,7 +66,7 @@ fn with_edges(memory: &mut Memory, facts: &Facts) -> Vec<bool> {
 
 fn face_classes(memory: &mut Memory, facts: &Facts, lists: &[u32]) -> Vec<u32> {
     let count = short(facts.faces.len());
-    let mut keys = memory.list();
+    let mut keys = memory.room(facts.faces.len());
     'faces: for i in 0..count {
         memory.add(&mut keys, key_of(facts.face(i).surface, at(lists, i), i));
     }

@@ -1,6 +1,6 @@
 //! The parts and the patches of a shell.
 
-use shell_trial::{Facts, Memory, NONE, Sets, Table, Trial, at, is_set, more, put, short};
+use shell_trial::{Facts, Memory, NONE, Sets, Table, Trial, at, is_set, item_at, more, put, short};
 use trial_steps::{By, sets_of};
 
 /// The parts and the patches of a shell, each by its first face.
@@ -43,12 +43,12 @@ fn counts(memory: &mut Memory, leasts: &[u32]) -> Vec<u32> {
     out
 }
 
-fn free_counts(memory: &mut Memory, facts: &Facts, table: &Table, leasts: &[u32]) -> Vec<u32> {
-    let mut out = memory.filled(short(leasts.len()), 0);
-    'rows: for i in 0..table.rows.len() {
-        let i = short(i);
-        if table.is_free(i) {
-            more(&mut out, at(leasts, at(&facts.face_of, i)));
+/// How many free edges each face has.
+pub(crate) fn free_edges(memory: &mut Memory, facts: &Facts, table: &Table) -> Vec<u32> {
+    let mut out = memory.filled(short(facts.faces.len()), 0);
+    'edges: for edge in 0..short(table.count.len()) {
+        if table.rows_on(edge) == 1 {
+            more(&mut out, at(&facts.face_of, at(&table.first, edge)));
         }
     }
     out
@@ -83,6 +83,33 @@ fn some_of(numbers: &[u32]) -> u32 {
     count
 }
 
+// The sets of faces that edges with two rows join.
+fn patches_among(
+    memory: &mut Memory,
+    facts: &Facts,
+    trial: &Trial,
+    table: &Table,
+    parts: &[u32],
+) -> Vec<u32> {
+    if !table.crowded {
+        return memory.copied(parts);
+    }
+    let mut pairs = sets_of(memory, facts, table, By::Pairs);
+    leasts(memory, trial, &mut pairs)
+}
+
+// How many free edges each set of faces has, by how many each face has.
+fn free_in(memory: &mut Memory, leasts: &[u32], free: &[u32]) -> Vec<u32> {
+    let mut out = memory.filled(short(leasts.len()), 0);
+    'faces: for i in 0..leasts.len() {
+        let i = short(i);
+        let least = at(leasts, i);
+        let sum = item_at(&out, least, 0).saturating_add(item_at(free, i, 0));
+        put(&mut out, least, sum);
+    }
+    out
+}
+
 pub(crate) fn patches_of(
     memory: &mut Memory,
     facts: &Facts,
@@ -90,13 +117,13 @@ pub(crate) fn patches_of(
     table: &Table,
 ) -> Patches {
     let mut parts = sets_of(memory, facts, table, By::All);
-    let mut pairs = sets_of(memory, facts, table, By::Pairs);
     let part = leasts(memory, trial, &mut parts);
-    let patch = leasts(memory, trial, &mut pairs);
+    let patch = patches_among(memory, facts, trial, table, &part);
     let part_faces = counts(memory, &part);
     let patch_faces = counts(memory, &patch);
-    let part_free = free_counts(memory, facts, table, &part);
-    let patch_free = free_counts(memory, facts, table, &patch);
+    let free = free_edges(memory, facts, table);
+    let part_free = free_in(memory, &part, &free);
+    let patch_free = free_in(memory, &patch, &free);
     let face_rows = rows_of_faces(memory, facts, table);
     Patches {
         faces: sum_of(&part_faces),

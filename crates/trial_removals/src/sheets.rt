@@ -16,7 +16,7 @@ pub(crate) struct Sheets {
 }
 
 fn classes(memory: &mut Memory, crowds: &[Crowd], faces: u32) -> Vec<u32> {
-    let mut entries = memory.list();
+    let mut entries = memory.room(crowds.len());
     'crowds: for i in 0..crowds.len() {
         memory.add(
             &mut entries,
@@ -31,7 +31,7 @@ fn classes(memory: &mut Memory, crowds: &[Crowd], faces: u32) -> Vec<u32> {
 
 // The crowds by class and edge; each key ends with a place of the crowds.
 fn by_class(memory: &mut Memory, crowds: &[Crowd], class: &[u32]) -> Vec<Key> {
-    let mut keys: Vec<Key> = memory.list();
+    let mut keys: Vec<Key> = memory.room(crowds.len());
     'crowds: for i in 0..crowds.len() {
         let crowd = crowds[i];
         memory.add(

@@ -205,10 +205,10 @@ pub fn removals(memory: &mut Memory, facts: &Facts, trial: &Trial, table: &Table
     let patches = patches_of(memory, facts, trial, table);
     let mut out = memory.list();
     add_apart(memory, &mut out, &patches);
-    let crowds = crowds_of(memory, facts, table, &patches);
-    if crowds.is_empty() {
+    if !table.crowded {
         return out;
     }
+    let crowds = crowds_of(memory, facts, table, &patches);
     let faces = short(facts.faces.len());
     let clean = clean_patches(memory, &crowds, faces);
     add_fins(memory, facts, table, &patches, &clean, &mut out);

@@ -6,5 +6,5 @@ mod pairing;
 mod sewing;
 mod sewn;
 
-pub use sewing::sew;
+pub use sewing::{seams_at, sew};
 pub use sewn::{Link, SeamCounts, Sewn, unsewn};

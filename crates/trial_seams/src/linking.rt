@@ -1,7 +1,7 @@
 //! Which vertices become one, and on which way each of them comes to the least.
 
 use crate::sewn::{Link, Sewn};
-use shell_trial::{Facts, Memory, NONE, Table, at, is_set, put, short};
+use shell_trial::{Facts, Gap, Memory, NONE, Table, at, is_set, put, short};
 
 fn link_ends(memory: &mut Memory, facts: &Facts, sewn: &mut Sewn, edge: u32, taken: u32) {
     let left = facts.edge(edge);
@@ -41,11 +41,26 @@ fn link_seams(memory: &mut Memory, facts: &Facts, sewn: &mut Sewn) {
     }
 }
 
+// Whether the two vertices of a gap have one place.
+fn is_joined(facts: &Facts, gap: Gap) -> bool {
+    facts.vertex(gap.end).place == facts.vertex(gap.start).place
+}
+
+/// How many gaps are joined.
+pub(crate) fn count_gaps(facts: &Facts, table: &Table) -> u32 {
+    let mut count = 0u32;
+    'gaps: for i in 0..table.gaps.len() {
+        if is_joined(facts, table.gaps[i]) {
+            count = count.saturating_add(1);
+        }
+    }
+    count
+}
+
 fn link_gaps(memory: &mut Memory, facts: &Facts, table: &Table, sewn: &mut Sewn) {
     'gaps: for i in 0..table.gaps.len() {
         let gap = table.gaps[i];
-        if facts.vertex(gap.end).place == facts.vertex(gap.start).place {
-            sewn.counts.gaps = sewn.counts.gaps.saturating_add(1);
+        if is_joined(facts, gap) {
             memory.add(
                 &mut sewn.links,
                 Link {

@@ -1,12 +1,10 @@
 //! Sewing a shell at a level.
 
-use crate::linking::link_vertices;
+use crate::linking::{count_gaps, link_vertices};
 use crate::pairing::{pair_all, pair_in};
 use crate::sewn::{Sewn, unsewn};
 use shell_change::Told;
-use shell_trial::{
-    Facts, Memory, NONE, Table, Trial, TrialEdge, TrialUse, at, is_set, short, table_of,
-};
+use shell_trial::{Facts, Memory, NONE, Table, Trial, TrialEdge, TrialUse, at, is_set, short};
 
 fn pair(memory: &mut Memory, facts: &Facts, table: &Table, sewn: &mut Sewn, level: u32) {
     if level == 4 {
@@ -78,19 +76,22 @@ fn cost_of(sewn: &Sewn) -> u32 {
     cost
 }
 
-/// Sews a shell of which at most faces were removed: 1 by sure seams, 2 by these and by places, 3 by these and by curves, 4 all
-/// edges that are sure to be one. Whoever calls it looks at the counts.
-pub fn sew(memory: &mut Memory, facts: &Facts, trial: &mut Trial, level: u32) -> Sewn {
+/// Which edges of a shell, of which at most faces were removed, are sewn at a level: at 1 by sure seams, at 2 by these and by places,
+/// at 3 by these and by curves, at 4 all edges that are sure to be one. Nothing is sewn yet.
+pub fn seams_at(memory: &mut Memory, facts: &Facts, table: &Table, level: u32) -> Sewn {
     let mut sewn = unsewn(memory, facts);
-    if level == 0 {
-        return sewn;
+    if level > 0 {
+        pair(memory, facts, table, &mut sewn, level);
+        sewn.counts.gaps = count_gaps(facts, table);
     }
-    let table = table_of(memory, facts, trial);
-    pair(memory, facts, &table, &mut sewn, level);
-    link_vertices(memory, facts, &table, &mut sewn);
-    sew_uses(trial, &sewn);
-    sew_edges(trial, &sewn);
-    trial.pay(cost_of(&sewn));
-    trial.sure = trial.sure && sewn.counts.ends == 0 && sewn.counts.curve == 0;
     sewn
+}
+
+/// Sews a shell by these seams, and joins the gaps between vertices of one place.
+pub fn sew(memory: &mut Memory, facts: &Facts, table: &Table, trial: &mut Trial, sewn: &mut Sewn) {
+    link_vertices(memory, facts, table, sewn);
+    sew_uses(trial, sewn);
+    sew_edges(trial, sewn);
+    trial.pay(cost_of(sewn));
+    trial.sure = trial.sure && sewn.counts.ends == 0 && sewn.counts.curve == 0;
 }

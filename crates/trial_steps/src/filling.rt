@@ -1,24 +1,14 @@
 //! The rims on which faces close a shell.
 
-use crate::fans::{Fans, fans_of};
+use crate::fans::Fans;
 use shell_trial::{
-    Facts, Key, Memory, NONE, Rim, RimRow, Table, Trial, at, is_set, key_of, mate, more, put, set,
-    short,
+    Facts, Key, Memory, NONE, Rim, RimRow, Table, Trial, at, is_set, key_of, more, put, set, short,
+    start_of,
 };
 
 /// Whether each edge has one row, or two that are mates, and there is no gap.
 pub fn is_whole(table: &Table) -> bool {
-    if !table.gaps.is_empty() {
-        return false;
-    }
-    'rows: for i in 0..table.rows.len() {
-        let i = short(i);
-        let row = table.row(i);
-        if row.edge != NONE && table.rows_on(row.edge) != 1 && mate(table, i) == NONE {
-            return false;
-        }
-    }
-    true
+    table.gaps.is_empty() && !table.same_way && !table.crowded
 }
 
 // Of each row the one that it follows.
@@ -35,14 +25,15 @@ fn before_each(memory: &mut Memory, table: &Table) -> Vec<u32> {
 }
 
 // From the last row of each path of turns to the row before the first one of the next path at the vertex.
-fn links(memory: &mut Memory, table: &Table, fans: &Fans, vertices: u32) -> Vec<u32> {
+fn links(memory: &mut Memory, trial: &Trial, table: &Table, fans: &Fans) -> Vec<u32> {
+    let vertices = short(trial.vertices.len());
     let before = before_each(memory, table);
     let mut out = memory.filled(short(table.rows.len()), NONE);
     let mut firsts = memory.filled(vertices, NONE);
     let mut lasts = memory.filled(vertices, NONE);
     'paths: for i in 0..fans.paths.len() {
         let path = fans.paths[i];
-        let vertex = table.row(path.first).start;
+        let vertex = start_of(trial, table.row(path.first));
         let last = at(&lasts, vertex);
         if last == NONE {
             put(&mut firsts, vertex, path.first);
@@ -108,12 +99,12 @@ fn add_rims(memory: &mut Memory, facts: &Facts, trial: &mut Trial, table: &Table
 
 // Puts the rims in the order of their pieces.
 fn order_rims(memory: &mut Memory, trial: &mut Trial) {
-    let mut keys: Vec<Key> = memory.list();
+    let mut keys: Vec<Key> = memory.room(trial.rims.len());
     'keys: for i in 0..trial.rims.len() {
         memory.add(&mut keys, key_of(trial.rims[i].piece, short(i), short(i)));
     }
     memory.sort(&mut keys);
-    let mut rims = memory.list();
+    let mut rims = memory.room(keys.len());
     'rims: for i in 0..keys.len() {
         let place = keys[i].place as usize;
         if place < trial.rims.len() {
@@ -145,18 +136,15 @@ fn pay_rims(memory: &mut Memory, trial: &mut Trial) {
     }
 }
 
-/// Puts a face on each rim, so that each edge has two rows. Whether the shell is whole then.
-pub fn fill(memory: &mut Memory, facts: &Facts, trial: &mut Trial, table: &Table) -> bool {
-    if !is_whole(table) {
-        return false;
+/// Puts a face on each rim of a whole shell, so that each edge has two rows. The vertices may have been split since the rows were
+/// listed: that changes none of them.
+pub fn fill(memory: &mut Memory, facts: &Facts, trial: &mut Trial, table: &Table, fans: &Fans) {
+    if fans.paths.is_empty() {
+        return;
     }
-    let fans = fans_of(memory, table);
-    let links = links(memory, table, &fans, short(trial.vertices.len()));
+    let links = links(memory, trial, table, fans);
     add_rims(memory, facts, trial, table, &links);
-    if !trial.rims.is_empty() {
-        trial.sure = false;
-        order_rims(memory, trial);
-        pay_rims(memory, trial);
-    }
-    true
+    trial.sure = false;
+    order_rims(memory, trial);
+    pay_rims(memory, trial);
 }

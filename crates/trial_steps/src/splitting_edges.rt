@@ -2,7 +2,7 @@
 
 use crate::parting::{By, sets_of};
 use shell_trial::{
-    Facts, Key, Memory, NONE, Sets, Table, Trial, TrialEdge, TrialUse, at, item_at, more, short,
+    Facts, Key, Memory, NONE, Sets, Table, Trial, TrialEdge, TrialUse, at, item_at, short,
 };
 
 const NO_KEY: Key = Key {
@@ -36,21 +36,34 @@ fn crowded_rows(memory: &mut Memory, facts: &Facts, table: &Table, patches: &mut
     out
 }
 
-// Whether each of these edges has as many rows along as against.
-fn is_even(memory: &mut Memory, table: &Table, rows: &[Key]) -> bool {
-    let mut along = memory.filled(short(table.count.len()), 0);
-    'along: for i in 0..rows.len() {
-        if rows[i].second == 0 {
-            more(&mut along, rows[i].first);
+// How many rows of an edge run along it.
+fn along_of(table: &Table, edge: u32) -> u32 {
+    let mut i = at(&table.first, edge);
+    let mut along = 0u32;
+    'rows: for _ in 0..table.rows_on(edge) {
+        let row = table.row(i);
+        if row.along {
+            along = along.saturating_add(1);
+        }
+        i = row.same;
+    }
+    along
+}
+
+/// Whether there are edges with four rows or more, and each has as many rows along as against.
+pub fn can_split_edges(table: &Table) -> bool {
+    let mut some = false;
+    'edges: for edge in 0..short(table.count.len()) {
+        let count = table.rows_on(edge);
+        if count >= 4 {
+            let half = along_of(table, edge);
+            if half.saturating_add(half) != count {
+                return false;
+            }
+            some = true;
         }
     }
-    let mut even = true;
-    'even: for i in 0..rows.len() {
-        let edge = rows[i].first;
-        let half = at(&along, edge);
-        even = even && half.saturating_add(half) == table.rows_on(edge);
-    }
-    even
+    some
 }
 
 fn use_edge(trial: &mut Trial, i: u32, edge: u32) {
@@ -81,22 +94,17 @@ fn pair_rows(memory: &mut Memory, trial: &mut Trial, table: &Table, rows: &[Key]
     }
 }
 
-/// Splits each edge with four rows or more into edges with two. Whether there are such edges, each with as many rows along as
-/// against.
+/// Splits each edge with four rows or more into edges with two. That can be where each has as many rows along as against.
 pub fn split_edges(
     memory: &mut Memory,
     facts: &Facts,
     trial: &mut Trial,
     table: &Table,
     further: u32,
-) -> bool {
+) {
     let mut patches = sets_of(memory, facts, table, By::Pairs);
     let rows = crowded_rows(memory, facts, table, &mut patches);
-    if rows.is_empty() || !is_even(memory, table, &rows) {
-        return false;
-    }
     pair_rows(memory, trial, table, &rows, further);
     trial.pay(4);
     trial.split = further.saturating_add(1);
-    true
 }

@@ -1,9 +1,9 @@
 //! Splitting vertices where several fans meet.
 
-use crate::fans::{Fans, fans_of};
+use crate::fans::Fans;
 use shell_trial::{
     Facts, LoopFact, Memory, NONE, Table, Trial, TrialEdge, TrialUse, TrialVertex, VertexKind, at,
-    is_set, set, short, turn_of,
+    is_set, set, short, start_of,
 };
 
 // Which vertices have a fan that keeps them, and which bodies had one split.
@@ -33,9 +33,9 @@ fn note(splits: &mut Splits, piece: u32) {
 }
 
 // The rows of a cycle start at another vertex now.
-fn move_cycle(trial: &mut Trial, table: &Table, first: u32, vertex: u32) {
+fn move_cycle(trial: &mut Trial, table: &Table, turns: &[u32], first: u32, vertex: u32) {
     let mut i = first;
-    'turns: for _ in 0..table.rows.len() {
+    'turns: for _ in 0..turns.len() {
         let row = table.row(i);
         let edge = trial.edge(row.edge);
         let now = if row.along {
@@ -47,7 +47,7 @@ fn move_cycle(trial: &mut Trial, table: &Table, first: u32, vertex: u32) {
             TrialEdge { to: vertex, ..edge }
         };
         trial.put_edge(row.edge, now);
-        i = turn_of(table, i);
+        i = at(turns, i);
         if i == first || i == NONE {
             break 'turns;
         }
@@ -64,15 +64,24 @@ fn split_cycles(
 ) {
     'cycles: for i in 0..fans.cycles.len() {
         let first = fans.cycles[i];
-        let vertex = table.row(first).start;
+        let vertex = start_of(trial, table.row(first));
         if is_set(&splits.kept, vertex) {
             let new = new_vertex(memory, trial, vertex);
-            move_cycle(trial, table, first, new);
+            move_cycle(trial, table, &fans.turns, first, new);
             note(splits, at(&trial.pieces, at(&facts.face_of, first)));
         } else {
             set(&mut splits.kept, vertex, true);
         }
     }
+}
+
+fn has_edges(trial: &Trial, walk: LoopFact) -> bool {
+    'uses: for t in 0..walk.uses {
+        if trial.item(walk.first_use.saturating_add(t)).on_edge {
+            return true;
+        }
+    }
+    false
 }
 
 // Where a loop ends by its last use of an edge; `NONE` where it has no edge.
@@ -106,7 +115,7 @@ fn split_points(memory: &mut Memory, facts: &Facts, trial: &mut Trial, splits: &
     'loops: for i in 0..facts.loops.len() {
         let walk = facts.walk(short(i));
         let piece = at(&trial.pieces, walk.face);
-        if piece != NONE && walk.uses > 0 && last_end(trial, walk) == NONE {
+        if piece != NONE && walk.uses > 0 && !has_edges(trial, walk) {
             let vertex = trial.item(walk.first_use).item;
             if is_set(&splits.kept, vertex) {
                 let new = new_vertex(memory, trial, vertex);
@@ -143,29 +152,28 @@ fn follow_all(facts: &Facts, trial: &mut Trial) {
     }
 }
 
-/// Splits the vertices where several fans of a body meet: each cycle of turns and each loop without an edge gets a new one, but
-/// the first where there is no path. Whether there were such.
+/// Splits the vertices of a whole shell where several fans of a body meet: each cycle of turns and each loop without an edge gets a
+/// new one, but the first where there is no path.
 pub fn split_vertices(
     memory: &mut Memory,
     facts: &Facts,
     trial: &mut Trial,
     table: &Table,
-) -> bool {
-    let fans = fans_of(memory, table);
+    fans: &Fans,
+) {
     let mut splits = Splits {
         kept: memory.unset(short(trial.vertices.len())),
         pieces: memory.unset(trial.piece_count),
         count: 0,
     };
     'paths: for i in 0..fans.paths.len() {
-        let vertex = table.row(fans.paths[i].first).start;
+        let vertex = start_of(trial, table.row(fans.paths[i].first));
         set(&mut splits.kept, vertex, true);
     }
-    split_cycles(memory, facts, trial, table, &fans, &mut splits);
+    split_cycles(memory, facts, trial, table, fans, &mut splits);
     split_points(memory, facts, trial, &mut splits);
     if splits.count > 0 {
         follow_all(facts, trial);
         trial.pay(splits.count.saturating_mul(2));
     }
-    splits.count > 0
 }

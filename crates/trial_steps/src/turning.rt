@@ -1,9 +1,7 @@
 //! Turning faces, so that the two rows of an edge run opposite.
 
 use crate::turning_loops::turn_loops;
-use shell_trial::{
-    Facts, Memory, NONE, Row, Sets, Table, Trial, at, is_set, more, set, short, table_of,
-};
+use shell_trial::{Facts, Memory, NONE, Row, Sets, Table, Trial, at, is_set, more, set, short};
 
 /// The first row of two of an edge, and the other one; None where its edge hasn't two, or it isn't the first.
 pub(crate) fn two_rows(table: &Table, i: u32) -> Option<(Row, Row)> {
@@ -12,18 +10,6 @@ pub(crate) fn two_rows(table: &Table, i: u32) -> Option<(Row, Row)> {
         return None;
     }
     Some((row, table.row(row.same)))
-}
-
-/// Whether an edge has two rows that run the same way.
-pub fn has_same_way(table: &Table) -> bool {
-    'rows: for i in 0..table.rows.len() {
-        if let Some((row, other)) = two_rows(table, short(i)) {
-            if row.along == other.along {
-                return true;
-            }
-        }
-    }
-    false
 }
 
 // Joins the faces of each edge with two rows. False where no flags make all of them opposite.
@@ -99,17 +85,11 @@ fn turn_faces(memory: &mut Memory, facts: &Facts, trial: &mut Trial, table: &Tab
     true
 }
 
-/// Turns faces, or else loops, so that the two rows of each edge with two run opposite, if that can be. The rows that there are
-/// then.
-pub fn turn(memory: &mut Memory, facts: &Facts, trial: &mut Trial) -> Table {
-    let table = table_of(memory, facts, trial);
-    if !has_same_way(&table) {
-        return table;
-    }
-    if turn_faces(memory, facts, trial, &table) {
+/// Turns faces, or else loops, so that the two rows of each edge with two run opposite. Whether that can be.
+pub fn turn(memory: &mut Memory, facts: &Facts, trial: &mut Trial, table: &Table) -> bool {
+    if turn_faces(memory, facts, trial, table) {
         trial.pay(1);
-    } else {
-        turn_loops(memory, facts, trial, &table);
+        return true;
     }
-    table_of(memory, facts, trial)
+    turn_loops(memory, facts, trial, table)
 }

@@ -92,14 +92,20 @@ fn turn_these(facts: &Facts, trial: &mut Trial, turned: &[bool]) -> bool {
     some
 }
 
-/// Turns loops so that the two rows of each edge with two run opposite, if that can be.
-pub(crate) fn turn_loops(memory: &mut Memory, facts: &Facts, trial: &mut Trial, table: &Table) {
+/// Turns loops so that the two rows of each edge with two run opposite. Whether that can be.
+pub(crate) fn turn_loops(
+    memory: &mut Memory,
+    facts: &Facts,
+    trial: &mut Trial,
+    table: &Table,
+) -> bool {
     let mut sets = Sets::new(memory, short(facts.loops.len()));
     if !join_loops(facts, table, &mut sets) {
-        return;
+        return false;
     }
     let kept = kept_loops(memory, facts, trial);
     let turned = smaller_sides(memory, &mut sets, &kept);
     let reversed = turn_these(facts, trial, &turned);
     trial.pay(if reversed { 2 } else { 1 });
+    true
 }
