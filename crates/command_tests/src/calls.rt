@@ -4,7 +4,7 @@ use crate::answers::{
     compacted_count, extracted_count, is_apart, reference_count, written_integer, written_real,
 };
 use crate::comparing::same;
-use iges_fields::{Bytes, EntryNo};
+use iges_base::{Bytes, EntryNo};
 
 fn is_text(text: &Option<Bytes>, due: &[u8]) -> bool {
     match text {

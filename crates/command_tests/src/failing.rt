@@ -1,7 +1,7 @@
 use crate::comparing::same;
 use crate::files::{ball, short};
 use crate::outcomes::{Call, Fails, Given, outcome};
-use iges_fields::Bytes;
+use iges_base::Bytes;
 use std::alloc::Global;
 use std::process::Abort;
 use std::test::Fail;

@@ -1,6 +1,6 @@
 //! Words, sources and sinks in memory, and runs over them.
 
-use iges_fields::Bytes;
+use iges_base::Bytes;
 use iges_io::{MemSink, MemSource, Numbers};
 use iges_solid_cmd::{Words, run};
 use std::alloc::Global;

@@ -1,7 +1,7 @@
 //! Runs in which one call fails.
 
 use crate::memory::{sink, source, status_of, words};
-use iges_fields::Bytes;
+use iges_base::Bytes;
 use iges_io::{MemSink, MemSource};
 use iges_solid_cmd::Words;
 use std::alloc::Global;

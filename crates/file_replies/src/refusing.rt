@@ -3,7 +3,7 @@ ghost use Rattle.std.specs.Prelude.{◌≡◌, IfOk};
 
 use command_replies::{Answer, Reply};
 use entry_references::ExtractReason;
-use iges_fields::{EntryNo, NoMemory, Out, write_number};
+use iges_base::{EntryNo, NoMemory, Out, write_number};
 use std::alloc::Global;
 
 fn word_of(reason: ExtractReason) -> &'static str

@@ -2,7 +2,7 @@ ghost use Rattle.file_replies.specs.Written.{OfWritten};
 ghost use Rattle.std.specs.Prelude.{IfOk};
 
 use command_replies::{Answer, Reply, too_large};
-use iges_fields::{FILE_LIMIT, NoMemory};
+use iges_base::{FILE_LIMIT, NoMemory};
 use iges_params::File;
 use iges_write::{WriteFileFault, write_file};
 use std::alloc::Global;

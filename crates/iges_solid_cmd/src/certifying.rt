@@ -8,7 +8,7 @@ ghost use Rattle.std.specs.Prelude.{◌≡◌, ℕ, IfOk};
 use brep_walk::{WalkFault, walk};
 use cert_maker::{BookFault, MakeFault, certify, certify_all};
 use command_replies::{Answer, Reply, failed, no_solid, solid_failed, too_large};
-use iges_fields::{EntryNo, NoMemory};
+use iges_base::{EntryNo, NoMemory};
 use iges_params::File;
 use solid_data::Solid;
 use std::alloc::Global;

@@ -3,7 +3,7 @@ ghost use Rattle.std.specs.Prelude.{IfOk};
 
 use command_replies::Reply;
 use file_replies::{refused, written};
-use iges_fields::{EntryNo, NoMemory};
+use iges_base::{EntryNo, NoMemory};
 use iges_params::File;
 use solid_extract::{ExtractFault, into_extract};
 use std::alloc::Global;

@@ -15,7 +15,7 @@ use crate::showing::show_solid;
 use cert_text::CERT_LIMIT;
 use certificate_commands::{upgrade_certificate, verify_certificate};
 use command_replies::{Reply, Stop};
-use iges_fields::NoMemory;
+use iges_base::NoMemory;
 use iges_io::Source;
 use iges_params::File;
 use open_commands::{certify_shell, verify_shell};

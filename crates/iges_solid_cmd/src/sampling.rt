@@ -14,7 +14,7 @@ use brep_walk::{WalkFault, walk};
 use cert_lines::read_opening;
 use cert_maker::{MakeFault, certify};
 use command_replies::{Answer, Reply};
-use iges_fields::{Bytes, EntryNo, FILE_LIMIT, NoMemory, Out, write_number};
+use iges_base::{Bytes, EntryNo, FILE_LIMIT, NoMemory, Out, write_number};
 use iges_params::{File, ReadFileFault, read_file};
 use iges_write::{WriteFileFault, write_file};
 use sample_solids::sample_file;

@@ -5,7 +5,7 @@ ghost use Rattle.std.specs.Prelude.{◌≡◌, ◌+◌, ◌<◌, ◌^◌, ◌++�
 use brep_walk::{WalkFault, walk};
 use command_replies::{Answer, Reply, failed};
 use edge_uses::{Rows, rows};
-use iges_fields::{Bytes, EntryNo, NoMemory, Out, write_number};
+use iges_base::{Bytes, EntryNo, NoMemory, Out, write_number};
 use iges_params::File;
 use solid_data::{FaceUse, Shell, ShellAt, Solid};
 use std::alloc::Global;

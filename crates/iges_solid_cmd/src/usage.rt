@@ -6,7 +6,7 @@ ghost use Rattle.std.specs.Prelude.{◌≡◌, ◌++◌, IfOk, List, OnOk, map, 
 
 use crate::form::{Form, listed};
 use crate::form_slot::FormSlot;
-use iges_fields::{Bytes, NoMemory, Out};
+use iges_base::{Bytes, NoMemory, Out};
 use std::alloc::Global;
 
 // What has a text in the usage line.

@@ -6,7 +6,7 @@ use brep_walk::{WalkFault, walk};
 use command_replies::{Reply, failed};
 use file_replies::{refused, written};
 use flag_choice::{FlagLists, fitting_flags};
-use iges_fields::{EntryNo, NoMemory};
+use iges_base::{EntryNo, NoMemory};
 use iges_params::File;
 use orient_commands::orient_walked;
 use solid_extract::ExtractFault;

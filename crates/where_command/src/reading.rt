@@ -12,7 +12,7 @@ ghost use Rattle.where_places.specs.PlacedFiles.{IsPlacedFile};
 ghost use Rattle.where_places.specs.Places.{HasPlaces};
 
 use command_replies::{Answer, Reply, Stop, bad_file, bytes_in};
-use iges_fields::{Bytes, FILE_LIMIT, NoMemory, Out};
+use iges_base::{Bytes, FILE_LIMIT, NoMemory, Out};
 use iges_io::Source;
 use iges_lines::LineFault;
 use iges_params::{File, ReadFileFault};

@@ -6,7 +6,7 @@ ghost use Rattle.where_command.specs.Due.{OfContents, OfOverview, OfSolid, answe
 
 use crate::asked::Asked;
 use command_replies::{Answer, Reply};
-use iges_fields::{EntryNo, NoMemory};
+use iges_base::{EntryNo, NoMemory};
 use solid_data::Verdict;
 use std::alloc::Global;
 use where_overview::tell_all;
