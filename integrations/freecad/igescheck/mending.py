@@ -2,9 +2,10 @@
 import itertools
 import os
 import pathlib
-from typing import Optional
+from typing import Optional, Sequence
 
-from igesolid import Error, NeedsFaces, NotMended, Unsure
+from igesolid import Error, NeedsFaces, NotMended, Unsure, WrongRecord
+from igesolid.where_lines import MENDED_RULES
 
 from .telling import Told, ToldSolid
 
@@ -15,11 +16,21 @@ class NotWritten(Exception):
 
 def solid_to_mend(told: Told, number: Optional[int]) -> ToldSolid:
     """The solid of this number, if it may be mended; where none is chosen, the first that may."""
-    found = next((it for it in told.solids if it.may_mend and number in (None, it.number)), None)
+    wanted = [it for it in told.solids if number in (None, it.number)]
+    found = next((it for it in wanted if it.rule in MENDED_RULES), None)
     if found is None:
-        of = "in this file" if number is None else f"of solid {number}"
-        raise NotWritten(f"There is nothing to mend {of}: it is closed, or a record is wrong.")
+        raise NotWritten(_nothing(wanted))
     return found
+
+
+def _nothing(wanted: Sequence[ToldSolid]) -> str:
+    """Why none of these solids is mended."""
+    if not wanted:
+        return "There is no solid to mend in this file."
+    wrong = next((it for it in wanted if not it.is_closed), None)
+    if wrong:
+        return f"Solid {wrong.number} isn't mended, since a record of it is wrong: the rows tell which, and what is due there."
+    return "There is nothing to mend: the solid is closed." if len(wanted) == 1 else "There is nothing to mend: all solids are closed."
 
 
 def _why(fault: NotMended, number: int) -> str:
@@ -29,6 +40,8 @@ def _why(fault: NotMended, number: int) -> str:
         faces = "a face" if fault.faces == 1 else f"{fault.faces:,} faces"
         return f"Solid {number} isn't mended, since {faces} must be made anew: the rims of its first remedy tell where. Another remedy may do without: choose it."
     return f"No remedy is known that closes solid {number}."
+
+
 
 
 def _new_file(path: str, data: bytes) -> str:
@@ -50,11 +63,12 @@ def _new_file(path: str, data: bytes) -> str:
 def mended_copy(path: str, told: Told, number: Optional[int], remedy: Optional[int]) -> str:
     """Writes the mended copy of a solid, by the remedy of this number or else by the one that is sure; its path."""
     chosen = solid_to_mend(told, number)
-    assert chosen.solid is not None
     try:
-        data = chosen.solid.mend(remedy)
+        data = chosen.solid.reorient() if chosen.is_by_flags else chosen.solid.mend(remedy)
     except NotMended as fault:
         raise NotWritten(_why(fault, chosen.number)) from fault
+    except WrongRecord as fault:
+        raise NotWritten(f"Solid {chosen.number} isn't mended: a record of it is wrong also without what is named twice.") from fault
     except Error as fault:
         raise NotWritten(f"Solid {chosen.number} isn't mended: {fault}") from fault
     return _new_file(path, data)
