@@ -1,10 +1,10 @@
-"""The mended copy of a file, beside it: what `igesolid mend` writes. FreeCAD isn't needed here."""
+"""The mended copy of a file, beside it: what `igesolid mend` writes, or `reorient` or `relayout`. FreeCAD isn't needed here."""
 import itertools
 import os
 import pathlib
 from typing import Optional, Sequence
 
-from igesolid import Error, NeedsFaces, NotMended, Unsure, WrongRecord
+from igesolid import BadFile, BadLayout, Error, NeedsFaces, NotMended, Unsure, WrongRecord, read, relayout
 from igesolid.where_lines import MENDED_RULES
 
 from .telling import Told, ToldSolid
@@ -42,8 +42,6 @@ def _why(fault: NotMended, number: int) -> str:
     return f"No remedy is known that closes solid {number}."
 
 
-
-
 def _new_file(path: str, data: bytes) -> str:
     """Writes a file of a name that is free, part-mended-1.igs or with the next number; its path."""
     whole = pathlib.Path(path)
@@ -60,15 +58,32 @@ def _new_file(path: str, data: bytes) -> str:
     raise AssertionError
 
 
+def _put_right(told: Told) -> bytes:
+    """A bad file with its lines put right."""
+    try:
+        data = relayout(told.content.bytes)
+        read(data)
+        return data
+    except BadLayout as fault:
+        raise NotWritten(f"It isn't certain how the lines of this file are to be put right: line {fault.line} ({fault.reason}).") from fault
+    except BadFile as fault:
+        raise NotWritten(f"This file isn't one of the fixed form even with its lines put right: line {fault.line} ({fault.reason}).") from fault
+    except Error as fault:
+        raise NotWritten(f"The lines of this file aren't put right: {fault}") from fault
+
+
 def mended_copy(path: str, told: Told, number: Optional[int], remedy: Optional[int]) -> str:
-    """Writes the mended copy of a solid, by the remedy of this number or else by the one that is sure; its path."""
+    """Writes the mended copy of a solid, by the remedy of this number or else by the one that is sure, or of a bad file; its path."""
+    return _new_file(path, _put_right(told) if told.is_bad else _mended(told, number, remedy))
+
+
+def _mended(told: Told, number: Optional[int], remedy: Optional[int]) -> bytes:
     chosen = solid_to_mend(told, number)
     try:
-        data = chosen.solid.reorient() if chosen.is_by_flags else chosen.solid.mend(remedy)
+        return chosen.solid.reorient() if chosen.is_by_flags else chosen.solid.mend(remedy)
     except NotMended as fault:
         raise NotWritten(_why(fault, chosen.number)) from fault
     except WrongRecord as fault:
         raise NotWritten(f"Solid {chosen.number} isn't mended: a record of it is wrong also without what is named twice.") from fault
     except Error as fault:
         raise NotWritten(f"Solid {chosen.number} isn't mended: {fault}") from fault
-    return _new_file(path, data)

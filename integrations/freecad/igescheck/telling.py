@@ -16,6 +16,8 @@ from igesolid.where_lines import ONCE, RECORD_RULES
 from .topology import Edge, Face, Topology, Vertex, millimetres
 
 CLOSED, FAILS, PLAIN = "closed", "fails", "plain"
+# FreeCAD may crash on files with such records; what is named twice it reads.
+CRASHING = set(RECORD_RULES) - {ONCE}
 # The lines of `where` in words, by the words of their shapes; any other line stands as it is.
 WORDS = {
     "edge along against": "edge {index} of list {list}; uses along it: {along}, against it: {against}",
@@ -121,13 +123,14 @@ class ToldSolid(NamedTuple):
 
 
 class Told(NamedTuple):
-    """A file: the bytes that were judged, what is said of all, its solids, and whether the records of all solids are right."""
+    """A file: the bytes that were judged, what is said of all, its solids, whether FreeCAD may read it, and whether it's a bad file."""
 
     content: Content
     words: str
     sentence: str
     solids: Tuple[ToldSolid, ...]
-    has_right_records: bool
+    may_open: bool
+    is_bad: bool = False
 
 
 def told_of(path: str, engine: Optional[Engine] = None) -> Told:
@@ -137,7 +140,7 @@ def told_of(path: str, engine: Optional[Engine] = None) -> Told:
     try:
         solids = Judged(content, engine).solids
     except BadFile as fault:
-        return Told(content, str(fault), _reason(engine, content, True), (), False)
+        return Told(content, str(fault), _reason(engine, content, True), (), False, True)
     if not solids:
         return Told(content, "no solid", _reason(engine, content, False), (), True)
     file = File(lines_of(content.bytes))
@@ -145,7 +148,7 @@ def told_of(path: str, engine: Optional[Engine] = None) -> Told:
     failing = sum(not it.is_closed for it in told)
     counted = _count(len(told), "solid")
     words = f"{counted}, {failing:,} not closed" if failing else f"{counted}, closed"
-    return Told(content, words, "", told, all(it.rule not in RECORD_RULES for it in told))
+    return Told(content, words, "", told, CRASHING.isdisjoint(it.rule for it in told))
 
 
 def _reason(engine: Engine, content: Content, is_bad: bool) -> str:
