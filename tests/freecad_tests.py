@@ -31,7 +31,7 @@ MENDED = {"mend": "turned.igs", "stuck": "no/one_sided.igs", "flags": "no/fail_p
 WINDOW = "xvfb-run", "-a", "-s", "-screen 0 1400x860x24", "freecad"
 NEAR = 1e-6
 # So many seconds a run of FreeCAD may take.
-LONGEST = 240
+LONGEST = 1_800
 COMMANDS = "freecadcmd", "freecad", "xvfb-run"
 # A place as a line of `where` ends with it.
 AT_END = re.compile(r"(?m)^.*?(\d+) (\d+) (-?[0-9.][^ ]*) (-?[0-9.][^ ]*) (-?[0-9.][^ ]*)$")
