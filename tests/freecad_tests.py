@@ -294,6 +294,7 @@ def of_other_mending(context, told, folder):
 def of_others(told):
     """What FreeCAD doesn't show is drawn and selected; a file that it may crash on isn't opened; errors are in the panel."""
     yield "freecad: drawn by coordinates", told["marks"]["selected"][0] == ["Edge 1 of list 7", []] and "drawn by its coordinates." in told["marks"]["summary"]
+    yield "freecad: what was deleted", told["marks"]["deleted"] == [True, True]
     yield "freecad: closed solids", [it[0] for it in told["closed"]["rows"]] == [f"solid {it}: closed" for it in (3, 121, 169)]
     yield "freecad: a wrong record", "FreeCAD doesn't open this file here" in told["record"]["summary"] and ["its value 4 is 2", ""] in told["record"]["rows"]
     bad, none = told["bad"], told["none"]

@@ -91,6 +91,10 @@ def of_others(gui):
         told = answer[name] = {"summary": panel.summary.text(), "rows": rows_of(panel), "documents": len(FreeCAD.listDocuments()) - before}
         if name == "marks":
             told["selected"] = click(panel, "edge ")
+            deleted = next(it for it in panel.document.Objects if it.Label == told["selected"][0][0])
+            panel.document.removeObject(deleted.Name)
+            click(panel, "verdict")
+            told["deleted"] = [click(panel, "edge ") == told["selected"][1:], panel.summary.text() == told["summary"]]
         press(panel, "Report")
         told["page"], told["then"] = opened[-1], panel.summary.text()
 

@@ -171,7 +171,9 @@ class Panel(QtGui.QDockWidget):
         for shown in _shown_below(row):
             marks += shown.marks if not shown.elements else ()
             elements += shown.elements
-        chosen = list(dict.fromkeys([*elements, *(Element(it, "") for it in marks)]))[:MOST_SELECTED]
+        named = dict.fromkeys([*elements, *(Element(it, "") for it in marks)])
+        # What was deleted meanwhile isn't shown.
+        chosen = [it for it in named if self.document.getObject(it.owner)][:MOST_SELECTED]
         for it in chosen:
             FreeCADGui.Selection.addSelection(self.document.Name, it.owner, it.name)
         if chosen:
