@@ -14,6 +14,8 @@ import zipfile
 from html_tests import parts_of
 from programs import TOP
 from second_checker.answering import file_of
+from second_checker.canonical import text_of
+from second_checker.reading import File
 
 SCRIPTS, EXAMPLES = TOP / "tests" / "freecad", TOP / "examples"
 EDGE = EXAMPLES / "occt" / "77_pinched_edge.igs"
@@ -25,11 +27,11 @@ SHOWN = {
     }.items()
 }  # fmt: skip
 # What is mended there, and what isn't.
-MENDED = {"mend": "turned.igs", "stuck": "no/one_sided.igs"}
+MENDED = {"mend": "turned.igs", "stuck": "no/one_sided.igs", "flags": "no/fail_pair_flag.igs"}
 WINDOW = "xvfb-run", "-a", "-s", "-screen 0 1400x860x24", "freecad"
 NEAR = 1e-6
 # So many seconds a run of FreeCAD may take.
-LONGEST = 240
+LONGEST = 1_800
 COMMANDS = "freecadcmd", "freecad", "xvfb-run"
 # A place as a line of `where` ends with it.
 AT_END = re.compile(r"(?m)^.*?(\d+) (\d+) (-?[0-9.][^ ]*) (-?[0-9.][^ ]*) (-?[0-9.][^ ]*)$")
@@ -38,6 +40,9 @@ FACES = re.compile(r"(?m)^(?:turn|remove|body .* first|reverse loop \d+ face|  .
 RECORD_FACES = re.compile(r"(?m)^  in face (\d+)")
 FAILS = re.compile(r"(?m)^solid (\d+) fail ([A-Z]+)")
 RECORD_RULES = "ENTRY", "TYPE", "RECORD", "ONCE", "INDEX", "GEOMETRY"
+# Of these FreeCAD reads what is named twice; and what a row says of that.
+READ_RULE = "ONCE"
+LEFT_OUT = "Mend does that in a copy. What fails then is mended, too, where the records tell how; otherwise no copy is written."
 # Millimetres of a unit, by the line of `where` on it.
 SCALES = {"units 2 MM": 1.0, "units 1 IN": 25.4, "units 6 M": 1000.0, "units - -": 25.4}
 UNITS = {"millimetres": ",2,2HMM,", "inches": ",1,2HIN,", "metres": ",6,1HM,"}
@@ -99,6 +104,15 @@ def in_unit(text, unit):
     at = next(k for k, line in enumerate(lines) if UNIT in line and line[72:73] == "G")
     lines[at] = lines[at][:72].replace(UNIT, unit).rstrip().ljust(72) + lines[at][72:]
     return "\n".join(lines)
+
+
+def named_twice(data):
+    """A file whose first shell names its first face again."""
+    file = File(data)
+    shell = next(it for it in file.entries.values() if it.kind == 514)
+    shell.values[1:1] = shell.values[1:3]
+    shell.values[0] += 1
+    return text_of(file)
 
 
 def real(spelled):
@@ -190,12 +204,13 @@ def at_examples(context, home):
     for path, file in (told or {}).items():
         about = f"freecad: {pathlib.Path(path).name}"
         solids, texts = dict(FAILS.findall(where(path))), []
-        yield f"{about}: {file.get('error', '')}", file.get("opened") == all(it not in RECORD_RULES for it in solids.values())
+        yield f"{about}: {file.get('error', '')}", file.get("opened") == all(it == READ_RULE or it not in RECORD_RULES for it in solids.values())
         for number, rule in solids.items():
             text, found = where(path, number), file["solids"][number]
             rows = [row[0] for row in found["rows"]]
             yield f"{about}: solid {number}, the verdict", rows[1] == f"verdict: {text.splitlines()[0]}" and rows[0].startswith(f"solid {number} isn't closed: ")
-            yield f"{about}: solid {number}, the sentences", [row[1] for row in found["rows"] if row[1]] == sentences_in(text)
+            sentences = [*([LEFT_OUT] if rule == READ_RULE else []), *sentences_in(text)]
+            yield f"{about}: solid {number}, the sentences", [row[1] for row in found["rows"] if row[1]] == sentences
             if rule in RECORD_RULES:
                 yield f"{about}: solid {number}, a record", all(f"face {it} has no coordinates" in str(found["rows"]) or ["face", int(it)] in map(list, map(key_of, found["named"])) for it in RECORD_FACES.findall(text))
                 continue
@@ -214,6 +229,10 @@ def in_window(context, home):
     for name, example in MENDED.items():
         (folder / name).mkdir()
         more[name] = shutil.copy(EXAMPLES / example, folder / name)
+    for name, data in (("twice", named_twice(EDGE.read_bytes())), ("lines", EDGE.read_bytes().replace(b"\n", b"\r\r\n"))):
+        (folder / name).mkdir()
+        (folder / name / "part.igs").write_bytes(data)
+        more[name] = str(folder / name / "part.igs")
     told, printed = home.run("in_window.py", {**SHOWN, **more}, *WINDOW)
     yield f"freecad: in a window\n{printed[-2000:] if told is None else told.get('fault', '')}", told is not None and "fault" not in told and "Traceback" not in printed
     if told is None or "fault" in told:
@@ -250,15 +269,32 @@ def of_mending(context, told, folder):
     mended = subprocess.run([context.programs.repair, "mend", EXAMPLES / "turned.igs", "1"], stdout=subprocess.PIPE).stdout
     files = {it.name: it.read_bytes() for it in (folder / "mend").iterdir()}
     yield "freecad: mended copies", files == {"turned.igs": (EXAMPLES / "turned.igs").read_bytes(), "turned-mended-1.igs": mended, "turned-mended-2.igs": mended}
-    yield "freecad: a mended copy is opened", told["mend"] == [["turned-mended-1.igs", True, "turned-mended-1.igs is written beside turned.igs."], ["turned-mended-2.igs", True, "turned-mended-2.igs is written beside turned.igs."]]
+    wanted = [[f"turned-mended-{k}.igs", ["solid 1: closed"], 0, f"turned-mended-{k}.igs is written beside turned.igs."] for k in (1, 2)]
+    yield "freecad: a mended copy is opened", told["mend"] == wanted
+    yield from of_other_mending(context, told, folder)
     yield "freecad: not mended", told["stuck"] == "No remedy is known that closes solid 1." and [it.name for it in (folder / "stuck").iterdir()] == ["one_sided.igs"]
     yield "freecad: a remedy that is chosen", told["remedy"] == [1, 2]
-    yield "freecad: nothing to mend", told["nothing"] == "There is nothing to mend in this file: it is closed, or a record is wrong."
+    yield "freecad: nothing to mend", told["nothing"] == ["There is nothing to mend: all solids are closed.", "Solid 1 isn't mended, since a record of it is wrong: the rows tell which, and what is due there."]
+
+
+def of_other_mending(context, told, folder):
+    """What is named twice, face flags, and the lines of a bad file: each copy is what igesolid-repair writes, and FreeCAD shows its faces."""
+    written = lambda *words: subprocess.run([context.programs.repair, *map(str, words)], stdout=subprocess.PIPE).stdout
+    part, flags = folder / "twice" / "part.igs", folder / "flags" / "fail_pair_flag.igs"
+    yield "freecad: what is named twice is mended", told["twice"] == [["part-mended-1.igs", ["solid 3: closed"], 26, "part-mended-1.igs is written beside part.igs."]]
+    yield "freecad: as it is written", (folder / "twice" / "part-mended-1.igs").read_bytes() == written("mend", part, 3)
+    rows = dict(told["twice_rows"])
+    yield "freecad: what is said of it", "remedy: leave out what is named twice" in rows and rows["item 2 of entity 5"].startswith(("Face", "one of Face"))
+    yield "freecad: what is selected of it", [it[0] for it in told["twice_selected"]] == ["Compound"] and all(it.startswith("Face") for it in told["twice_selected"][0][1])
+    yield "freecad: face flags", [it[1] for it in told["flags"]] == [["solid 1: closed"]] and (folder / "flags" / "fail_pair_flag-mended-1.igs").read_bytes() == written("reorient", flags, 1)
+    yield "freecad: the lines of a bad file", [it[2:] for it in told["lines"]] == [[26, "part-mended-1.igs is written beside part.igs."]] and (folder / "lines" / "part-mended-1.igs").read_bytes() == EDGE.read_bytes()
+    yield "freecad: lines that can't be put right", told["bad_lines"] == "It isn't certain how the lines of this file are to be put right: line 2 (short)."
 
 
 def of_others(told):
     """What FreeCAD doesn't show is drawn and selected; a file that it may crash on isn't opened; errors are in the panel."""
     yield "freecad: drawn by coordinates", told["marks"]["selected"][0] == ["Edge 1 of list 7", []] and "drawn by its coordinates." in told["marks"]["summary"]
+    yield "freecad: what was deleted", told["marks"]["deleted"] == [True, True]
     yield "freecad: closed solids", [it[0] for it in told["closed"]["rows"]] == [f"solid {it}: closed" for it in (3, 121, 169)]
     yield "freecad: a wrong record", "FreeCAD doesn't open this file here" in told["record"]["summary"] and ["its value 4 is 2", ""] in told["record"]["rows"]
     bad, none = told["bad"], told["none"]

@@ -48,11 +48,12 @@ def rows(parts):
     of_bad, of_solid = ((folder / found[name][4][0][0]).read_bytes() for name in ("parts/no/bad.igs", "parts/no/tetrahedra.iges"))
     page = parts.copy.run(parts.launcher, "page", "parts/no/tetrahedra.iges", "1", cwd=parts.folder)[1]
     yield "check --html: a page of a solid", parts_of(of_solid) == parts_of(page) and of_solid.split(b"@")[0][:200] == page[:200]
-    for name, remedy in ("fail_pair", "make a face on 1 rim"), ("fail_pair_unsewn", "sew 1 pair of edges"):
-        file = parts.copy.top / "examples" / "no" / f"{name}.igs"
+    remedies = {"pair": "PAIR 7 1: make a face on 1 rim", "pair_unsewn": "PAIR 7 1: sew 1 pair of edges", "once": "ONCE 3 2: leave out what is named twice", "type": "TYPE 1 1: an entity of the wrong type or form"}
+    for name, verdict in remedies.items():
+        file = parts.copy.top / "examples" / "no" / f"fail_{name}.igs"
         parts.check(file, "--html", name)
         reason = next(iter(index_in(parts.folder / name)[1].values()))[3]
-        yield f"check --html: the first remedy of {name}", reason == f"solid 1: fail PAIR 7 1: {remedy}"
+        yield f"check --html: the first remedy of {name}", reason == f"solid 1: fail {verdict}"
     yield "check --html: a page of a bad file", parts_of(of_bad)[0] == b"bad.igs\0" and parts_of(of_bad)[1].startswith(b"bad file line 2 length\n")
 
 

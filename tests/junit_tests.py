@@ -81,6 +81,15 @@ def of_examples(parts):
         for case, result in cases:
             if result and file["status"] in (1, 3):
                 yield from of_case(parts, name, case, result[0])
+        yield from of_remedies(name, file["solids"], dict(cases))
+
+
+def of_remedies(file, solids, cases):
+    """The first remedy in words, as `--json` has it, of each solid that fails a rule on shells or names something twice."""
+    for it in solids:
+        remedy, result = it.get("remedy"), cases[f"solid {it['solid']}"]
+        is_due = it.get("rule") in ("ONCE", "JOIN", "PAIR", "REACH", "LINK", "APART")
+        yield f"check --junit: {file} solid {it['solid']}, its remedy", bool(remedy) == is_due and (not is_due or f"{remedy[:1].upper()}{remedy[1:]}." in result[0][3])
 
 
 def of_case(parts, file, case, result):

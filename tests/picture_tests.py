@@ -148,6 +148,9 @@ def commands(folder, where):
         yield "marks to a full disk", run_command(where, pinched, "3", stdout=full)[0] == 5
     told = run_command(where, example("bad_length"), "1")
     yield "marks of a bad file", told == (3, b"", "igesolid: bad_length.igs: bad file line 2 length, so nothing is marked\n")
+    causes = {"fail_type": "fail TYPE 1 1: a record is wrong", "fail_once": "fail ONCE 3 2: something is named twice, which igesolid mend leaves out"}
+    for name, cause in causes.items():
+        yield f"marks of {name}", run_command(where, example(name), "1")[2] == f"igesolid: {name}.igs: {cause}, so nothing is marked\n"
     odd = folder / "odd"
     odd.write_text(ODD)
     odd.chmod(0o755)

@@ -156,9 +156,10 @@ def of_buttons(browser, program, where, folder):
 
 
 def of_mending(browser, repair, folder):
-    """What mend and mended answer is what the program does, and the button saves it; where no file is written a sentence says why."""
+    """What mend and mended answer is what the program does, and the button saves it; where no file is written a sentence says why. A solid that
+    names something twice is mended, too."""
     browser.call("Page.setDownloadBehavior", behavior="allow", downloadPath=str(folder))
-    for name, number in (("turned", "1"), ("two_solids", "1"), ("no/one_sided", "1"), ("no/fail_pair", "1"), ("no/fail_pair_unsewn", "1"), ("occt/76_pinched_vertex", "3")):
+    for name, number in (("turned", "1"), ("two_solids", "1"), ("no/one_sided", "1"), ("no/fail_once", "1"), ("no/fail_pair", "1"), ("no/fail_pair_unsewn", "1"), ("occt/76_pinched_vertex", "3")):
         example = EXAMPLES / f"{name}.igs"
         data = json.dumps(base64.b64encode(example.read_bytes()).decode())
         browser.run(f"asked({{ file: 'mended', bytes: Uint8Array.from(atob({data}), it => it.charCodeAt(0)).buffer, words: ['solids', '-'] }}).then(() => null)")

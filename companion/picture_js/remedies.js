@@ -140,6 +140,10 @@ function stepOf(step) {
 /** A name as a shell reads it. */
 const quoted = name => (/^[\w.+,/@%-]+$/.test(name) ? name : `'${name.replaceAll("'", "'\\''")}'`);
 
+/** The command that mends a solid, by the remedy of this number or else by the one that is sure. */
+export const mending = ({ file, solid }, remedy = "") =>
+  `igesolid mend ${quoted(file)} ${solid}${remedy && ` ${remedy}`} > mended.igs`;
+
 /** A remedy as the page shows it; `command` mends with it, unless a face must be made anew. */
 function remedyOf(remedy, picture, named, factsOf) {
   const { faces, said, spokes, dots } = picture ? markedOf(remedy, picture)
@@ -149,7 +153,7 @@ function remedyOf(remedy, picture, named, factsOf) {
   const number = Number(remedy.told.remedy);
   const needsFaces = remedy.items.some(it => nameOf(it) === "fill");
   const words = remedy.items.map(wordsOf).join(", ");
-  const command = `igesolid mend ${quoted(named.file)} ${named.solid} ${number} > mended.igs`;
+  const command = mending(named, String(number));
   return {
     remedy: number, words, steps: remedy.items.map(stepOf), command: needsFaces ? "" : command,
     number: 0, rule: "", head: `remedy ${number}: ${words}`, says: "", facts: [],

@@ -5,7 +5,7 @@ import { markedOf } from "./marked.js";
 import { Picture } from "./picture.js";
 import { IgesFile, Unreadable } from "./records.js";
 import { Solid } from "./solid.js";
-import { isOfRemedies, remediesOf } from "./remedies.js";
+import { isOfRemedies, mending, remediesOf } from "./remedies.js";
 import { answerOf, factsOf } from "./where_text.js";
 
 /** At most so many faults of a rule are listed, and of all; facts of a fault, lines of the text. */
@@ -45,7 +45,9 @@ function summaryOf(answer) {
     if (["ENTRY", "TYPE"].includes(rule) && place === "0") {
       return `There is no solid with the number ${entity} in this file.`;
     }
-    return "A record of the solid is wrong, so nothing can be said of its faces yet.";
+    const cause = rule === "ONCE" ? "The solid names a shell, a face or a loop twice"
+      : "A record of the solid is wrong";
+    return `${cause}, so nothing can be said of its faces yet.`;
   }
   const totals = new Map();
   for (const it of answer.rules) {
@@ -92,9 +94,11 @@ function ofRecord(file, answer) {
   const item = answer.rules[0].items[0], entity = Number(item.told.entity);
   const fact = item.facts.find(it => "value" in it.told);
   if (fact) {
-    const marks = file.marks(entity, Number(fact.told.value));
+    const { value, found } = fact.told, marks = file.marks(entity, Number(value));
+    const isTwice = answer.rules[0].told.rule === "ONCE";
+    const wrong = isTwice ? `names entity ${found} a second time` : "is wrong";
     return excerptOf(file, marks,
-      `Value ${fact.told.value} of the record of entity ${entity} is wrong: `
+      `Value ${value} of the record of entity ${entity} ${wrong}: `
       + `line ${marks[0][0]}, column ${marks[0][1]}:`);
   }
   if (answer.verdict.told.rule !== "TYPE") return null;
@@ -151,10 +155,23 @@ function ruleOf(rule, first, most, picture, answer) {
   return { name, head: rule.text, sentence: rule.sentence, faults, more };
 }
 
-/** The hints of the text but the remedies. */
-function hintsOf(answer) {
-  const others = answer.hints.filter(it => !isOfRemedies(it));
-  return others.map(({ text, sentence }) => ({ head: text.slice(text.indexOf(" ") + 1), sentence }));
+/** What mends something that is named twice: all but a loop that a face itself names twice. */
+function leavingOut(answer, named) {
+  if (answer.verdict.told.rule !== "ONCE") return [];
+  const [{ told, facts }] = answer.rules[0].items;
+  const isFace = answer.entities.get(Number(told.entity)).told.type === "face";
+  if (isFace && facts.some(it => it.words === "first item" && it.told.entity === told.entity))
+    return [];
+  const sentence = "The mended file leaves out what is named again. What fails then is mended, "
+    + "too, where the records tell how; otherwise no file is written.";
+  return [{ head: "What mends this", command: mending(named), sentence }];
+}
+
+/** The hints of the text but the remedies of shells. */
+function hintsOf(answer, named) {
+  const others = answer.hints.filter(it => !isOfRemedies(it)).map(({ text, sentence }) =>
+    ({ head: text.slice(text.indexOf(" ") + 1), sentence }));
+  return [...leavingOut(answer, named), ...others];
 }
 
 function fewLines(text) {
@@ -200,12 +217,13 @@ function readFile(bytes, number, answer, notes) {
 export function sceneOf(title, number, text, bytes, file = "FILE") {
   const answer = answerOf(text), notes = [];
   const { solid = null, excerpt } = readFile(bytes, number, answer, notes);
-  const picture = solid ? new Picture(solid) : null;
+  const picture = solid ? new Picture(solid) : null, named = { file, solid: number };
   const { flag, unit } = answer.units ? answer.units.told : { flag: "-", unit: "-" };
   return {
     title, verdict: answer.verdict.text, kind: answer.verdict.word, says: summaryOf(answer), notes,
-    rules: rulesOf(answer, picture).slice(0, MOST_RULES), hints: hintsOf(answer), excerpt, picture,
-    remedies: remediesOf(answer, picture, { file, solid: number }, it => factsOf(answer, it))
+    rules: rulesOf(answer, picture).slice(0, MOST_RULES), hints: hintsOf(answer, named),
+    excerpt, picture,
+    remedies: remediesOf(answer, picture, named, it => factsOf(answer, it))
       .slice(0, MOST_SHELLS),
     shells: shellsOf(answer, solid), shellCount: solid ? solid.shells.length : 0,
     text: fewLines(text), unit: UNITS[flag] || (unit === "-" ? "" : unit),

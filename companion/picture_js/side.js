@@ -49,6 +49,7 @@ function faultBox(fault, choose) {
 function hintBox(hint) {
   const box = make("div", "hint");
   box.append(make("code", "", hint.head), hint.sentence);
+  if (hint.command) box.append(make("code", "command", hint.command));
   return box;
 }
 

@@ -13,7 +13,8 @@ const MEANING = {
   PAIR: "a free or non-manifold edge, or faces of opposite orientation", REACH: "several lumps in one shell", LINK: "a non-manifold vertex",
   APART: "shells touch at a vertex",
 };
-const OF_SHELLS = ["JOIN", "PAIR", "REACH", "LINK", "APART"];
+// The rules that Mend mends.
+const MENDED = ["ONCE", "JOIN", "PAIR", "REACH", "LINK", "APART"];
 const element = id => document.getElementById(id);
 const shown = bytes => new TextDecoder().decode(bytes);
 
@@ -135,6 +136,7 @@ function button(label, box, what, run) {
 /** Why a solid isn't mended, where that is the answer. */
 function unmended(text) {
   const [, cause, count] = text.match(/^(stuck|needs faces (\d+))$/m) || [];
+  if (/^fail .*\n$/.test(text)) return `No file is written: a record of this solid is wrong also without what is named twice.\n${text}`;
   if (!cause) return null;
   const faces = count === "1" ? "a face" : `${count} faces`;
   const said = count ? `No file is written, since ${faces} must be made anew. Where tells the edges of each.` : "No remedy is known that closes this solid.";
@@ -161,7 +163,7 @@ function showPicture(parts) {
 class Row {
   constructor(file, box, words, facts) {
     const [, number, verdict, rule, entity, place] = words;
-    const isJudged = verdict !== "unjudged", mayMend = OF_SHELLS.includes(rule) || !isJudged;
+    const isJudged = verdict !== "unjudged", mayMend = MENDED.includes(rule) || !isJudged;
     Object.assign(this, { file, box, number, isClosed: verdict === "closed", isUnpaired: rule === "PAIR", mayMend });
     this.out = made("pre", { hidden: true });
     const plain = (className, textContent) => made("td", { className, textContent });

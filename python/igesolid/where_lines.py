@@ -135,6 +135,9 @@ ITEMS = {
 ALIKE = {"solid": "entity"}
 
 RECORD_RULES, SHELL_RULES = ("ENTRY", "TYPE", "RECORD", "ONCE", "INDEX", "GEOMETRY"), ("JOIN", "PAIR", "REACH", "LINK", "APART")
+# The rule on records that `mend` mends, and all rules that it does.
+ONCE = "ONCE"
+MENDED_RULES = (ONCE, *SHELL_RULES)
 FORMS_DUE = "solid form 0|shell form 1|(?:face|loop|edge-list|vertex-list) form 0 1"
 VALUES_DUE = "geometry|pointer|index|flag|type|count|coordinate|count-or-pointer"
 N = "(?:0|[1-9][0-9]*)"

@@ -91,25 +91,38 @@ def of_others(gui):
         told = answer[name] = {"summary": panel.summary.text(), "rows": rows_of(panel), "documents": len(FreeCAD.listDocuments()) - before}
         if name == "marks":
             told["selected"] = click(panel, "edge ")
+            deleted = next(it for it in panel.document.Objects if it.Label == told["selected"][0][0])
+            panel.document.removeObject(deleted.Name)
+            click(panel, "verdict")
+            told["deleted"] = [click(panel, "edge ") == told["selected"][1:], panel.summary.text() == told["summary"]]
         press(panel, "Report")
         told["page"], told["then"] = opened[-1], panel.summary.text()
 
 
+def mended(gui, name):
+    """A mended copy: its name, the rows on its solids, how many faces FreeCAD shows of it, and what is said of it first."""
+    press(gui.show(task[name]), "Mend")
+    found = [it for it in FreeCADGui.getMainWindow().findChildren(QtGui.QDockWidget, gui.NAME) if it.path != task[name]][-1]
+    faces = sum(len(it.Shape.Faces) for it in gui.objects_of(found.document))
+    rows = [words for words, _ in rows_of(found) if words.startswith("solid ")]
+    return [os.path.basename(found.path), rows, faces, found.summary.text().split("\n")[0]]
+
+
+def unmended(gui, name):
+    """Why there is no mended copy."""
+    panel = gui.show(task[name])
+    press(panel, "Mend")
+    return panel.summary.text().split("\n")[1]
+
+
 def of_mending(gui):
     """The button Mend: a copy of a name that is free, in a panel of its own; and why there is none."""
-    answer["mend"] = []
-    for _ in range(2):
-        panel = gui.show(task["mend"])
-        press(panel, "Mend")
-        found = [it for it in FreeCADGui.getMainWindow().findChildren(QtGui.QDockWidget, gui.NAME) if it.path != task["mend"]][-1]
-        is_closed = [it for it, _ in rows_of(found)] == ["solid 1: closed"]
-        answer["mend"].append([os.path.basename(found.path), is_closed, found.summary.text().split("\n")[0]])
-    panel = gui.show(task["stuck"])
-    press(panel, "Mend")
-    answer["stuck"] = panel.summary.text().split("\n")[1]
-    panel = gui.show(task["closed"])
-    press(panel, "Mend")
-    answer["nothing"] = panel.summary.text().split("\n")[1]
+    panel = gui.show(task["twice"])
+    answer["twice_rows"], answer["twice_selected"] = rows_of(panel), click(panel, "item 2 of entity 5")
+    for name in "mend", "twice", "flags", "lines":
+        answer[name] = [mended(gui, name) for _ in range(2 if name == "mend" else 1)]
+    answer["stuck"], answer["bad_lines"] = unmended(gui, "stuck"), unmended(gui, "bad")
+    answer["nothing"] = [unmended(gui, "closed"), unmended(gui, "record")]
     panel = gui.show(task["edge"])
     rows = panel.tree.findItems("remedy ", QtCore.Qt.MatchStartsWith | QtCore.Qt.MatchRecursive)[:2]
     answer["remedy"] = []

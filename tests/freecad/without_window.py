@@ -37,7 +37,7 @@ def told_in(path):
     except Exception as fault:
         return {"error": str(fault)}
     document = FreeCAD.newDocument("part")
-    if told.solids and told.has_right_records:
+    if told.solids and told.may_open:
         Import.insert(path, document.Name)
     shapes = Shapes(document)
     solids = {}
@@ -48,7 +48,7 @@ def told_in(path):
         solids[solid.number] = found
     faces = sum(len(it.Faces) for it in shapes.shapes.values())
     FreeCAD.closeDocument(document.Name)
-    return {"words": told.words, "sentence": told.sentence, "opened": told.has_right_records, "faces": faces, "solids": solids}
+    return {"words": told.words, "sentence": told.sentence, "opened": told.may_open, "faces": faces, "solids": solids}
 
 
 task = json.loads(pathlib.Path(os.environ["IGESCHECK_TASK"]).read_text())

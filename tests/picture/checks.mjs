@@ -345,7 +345,7 @@ function uprightCircle() {
 // ---- Drawn vertices, faults, hints, and geometry changed at random. ----
 
 /** The text that is marked in the lines of a bad file or record. */
-const MARKED = { fail_index: "2", fail_entry: "17", fail_record: ";" };
+const MARKED = { fail_index: "2", fail_entry: "17", fail_record: ";", fail_once: "5" };
 
 /** A vertex and its coordinates in the text of `where`. */
 const VERTEX_TOLD =
@@ -381,7 +381,11 @@ export function* faults({ file, texts }) {
       isRefused = fault instanceof NotUnderstood;
     }
     const hints = [...text.matchAll(/^hint (?!remedy|stuck|more)(.*)$/gm)].map(it => it[1]);
-    yield [`picture: the hints of ${name}`, scene.hints.map(it => it.head).join() === hints.join()];
+    const told = scene.hints.filter(it => !it.command).map(it => it.head);
+    yield [`picture: the hints of ${name}`, told.join() === hints.join()];
+    const commands = scene.hints.map(it => it.command).filter(Boolean), isTwice = name === "fail_once";
+    yield [`picture: what mends ${name}`, isTwice === scene.says.includes("twice")
+      && commands.join() === (isTwice ? `igesolid mend FILE ${number} > mended.igs` : "")];
     if (name in MARKED)
       yield [`picture: what is marked of ${name}`, markedIn(scene.excerpt) === MARKED[name]];
     yield [`picture: ${name} with a word more isn't understood`, isRefused

@@ -94,7 +94,7 @@ class Panel(QtGui.QDockWidget):
         """Judges the file anew, and shows what is told of it."""
         self.tree.clear()
         self.told = told = told_of(self.path)
-        self._forget_closed()
+        self.forget_closed()
         opened = self._open(told)
         self.say(f"{os.path.basename(self.path)}: {told.words}", told.sentence, opened)
         document = self.document
@@ -112,7 +112,7 @@ class Panel(QtGui.QDockWidget):
             self._see_through()
         self._expand()
 
-    def _forget_closed(self) -> None:
+    def forget_closed(self) -> None:
         """A document that was closed meanwhile isn't there any more."""
         if self.document not in FreeCAD.listDocuments().values():
             self.document = None
@@ -122,7 +122,7 @@ class Panel(QtGui.QDockWidget):
         if self.document is not None or not told.solids:
             return ""
         self.document = FreeCAD.newDocument(pathlib.Path(self.path).stem)
-        if not told.has_right_records:
+        if not told.may_open:
             return WRONG_RECORDS
         try:
             ImportGui.insert(self.path, self.document.Name)
@@ -163,7 +163,7 @@ class Panel(QtGui.QDockWidget):
     def show_row(self, row: Any, _: Any = None) -> None:
         """Selects what a row and those below it mean, and turns the view to it."""
         FreeCADGui.Selection.clearSelection()
-        self._forget_closed()
+        self.forget_closed()
         if row is None or self.document is None:
             return
         marks: List[str] = []
@@ -171,7 +171,9 @@ class Panel(QtGui.QDockWidget):
         for shown in _shown_below(row):
             marks += shown.marks if not shown.elements else ()
             elements += shown.elements
-        chosen = list(dict.fromkeys([*elements, *(Element(it, "") for it in marks)]))[:MOST_SELECTED]
+        named = dict.fromkeys([*elements, *(Element(it, "") for it in marks)])
+        # What was deleted meanwhile isn't shown.
+        chosen = [it for it in named if self.document.getObject(it.owner)][:MOST_SELECTED]
         for it in chosen:
             FreeCADGui.Selection.addSelection(self.document.Name, it.owner, it.name)
         if chosen:
@@ -207,7 +209,7 @@ class Panel(QtGui.QDockWidget):
     @guarded
     def clear(self, *_: Any) -> None:
         """Removes the marks, and shows the faces as they were."""
-        self._forget_closed()
+        self.forget_closed()
         if self.document is None:
             return
         remove_marks(self.document)
@@ -218,8 +220,12 @@ class Panel(QtGui.QDockWidget):
 
 
 # The words of the buttons, what each does, and its slot.
+TIP_OF_MEND = (
+    "Writes a copy beside the file in which the chosen solid is closed, by the chosen remedy or the one that is sure, and opens it; "
+    "of a bad file a copy with its lines put right"
+)
 BUTTONS: Tuple[Tuple[str, str, Callable[..., Any]], ...] = (
-    ("Mend", "Writes a copy beside the file in which the chosen solid is closed, by the chosen remedy or the one that is sure, and opens it", Panel.mend),
+    ("Mend", TIP_OF_MEND, Panel.mend),
     ("Report", "Opens a page that draws the solid and where it fails, in a browser", Panel.show_report),
     ("Check again", "Reads the file again and judges it; the model stays as it was opened", Panel.check),
     ("Remove marks", "Removes what this panel drew into the document", Panel.clear),
@@ -250,6 +256,7 @@ def show(path: str, document: Any = None) -> Panel:
     """The panel on a file, in place of an earlier one."""
     window = FreeCADGui.getMainWindow()
     for old in window.findChildren(QtGui.QDockWidget, NAME):
+        old.forget_closed()
         if document is not None and old.document == document:
             old.clear()
         window.removeDockWidget(old)

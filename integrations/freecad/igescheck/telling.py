@@ -9,13 +9,15 @@ from igesolid.errors import BadFile
 from igesolid.files import File as Judged
 from igesolid.files import Solid, default_engine
 from igesolid.pictures.iges import File, lines_of
-from igesolid.remedies import words_of, words_of_step
-from igesolid.where import Hint, Holder, Line, Paragraph, Step, Where
-from igesolid.where_lines import RECORD_RULES
+from igesolid.remedies import FACE_FLAGS, LEAVE_OUT, STUCK, is_left_out, words_of_hint, words_of_step
+from igesolid.where import Hint, Holder, Line, Paragraph, Rule, Step, Where
+from igesolid.where_lines import ONCE, RECORD_RULES
 
 from .topology import Edge, Face, Topology, Vertex, millimetres
 
 CLOSED, FAILS, PLAIN = "closed", "fails", "plain"
+# FreeCAD may crash on files with such records; what is named twice it reads.
+CRASHING = set(RECORD_RULES) - {ONCE}
 # The lines of `where` in words, by the words of their shapes; any other line stands as it is.
 WORDS = {
     "edge along against": "edge {index} of list {list}; uses along it: {along}, against it: {against}",
@@ -52,6 +54,7 @@ WORDS = {
     "item": "item {place} of entity {entity}",
     "value found": "its value {value} is {found}",
     "line column": "line {line} of the file, column {column}",
+    "text": "which reads {text}",
     "due": "due there: {due}",
     "why": "what it names is {why}",
     "entry form": "it names entity {entry} ({type}), of form {form}",
@@ -91,28 +94,43 @@ class Node(NamedTuple):
     remedy: Optional[int] = None
 
 
+# What mends a solid that names something twice.
+LEFT_OUT = Node(f"remedy: {LEAVE_OUT}", "Mend does that in a copy. What fails then is mended, too, where the records tell how; otherwise no copy is written.")
+
+
 class ToldSolid(NamedTuple):
-    """A solid; `may_mend` if `mend` may write it: its records are right, and a rule on shells fails."""
+    """A solid; of one that isn't closed what `where` tells of it, and its records."""
 
     number: int
-    topology: Optional[Topology]
     node: Node
-    may_mend: bool = False
-    solid: Optional[Solid] = None
+    solid: Solid
+    where: Optional[Where] = None
+    topology: Optional[Topology] = None
 
     @property
     def is_closed(self) -> bool:
-        return self.node.kind == CLOSED
+        return self.where is None
+
+    @property
+    def rule(self) -> Optional[str]:
+        """The first that fails."""
+        return self.where.rules[0].name if self.where is not None else None
+
+    @property
+    def is_by_flags(self) -> bool:
+        """Whether it is closed with other face flags: then these are mended, and `where` tells no remedies."""
+        return self.where is not None and any(it.name == FACE_FLAGS for it in self.where.hints)
 
 
 class Told(NamedTuple):
-    """A file: the bytes that were judged, what is said of all, its solids, and whether the records of all solids are right."""
+    """A file: the bytes that were judged, what is said of all, its solids, whether FreeCAD may read it, and whether it's a bad file."""
 
     content: Content
     words: str
     sentence: str
     solids: Tuple[ToldSolid, ...]
-    has_right_records: bool
+    may_open: bool
+    is_bad: bool = False
 
 
 def told_of(path: str, engine: Optional[Engine] = None) -> Told:
@@ -122,7 +140,7 @@ def told_of(path: str, engine: Optional[Engine] = None) -> Told:
     try:
         solids = Judged(content, engine).solids
     except BadFile as fault:
-        return Told(content, str(fault), _reason(engine, content, True), (), False)
+        return Told(content, str(fault), _reason(engine, content, True), (), False, True)
     if not solids:
         return Told(content, "no solid", _reason(engine, content, False), (), True)
     file = File(lines_of(content.bytes))
@@ -130,7 +148,7 @@ def told_of(path: str, engine: Optional[Engine] = None) -> Told:
     failing = sum(not it.is_closed for it in told)
     counted = _count(len(told), "solid")
     words = f"{counted}, {failing:,} not closed" if failing else f"{counted}, closed"
-    return Told(content, words, "", told, all(it.verdict.rule not in RECORD_RULES for it in solids))
+    return Told(content, words, "", told, CRASHING.isdisjoint(it.rule for it in told))
 
 
 def _reason(engine: Engine, content: Content, is_bad: bool) -> str:
@@ -145,17 +163,17 @@ def _count(number: int, noun: str, several: str = "") -> str:
 def _of_solid(solid: Solid, file: File) -> ToldSolid:
     where = None if solid.verdict.is_closed else solid.where
     if where is None or where.is_closed:
-        return ToldSolid(solid.number, None, Node(f"solid {solid.number}: closed", kind=CLOSED))
+        return ToldSolid(solid.number, Node(f"solid {solid.number}: closed", kind=CLOSED), solid)
     units = where.parts.units
     topology = Topology(file, millimetres(units.told["unit_flag"], units.told["unit"]) if units else 1.0)
-    meaning = MEANINGS[where.verdict.told["rule"]]
-    words = f"solid {solid.number} isn't closed: {meaning}"
-    rows = [Node(f"verdict: {where.verdict.text}"), *(_row(it, topology) for it in where.hints)]
+    rule = where.verdict.told["rule"]
+    words = f"solid {solid.number} isn't closed: {MEANINGS[rule]}"
+    rows = [Node(f"verdict: {where.verdict.text}"), *([LEFT_OUT] if is_left_out(where) else []), *(_row(it, topology) for it in where.hints)]
     rows += [Node(f"{_count(where.more_hints, 'further remedy', 'further remedies')}, which the report shows")] if where.more_hints else []
     rows += [_row(it, topology) for it in where.rules]
     rows += _unwritten(where)
     node = Node(words, _moved(where, solid.number), FAILS, nodes=tuple(rows))
-    return ToldSolid(solid.number, topology, node, where.shells is not None, solid)
+    return ToldSolid(solid.number, node, solid, where, topology)
 
 
 def _unwritten(where: Where) -> List[Node]:
@@ -180,7 +198,8 @@ def _row(holder: Holder, topology: Topology) -> Node:
         words = words_of_step(holder)
     else:
         words = f"{holder.told['rule']}{shell}, {_count(holder.number('faults'), 'fault')}: {MEANINGS[holder.told['rule']]}"
-    items = [_row(it, topology) if isinstance(it, Step) else _node(it, topology) for it in holder.items]
+    is_once = isinstance(holder, Rule) and holder.name == ONCE
+    items = [_row(it, topology) if isinstance(it, Step) else _again(it, topology) if is_once else _node(it, topology) for it in holder.items]
     more = [Node(f"{holder.more:,} more, which the report shows")] if holder.more else []
     remedy = holder.number("remedy") if isinstance(holder, Hint) and holder.is_remedy else None
     return Node(words, holder.sentence, nodes=(*items, *more), remedy=remedy)
@@ -189,8 +208,17 @@ def _row(holder: Holder, topology: Topology) -> Node:
 def _name(hint: Hint, shell: str) -> str:
     """What a hint is called; a remedy by its number and what it changes."""
     if hint.is_remedy:
-        return f"remedy {hint.told['remedy']}{shell}: {words_of(hint)}"
-    return f"no remedy is known{shell}" if hint.name == "stuck" else f"hint: {hint.name}{shell}"
+        return f"remedy {hint.told['remedy']}{shell}: {words_of_hint(hint)}"
+    if hint.name == FACE_FLAGS:
+        return f"remedy: {words_of_hint(hint)}"
+    return f"{STUCK}{shell}" if hint.name == "stuck" else f"hint: {hint.name}{shell}"
+
+
+def _again(item: Paragraph, topology: Topology) -> Node:
+    """An item that names something a second time; if that is a face, the row shows it."""
+    named = next(int(it.told["found"]) for it in item.facts if "found" in it.told)
+    faces, _ = _face_named(named, topology)
+    return _node(item, topology)._replace(faces=faces)
 
 
 def _node(line: Line, topology: Topology) -> Node:
@@ -226,7 +254,11 @@ def named_by(line: Line, topology: Topology):
         vertices += [vertex] if vertex else []
         lost += [] if edge or vertex else [f"item {key[1]} of list {key[0]}"]
     number = told["face"] if "face" in told else told["entity"] if line.shape.words.startswith("in face") else None
-    face = topology.face_of(int(number)) if number else None
-    is_known = face is not None and (face.edges or face.vertices)
-    lost += [f"face {number}"] if number and not is_known else []
-    return tuple(edges), tuple(vertices), (face,) if face and is_known else (), tuple(lost)
+    faces, lost_faces = _face_named(int(number), topology) if number else ((), [])
+    return tuple(edges), tuple(vertices), faces, (*lost, *lost_faces)
+
+
+def _face_named(number: int, topology: Topology) -> Tuple[Tuple[Face, ...], List[str]]:
+    """The face of this number; its words where nothing is known but that."""
+    face = topology.face_of(number)
+    return ((face,), []) if face and (face.edges or face.vertices) else ((), [f"face {number}"])

@@ -11,7 +11,7 @@ from ..errors import Error, NotRead, TooLarge
 from ..files import File, Solid
 from ..remedies import first_words
 from ..saying import NOT_WRITTEN
-from ..where_lines import SHELL_RULES
+from ..where_lines import MENDED_RULES
 from .report import STANDARD_INPUT, Fault, Report, SolidReport, fault_of
 from .table import Key, Table
 from .writing import write_whole
@@ -73,7 +73,7 @@ class Judge:
 
 def _with_remedies(solids: List[Solid]) -> Tuple[SolidReport, ...]:
     """What is told of solids. Each remedy is an answer of its own, of the whole file, so those of the first that fail are asked for."""
-    failing = [it for it in solids if it.verdict.rule in SHELL_RULES][:REMEDIES]
+    failing = [it for it in solids if it.verdict.rule in MENDED_RULES][:REMEDIES]
     words = {it.number: _remedy(it) for it in failing}
     return tuple(SolidReport(it.number, it.verdict, remedy=words.get(it.number)) for it in solids)
 

@@ -5,6 +5,7 @@ on level 902 and blue the other edges of the faces there, labelled NEAR, up to a
 remedy of a shell changes, labelled REMEDY. Nothing is computed: coordinates are copied as they are spelled."""
 from typing import Dict, Iterable, Iterator, List, NamedTuple, Sequence, Tuple
 
+from ..remedies import is_left_out
 from ..where import Where
 from .iges import RECORD_COLUMNS, Entry, File, Unreadable, integer
 from .marked import changed, marked
@@ -210,7 +211,8 @@ def told(title: str, answer: Where, left: int, is_cut: bool) -> str:
     if answer.is_closed:
         return f"{title}: the solid is closed, so nothing is marked"
     if answer.shells is None:
-        return f"{title}: {answer.verdict.text}: a record is wrong, so nothing is marked"
+        cause = "something is named twice, which igesolid mend leaves out" if is_left_out(answer) else "a record is wrong"
+        return f"{title}: {answer.verdict.text}: {cause}, so nothing is marked"
     said = [f"{left} curves can't be copied, so straight lines stand for them"] if left else []
     said += [f"of the other edges of the faces there the first {MOST_NEAR:,} are marked"] if is_cut else []
     return f"{title}: {'; '.join(said)}" if said else ""
