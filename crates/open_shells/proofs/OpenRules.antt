@@ -28,7 +28,7 @@ use Rattle.open_certificate.specs.declared.verdict.OpenFailing.{OpenFailing}
 use Rattle.open_certificate.specs.declared.verdict.OpenRule.TheVariants.{Join, Reach}
 use Rattle.open_certificate.proofs.OpenLists.{hold_append, false_front, false_rest, hold_map, first_map, as_open_hold, as_open_false}
 use Rattle.open_shells.proofs.Placed.{IsPlace}
-use Rattle.shell_rules.proofs.Rules.{FirstNot-has, open_place, face_there, unreached_there}
+use Rattle.shell_rules.proofs.Rules.{FirstNot-has, face_there, unreached_there}
 
 abbrev pub failing : Rule → ℕ → ℕ → Failing
 failing rule entity place = record { rule = rule; entity = record { 0 = entity }; place = place }
@@ -39,6 +39,11 @@ of_each_fails P f holds [] y x h bad = absurd h
 of_each_fails P f holds (z ∷ xs) y x h bad =
     ⊎_elim (λ here. FirstFalse-append_front (f z) (of_each f xs) x (subst (λ w. FirstFalseClosed (f w) x) here.1 bad))
     (λ rest. FirstFalse-append_rest (f z) (of_each f xs) x (holds z rest.0) (of_each_fails P f holds xs y x rest.1 bad)) h
+
+-- the open loop stands in the shell
+open_place : (s : SolidData) (h : Shell) (at : LoopAt) (place : ℕ) → IsFirstUnjoined s h at place → IsPlace h at
+open_place s h at place u =
+    (u.placed, Contains-from_Has (placed_loops h) u.placed (FirstNot-has (λ (p : PlacedLoop). IsJoined s p.loop) (placed_loops h) u.placed u.first), u.is_at)
 
 joins_fail : (s : SolidData) (h : Shell) (at : LoopAt) (place : ℕ) (x : Failing) → IsFirstUnjoined s h at place
     → ((p : PlacedLoop) → Contains (placed_loops h) p → at ≡ p.at → x ≡ failing Unjoined p.loop.entity.0 place) → FirstFalseClosed (join_obligations s h) x
