@@ -1,4 +1,4 @@
--- Private: marks by the numbers of entries.
+-- Marks by the numbers of entries.
 use Rattle.std.specs.Prelude.{ℕ, List, get_or}
 use Rattle.brep_numbering.specs.declared.marks.Mark.{Mark}
 use Rattle.brep_numbering.specs.declared.marks.Mark.TheVariants.{Unknown}

@@ -1,4 +1,4 @@
--- Private: numbers that are found by their positions.
+-- Numbers that are found by their positions.
 use Rattle.std.specs.Prelude.{◌≡◌, ◌<◌, ℕ, List, length, slice_index}
 
 -- each number's position is where it is

@@ -1,3 +1,5 @@
+//! The solid that a certificate or a part of a book names, or the reply that a rule fails.
+
 ghost use Rattle.brep_walk.specs.SolidOf.{solid_of};
 ghost use Rattle.certificate_commands.specs.Judging.{IsChecked, TellsFalse};
 ghost use Rattle.command_replies.specs.Texts.{fail_line, solid_fail_text};

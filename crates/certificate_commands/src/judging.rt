@@ -1,3 +1,5 @@
+//! The rest of a certificate, given to a checker as it is read, and the reply at its end.
+
 ghost use Rattle.cert_lines.specs.declared.version.Version.TheVariants.{Three};
 ghost use Rattle.iges_params.specs.Contents.{Contents};
 ghost use Rattle.certificate_commands.specs.Due.{OfVerify};

@@ -1,3 +1,5 @@
+//! The first two lines of a certificate, read from a source.
+
 ghost use Rattle.certificate_commands.specs.Judging.{EndsEarly, GoesOn, IsOpeningEnd, ReadsOn};
 ghost use Rattle.std.specs.Prelude.{◌≡◌, List, ℕ, length, IfOk};
 ghost use Rattle.cert_lines.specs.Opening.{IsBadOpening};

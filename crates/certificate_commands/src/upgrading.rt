@@ -1,3 +1,5 @@
+//! The reply to `upgrade`: an accepted certificate as version 2, an accepted book as it is.
+
 ghost use Rattle.cert_lines.specs.Line.{cut_lines};
 ghost use Rattle.cert_lines.specs.Opening.{Opens};
 ghost use Rattle.cert_lines.specs.declared.version.Version.TheVariants.{Three};

@@ -1,3 +1,5 @@
+//! The reply to `verify`: a certificate is judged while it comes.
+
 ghost use Rattle.certificate_commands.specs.Due.{OfVerify};
 ghost use Rattle.certificate_commands.specs.Judging.{AreInBuffer, HasOpened, IsChecked, IsOfOne, ReadsOn};
 ghost use Rattle.command_replies.specs.Outcome.{ReadsCertificate};

@@ -1,3 +1,5 @@
+//! The answers of all commands, each with its status from 0 to 8.
+
 /// How a command ended.
 #[derive(Clone, Copy)]
 pub enum Answer {

@@ -1,3 +1,5 @@
+//! The end of a run: its reply is written.
+
 ghost use Rattle.command_replies.specs.Ending.{Finishes};
 
 use crate::answer::Answer;

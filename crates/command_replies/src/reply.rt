@@ -1,3 +1,5 @@
+//! What a reply is, and the replies on bad files, failing rules and certificates.
+
 ghost use Rattle.command_replies.specs.Texts.{accepted_line, bad_file_line, fail_line, fail_text, illegal_line, illegal_number, illegal_word, no_solid_line, solid_fail_text};
 ghost use Rattle.std.specs.Prelude.{◌≡◌, ◌++◌, [], IfOk};
 

@@ -1,3 +1,5 @@
+//! The bytes or the file that a source gives, or the reply in their place.
+
 ghost use Rattle.iges_base.specs.declared.TheConstants.{FILE_LIMIT};
 ghost use Rattle.iges_io.specs.Reading.{TakesAtMost};
 ghost use Rattle.iges_lines.specs.Feeding.{IsFed};

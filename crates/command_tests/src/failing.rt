@@ -1,3 +1,5 @@
+//! Tests in which each read and each write of each command fails in turn.
+
 use crate::comparing::same;
 use crate::files::{ball, short};
 use crate::outcomes::{Call, Fails, Given, outcome};

@@ -1,3 +1,5 @@
+//! Tests of sources and sinks by themselves, in memory and of the system.
+
 use crate::comparing::same;
 use crate::memory::{sink, source};
 use iges_io::{

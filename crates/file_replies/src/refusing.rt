@@ -1,3 +1,5 @@
+//! The line `no extract`, with a word for each reason.
+
 ghost use Rattle.file_replies.specs.Written.{extract_word, no_extract_line};
 ghost use Rattle.std.specs.Prelude.{◌≡◌, IfOk};
 

@@ -1,3 +1,5 @@
+//! Files as replies.
+
 ghost use Rattle.file_replies.specs.Written.{OfWritten};
 ghost use Rattle.std.specs.Prelude.{IfOk};
 

@@ -1,3 +1,5 @@
+//! The ten fields of a directory line: their bytes, their numbers and the status.
+
 ghost use Rattle.iges_directory.specs.Bounds.{fits_columns};
 ghost use Rattle.iges_directory.specs.Entries.{field, status_of};
 ghost use Rattle.iges_base.specs.Word.{column_number};

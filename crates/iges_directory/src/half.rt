@@ -1,3 +1,5 @@
+//! The two lines of an entry, each by its fields.
+
 /// What the first line of an entry holds: fields 1 to 9, in this order (IGES 5.3, 2.2.4.4).
 #[derive(Clone, Copy)]
 pub struct FirstHalf {

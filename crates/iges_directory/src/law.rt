@@ -1,3 +1,5 @@
+//! The directory of a file has one reading.
+
 ghost use Rattle.iges_directory.specs.DirectoryFaults.{IsDirectoryFault};
 ghost use Rattle.iges_directory.specs.Entries.{AreEntries};
 ghost use Rattle.iges_lines.specs.Lines.{SectionLines};

@@ -1,3 +1,5 @@
+//! From two lines of the directory to an entry, or to the line that fails.
+
 ghost use Rattle.iges_directory.specs.Bounds.{fits_columns};
 ghost use Rattle.iges_directory.specs.DirectoryFaults.{first_fields, second_fields};
 ghost use Rattle.iges_directory.specs.Entries.{field, Holds, has_record};

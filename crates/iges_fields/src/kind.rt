@@ -1,3 +1,5 @@
+//! Which words are integers, and which are reals.
+
 ghost use Rattle.iges_fields.specs.Fronts.{IsMantissa, up_to_past};
 ghost use Rattle.iges_fields.specs.Gives.{IsKindOf, IsSigned};
 ghost use Rattle.iges_base.specs.Word.{is_integer};

@@ -1,3 +1,5 @@
+//! How the next line most likely ends: with the same letter and the next number.
+
 ghost use Rattle.iges_lines.specs.Foretold.{IsNextEnding};
 ghost use Rattle.iges_lines.specs.Lines.{columns};
 ghost use Rattle.std.specs.Prelude.{◌≡◌, ◌<◌, ◌+◌, length, slice_index, slice_set, IfSome, IsTrue, MatchOption};

@@ -1,3 +1,5 @@
+//! Pieces of a file, cut anywhere, made into lines.
+
 ghost use Rattle.iges_base.specs.declared.TheConstants.{FILE_LIMIT};
 ghost use Rattle.iges_base.specs.InLine.{is_in_line};
 ghost use Rattle.iges_lines.specs.declared.fault.LineFault.{LineFault};

@@ -1,3 +1,5 @@
+//! The tests that each line must pass, in their order.
+
 ghost use Rattle.iges_base.specs.First.{first_failing};
 ghost use Rattle.iges_base.specs.Word.{is_empty};
 ghost use Rattle.iges_lines.specs.Judged.{tests_behind};

@@ -1,3 +1,5 @@
+//! Lines of equal length, kept in one piece of memory.
+
 ghost use Rattle.iges_base.specs.Word.{is_empty};
 ghost use Rattle.std.specs.Prelude.{◌≡◌, ◌↔◌, ◌<◌, ◌^◌, [], ◌∷◌, ◌++◌, OnOk, OnErr, length, take, slice_get, option_copied, IsSome, IfSome};
 

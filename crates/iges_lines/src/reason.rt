@@ -1,3 +1,5 @@
+//! The 17 reasons of refusal, with their numbers and words.
+
 ghost use Rattle.iges_lines.specs.Reasons.{reason_number, reason_word};
 ghost use Rattle.std.specs.Prelude.{◌≡◌};
 

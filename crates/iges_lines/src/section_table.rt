@@ -1,3 +1,5 @@
+//! The lines that have come, section by section, and what may come after them.
+
 ghost use Rattle.iges_base.specs.Word.{is_empty};
 ghost use Rattle.iges_lines.specs.Kinds.{added, place_of};
 ghost use Rattle.iges_lines.specs.Extending.{counts_of};

@@ -1,3 +1,5 @@
+//! Lines judged and taken one by one, up to the first that fails.
+
 ghost use Rattle.iges_lines.specs.Extending.{Extends, mark_of};
 ghost use Rattle.iges_lines.specs.Feeding.{Taken, AreTaken, StandsFor};
 ghost use Rattle.iges_lines.specs.Gives.{Gives};

@@ -1,3 +1,5 @@
+//! A file as data: how it is built up, and what is found in it.
+
 ghost use Rattle.iges_directory.specs.Bounds.{IsBounded};
 ghost use Rattle.iges_base.specs.declared.TheConstants.{ENTRY_LIMIT, FILE_LIMIT};
 ghost use Rattle.iges_params.specs.Contents.{value_count};

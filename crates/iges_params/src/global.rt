@@ -1,3 +1,5 @@
+//! The parameters of the global section.
+
 use iges_fields::{Delimiters, Values};
 
 /// The global section: the two delimiters, and the values of the parameters from the third on, of which IGES 5.3

@@ -1,3 +1,5 @@
+//! The pass over the global section.
+
 ghost use Rattle.iges_base.specs.InLine.{is_in_line};
 ghost use Rattle.iges_lines.specs.Gives.{Gives};
 ghost use Rattle.iges_params.specs.Global.{head};

@@ -1,3 +1,5 @@
+//! The start of the global section, where it names its delimiters.
+
 ghost use Rattle.iges_params.specs.Global.{delimiter_at, behind_byte, head_with, if_permitted, head};
 ghost use Rattle.iges_params.specs.Heads.{IsHead};
 ghost use Rattle.std.specs.Prelude.{◌≡◌, Option, Some, List, ℕ, option_copied};

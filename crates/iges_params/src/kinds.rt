@@ -1,3 +1,5 @@
+//! Which of the global parameters are texts, integers and reals.
+
 ghost use Rattle.iges_params.specs.Global.{has_kind, have_kinds};
 ghost use Rattle.std.specs.Prelude.{◌≡◌};
 

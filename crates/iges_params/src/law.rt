@@ -1,3 +1,5 @@
+//! Reading any bytes as a file has one right answer.
+
 ghost use Rattle.iges_params.specs.Refusal.{OneReading};
 
 /// All bytes are exactly one file, or are refused with exactly one line and reason.

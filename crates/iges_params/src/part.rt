@@ -1,3 +1,5 @@
+//! The free text of a section, joined from columns of its lines.
+
 ghost use Rattle.iges_base.specs.InLine.{is_in_line};
 ghost use Rattle.iges_lines.specs.Lines.{columns};
 ghost use Rattle.iges_params.specs.Parts.{part_lines};

@@ -1,3 +1,5 @@
+//! The values of a text that lies in lines, and the line of one that fails.
+
 ghost use Rattle.iges_fields.specs.Delims.{are_permitted};
 ghost use Rattle.iges_base.specs.InLine.{is_in_line};
 ghost use Rattle.iges_lines.specs.Gives.{Fails, Gives};

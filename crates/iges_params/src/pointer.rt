@@ -1,3 +1,5 @@
+//! Back pointers: whether a parameter line names its entry.
+
 ghost use Rattle.iges_base.specs.Word.{column_number};
 ghost use Rattle.iges_lines.specs.Lines.{columns};
 ghost use Rattle.iges_params.specs.Records.{points_back};

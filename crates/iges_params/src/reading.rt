@@ -1,3 +1,5 @@
+//! A file read in four passes: lines, global, directory and records.
+
 ghost use Rattle.iges_directory.specs.declared.entry.Placed.{Placed};
 ghost use Rattle.iges_directory.specs.Entries.{has_record};
 ghost use Rattle.iges_fields.specs.Delims.{are_permitted};

@@ -1,3 +1,5 @@
+//! One record as it is read: its back pointers, its type number and its values.
+
 ghost use Rattle.iges_directory.specs.Entries.{has_record};
 ghost use Rattle.iges_fields.specs.Delims.{are_permitted};
 ghost use Rattle.iges_base.specs.InLine.{is_in_line};

@@ -1,3 +1,5 @@
+//! The replies to `certify`: the certificate of one solid, or the book of all.
+
 ghost use Rattle.brep_walk.specs.Places.{places};
 ghost use Rattle.brep_walk.specs.SolidOf.{solid_of};
 ghost use Rattle.iges_params.specs.Contents.{Contents};

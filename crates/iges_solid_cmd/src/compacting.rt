@@ -1,3 +1,5 @@
+//! The reply to `compact`.
+
 ghost use Rattle.iges_solid_cmd.specs.Due.{OfCompact};
 ghost use Rattle.std.specs.Prelude.{IfOk};
 

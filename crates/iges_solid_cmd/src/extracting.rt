@@ -1,3 +1,5 @@
+//! The reply to `extract`.
+
 ghost use Rattle.iges_solid_cmd.specs.Due.{OfExtract};
 ghost use Rattle.std.specs.Prelude.{IfOk};
 

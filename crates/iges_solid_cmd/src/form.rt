@@ -1,3 +1,5 @@
+//! The listed forms of the words, and the commands that they ask for.
+
 ghost use Rattle.iges_solid_cmd.specs.Forms.{all_fit, command_of, fits, form_of, forms, holds, named, word_in};
 ghost use Rattle.iges_solid_cmd.specs.FormTable.{command_for, form_meant, slot_meant};
 ghost use Rattle.std.specs.List.{list_all};

@@ -1,3 +1,5 @@
+//! What may stand at one place of a form: a fixed word, a name or a number.
+
 ghost use Rattle.iges_solid_cmd.specs.Forms.{fits, holds};
 ghost use Rattle.iges_solid_cmd.specs.FormTable.{slot_meant};
 ghost use Rattle.std.specs.Prelude.{◌≡◌, Some, true};

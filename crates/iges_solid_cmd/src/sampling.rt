@@ -1,3 +1,5 @@
+//! A sample solid taken through all steps: written, read, walked, certified and checked.
+
 ghost use Rattle.brep_walk.specs.SolidOf.{solid_of};
 ghost use Rattle.cert_maker.specs.Certified.{IsCertificateText};
 ghost use Rattle.iges_base.specs.declared.TheConstants.{FILE_LIMIT};

@@ -1,3 +1,5 @@
+//! The reply to `show`: a line for each shell of a solid, with its counts.
+
 ghost use Rattle.iges_solid_cmd.specs.Due.{OfShow};
 ghost use Rattle.iges_solid_cmd.specs.Texts.{counted, loop_count as loops_of, shell_line, shell_lines_from, show_text};
 ghost use Rattle.std.specs.Prelude.{◌≡◌, ◌+◌, ◌<◌, ◌^◌, ◌++◌, drop, length, IfOk, OnOk};

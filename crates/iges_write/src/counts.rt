@@ -1,3 +1,5 @@
+//! The terminate line, which counts those of the other sections.
+
 ghost use Rattle.iges_write.specs.FileSheet.{with_counts};
 ghost use Rattle.iges_write.specs.Sheet.{Steps};
 ghost use Rattle.iges_write.specs.Text.{count_field, counts_columns};

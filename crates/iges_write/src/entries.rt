@@ -1,3 +1,5 @@
+//! The directory and the records, written side by side.
+
 ghost use Rattle.iges_base.specs.declared.TheConstants.{FILE_LIMIT};
 ghost use Rattle.iges_directory.specs.declared.entry.Entry.{Entry as OneEntry};
 ghost use Rattle.iges_fields.specs.declared.value.Value.{Value as OneValue};

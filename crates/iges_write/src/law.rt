@@ -1,3 +1,5 @@
+//! One canonical text for each file, and when it reads back.
+
 ghost use Rattle.iges_write.specs.Writable.{ReadsBack, CanBeMade, OneText};
 
 /// The canonical text of a file that can be made, where it has at most `FILE_LIMIT` bytes, is read as that file.

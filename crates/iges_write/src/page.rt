@@ -1,3 +1,5 @@
+//! Values laid out in lines, each with its letter and its number.
+
 ghost use Rattle.iges_fields.specs.Delims.{are_permitted};
 ghost use Rattle.iges_base.specs.declared.TheConstants.{FILE_LIMIT};
 ghost use Rattle.iges_fields.specs.declared.value.Value.TheVariants as value;

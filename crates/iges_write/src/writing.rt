@@ -1,3 +1,5 @@
+//! A whole file as text, section by section.
+
 ghost use Rattle.iges_base.specs.declared.TheConstants.{FILE_LIMIT};
 ghost use Rattle.iges_write.specs.FileSheet.{Writes, blank, file_sheet, params_sheet, with_front, with_records};
 ghost use Rattle.iges_write.specs.Gives.{Gives};

@@ -1,3 +1,5 @@
+//! The caller's bytes as a source.
+
 ghost use Rattle.std.specs.Prelude.{◌≡◌, Some};
 
 use iges_io::{Failed, Source};

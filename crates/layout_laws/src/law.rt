@@ -1,3 +1,5 @@
+//! What a file keeps in the new layout, and that its lines pass and stay as they are.
+
 ghost use Rattle.iges_base.specs.Ended.{ended};
 ghost use Rattle.iges_base.specs.declared.TheConstants.{FILE_LIMIT};
 ghost use Rattle.iges_lines.specs.LineFaults.{IsLineFault};

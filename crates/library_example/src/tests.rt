@@ -1,3 +1,5 @@
+//! A test on a file whose solid names no shell.
+
 use crate::{Finding, judge};
 use iges_base::EntryNo;
 use solid_data::{Failing, Rule};

@@ -1,3 +1,5 @@
+//! The kinds of changes that make the layout, and how often each happens.
+
 /// What may be changed to make a file.
 #[derive(Clone, Copy)]
 pub enum Change {

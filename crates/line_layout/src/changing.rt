@@ -1,3 +1,5 @@
+//! Which changes happen to a piece between two line ends.
+
 ghost use Rattle.line_layout.specs.Changes.{MayCount, dropped, ends_in_CR, happens, has_feed, has_letter, is_changed, is_of_blank, is_of_counts, is_of_rest};
 ghost use Rattle.line_layout.specs.Counts.{AreFew, count_of};
 ghost use Rattle.line_layout.specs.Judging.{lines_after};

@@ -1,3 +1,5 @@
+//! Columns of lines that may be short, and the numbers in them.
+
 ghost use Rattle.line_layout.specs.Columns.{columns, has_count, has_greater, has_number, is_letter, natural, number_in, plain};
 ghost use Rattle.iges_base.specs.Word.{column_number};
 ghost use Rattle.std.specs.Option.{option_map_or};

@@ -1,3 +1,5 @@
+//! How many lines of each section have come, and which section may come next.
+
 ghost use Rattle.line_layout.specs.Counts.{no_lines, count_of, next_number, counted, is_in_order, is_due, AreFew};
 ghost use Rattle.std.specs.Prelude.{◌≡◌, ◌≤◌, ◌<◌};
 

@@ -1,3 +1,5 @@
+//! Why a file can't be given the layout: its first bad line, or no memory.
+
 use iges_base::NoMemory;
 
 /// Why the content of a line can't be told apart for certain.

@@ -1,3 +1,5 @@
+//! Each piece of a file judged: blank, a line of a section, or bad.
+
 ghost use Rattle.line_layout.specs.Judging.{judge, judge_section, letter, line_fault, named, section_fault};
 ghost use Rattle.line_layout.specs.Letters.{section_of};
 ghost use Rattle.std.specs.Prelude.{◌≡◌};

@@ -1,3 +1,5 @@
+//! Sections and their letters, in upper and lower case.
+
 ghost use Rattle.line_layout.specs.Letters.{is_last, letter_of, section_of};
 ghost use Rattle.std.specs.Prelude.{◌≡◌};
 

@@ -1,3 +1,5 @@
+//! Bytes that stand for nothing, and marks before a line.
+
 ghost use Rattle.line_layout.specs.Marks.{is_blank_byte, is_tail_byte, is_blank, unmarked, begins_with_two, has_tab, has_letter_at};
 ghost use Rattle.std.specs.List.{list_all};
 ghost use Rattle.std.specs.Prelude.{◌≡◌};

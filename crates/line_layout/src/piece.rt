@@ -1,3 +1,5 @@
+//! Cutting a file at its line ends, which are LF, or CR where there is no LF.
+
 ghost use Rattle.line_layout.specs.Changes.{cuts, first_cut};
 ghost use Rattle.line_layout.specs.Relaid.{end_byte, pieces};
 ghost use Rattle.std.specs.List.{list_any, prefix_len};

@@ -1,3 +1,5 @@
+//! Making the file in the layout, piece by piece.
+
 ghost use Rattle.iges_base.specs.declared.TheConstants.{FILE_LIMIT};
 ghost use Rattle.line_layout.specs.Counts.{AreFew};
 ghost use Rattle.line_layout.specs.Relaid.{Gives, Laid, at_end, before, relaid, step, unless_shuffled};

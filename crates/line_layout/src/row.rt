@@ -1,3 +1,5 @@
+//! One line of the layout: its content, letter, number and end.
+
 ghost use Rattle.line_layout.specs.Counts.{AreFew, count_of, next_number};
 ghost use Rattle.line_layout.specs.Rows.{content, count_field, counts_columns, has_counts, keeps_number, number_field, right, row};
 ghost use Rattle.iges_base.specs.Ended.{ended};

@@ -1,3 +1,5 @@
+//! Lines out of place, and whether a section is shuffled.
+
 ghost use Rattle.line_layout.specs.Changes.{MayCount};
 ghost use Rattle.line_layout.specs.Counts.{AreFew};
 ghost use Rattle.line_layout.specs.Strays.{are_shuffled, first_shuffled, shuffled_line, stray_at, with_letter};

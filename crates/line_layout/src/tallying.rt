@@ -1,3 +1,5 @@
+//! How often each change happens in a file, and where first.
+
 ghost use Rattle.iges_base.specs.declared.TheConstants.{FILE_LIMIT};
 ghost use Rattle.line_layout.specs.Changes.{changed_lines, noted, once, tally_of};
 ghost use Rattle.std.specs.Prelude.{◌≡◌, ◌+◌, ◌≤◌, ◌<◌, ◌^◌, length};

@@ -1,3 +1,5 @@
+//! What is owed of mending, and that what is mended reads back and is closed.
+
 ghost use Rattle.mend_commands.specs.Laws.{ClosedIsExtracted, MendedReadsBack, OneMendAnswer, OneMended, SomeMendAnswer};
 
 /// Of a solid that fails by no rule on shells, also without what it names twice, one answer is owed, and one text.

@@ -1,3 +1,5 @@
+//! The reply to `mend`: first by the solid's records, then by its shells.
+
 ghost use Rattle.brep_walk.specs.SolidOf.{solid_of};
 ghost use Rattle.file_replies.specs.Written.{OfWritten};
 ghost use Rattle.iges_params.specs.Contents.{Contents};

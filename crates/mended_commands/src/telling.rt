@@ -1,3 +1,5 @@
+//! The reply to `mended`: the changes by which `mend` makes its file.
+
 ghost use Rattle.iges_params.specs.Contents.{Contents};
 ghost use Rattle.iges_write.specs.Writable.{IsWritable};
 ghost use Rattle.mend_commands.specs.Due.{FailsBy};

@@ -1,3 +1,5 @@
+//! The run of `igesolid-repair`, and the reply to each request.
+
 ghost use Rattle.command_replies.specs.Outcome.{ReadsWhole};
 ghost use Rattle.command_replies.specs.Replies.{CountAfterCall, IsReply, TakesWithin};
 ghost use Rattle.iges_base.specs.declared.TheConstants.{FILE_LIMIT};

@@ -1,3 +1,5 @@
+//! That one answer is owed, when a layout has a yes, and that a solid without flags has a no.
+
 ghost use Rattle.repair_commands.specs.Laws.{InLayoutIsTold, OneAnswerIsOwed, SomeAnswerIsOwed};
 ghost use Rattle.repair_commands.specs.SolidLaws.{OneReorientAnswer, SomeReorientAnswer, UnorientedIsNo};
 

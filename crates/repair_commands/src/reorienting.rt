@@ -1,3 +1,5 @@
+//! The reply to `reorient`.
+
 ghost use Rattle.repair_commands.specs.SolidDue.{OfReorient};
 ghost use Rattle.solid_reorient.specs.Fitting.{HasFlags};
 ghost use Rattle.std.specs.Prelude.{IfOk};

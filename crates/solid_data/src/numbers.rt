@@ -1,3 +1,5 @@
+//! Counting from 0, as a list.
+
 ghost use Rattle.solid_data.specs.Ring.{numbers_from};
 ghost use Rattle.std.specs.Prelude.{◌≡◌, IfOk};
 

@@ -1,3 +1,5 @@
+//! Vertices and faces put by name, spelled once where a text names them often.
+
 ghost use Rattle.std.specs.Prelude.{◌≡◌, ◌++◌, ◌∷◌, [], IfOk, OnOk};
 ghost use Rattle.where_text.specs.Places.{face_words};
 ghost use Rattle.spelled_solid.specs.Words.{vertex_named};

@@ -1,3 +1,5 @@
+//! The run of `igesolid-where`, from its words to the text that it writes.
+
 ghost use Rattle.command_replies.specs.Outcome.{ReadsWhole};
 ghost use Rattle.command_replies.specs.Replies.{CountAfterCall, IsReply, TakesWithin};
 ghost use Rattle.iges_base.specs.declared.TheConstants.{FILE_LIMIT};

@@ -1,3 +1,5 @@
+//! That at most one answer is owed, that told remedies pass, and that yes means closed.
+
 ghost use Rattle.where_command.specs.Laws.{ClosedIsTold, OneAnswerIsOwed, ToldRemediesPass};
 
 /// For given words and bytes at most one answer is owed, and one text with it if the same remedies are told.

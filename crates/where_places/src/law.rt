@@ -1,3 +1,5 @@
+//! Bytes determine where entries stand.
+
 ghost use Rattle.where_places.specs.PlacedFiles.{OnePlacedFile};
 
 /// Bytes are at most one file, and its entries stand at one place each.

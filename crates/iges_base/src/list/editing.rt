@@ -1,3 +1,5 @@
+//! Replacing an item of a list, and dropping those at its end.
+
 ghost use Rattle.std.specs.Prelude.{◌≡◌, ◌<◌, length, set, take};
 
 use crate::list::ItemList;

@@ -1,3 +1,5 @@
+//! Replacing a value of a list, and dropping those at its end.
+
 ghost use Rattle.iges_fields.specs.InLine.{stays_in_line};
 ghost use Rattle.std.specs.Prelude.{◌≡◌, ◌<◌, IsTrue, length, set, take};
 

@@ -1,3 +1,5 @@
+//! Parts of files that are moved, not copied.
+
 ghost use Rattle.iges_directory.specs.declared.entry.Entry.{Entry as OneEntry};
 ghost use Rattle.std.specs.Prelude.{◌≡◌, ◌<◌, [], Some, length, option_map, set, slice_get};
 
