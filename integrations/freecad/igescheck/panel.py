@@ -123,7 +123,7 @@ class Panel(QtGui.QDockWidget):
             return ""
         stem = pathlib.Path(self.path).stem
         self.document = FreeCAD.newDocument(stem)
-        # FreeCAD adds a digit to a name that ends in one.
+        # FreeCAD adds a digit to its label where other documents are open.
         self.document.Label = stem
         if not told.may_open:
             return WRONG_RECORDS
