@@ -64,13 +64,16 @@ def take_picture(panel, path):
     FreeCADGui.activeDocument().activeView().viewIsometric()
     FreeCADGui.SendMsgToActiveView("ViewFit")
     panel.tree.resizeColumnToContents(1)
-    wait(2)
+    # However slow the machine is, all is laid out and painted then.
+    for _ in range(20):
+        wait(0.1)
+        QtGui.QApplication.processEvents()
     QtGui.QApplication.primaryScreen().grabWindow(0).save(path)
 
 
 def wait(seconds):
     loop = QtCore.QEventLoop()
-    QtCore.QTimer.singleShot(1000 * seconds, loop.quit)
+    QtCore.QTimer.singleShot(int(1000 * seconds), loop.quit)
     loop.exec_()
 
 
