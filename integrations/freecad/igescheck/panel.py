@@ -268,4 +268,6 @@ def show(path: str, document: Any = None) -> Panel:
         old.deleteLater()
     panel = Panel(path, document)
     window.addDockWidget(QtCore.Qt.RightDockWidgetArea, panel)
+    panel.show()
+    panel.raise_()
     return panel
