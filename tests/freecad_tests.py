@@ -249,6 +249,7 @@ def in_window(context, home):
 def of_a_fault(told):
     rows = dict(told["rows"])
     wanted = {"edge 15 of list 19; uses along it: 2, against it: 2": "Edge15", "from vertex 12 of list 23 at 10., 10., 0.": "Vertex12", "face 167 (plane-surface) uses it against": "Face4"}
+    yield "freecad: the panel is seen", told["seen"]
     yield "freecad: the summary", told["summary"] == "77_pinched_edge.igs: 1 solid, 1 not closed"
     yield "freecad: the rows", wanted.items() <= rows.items() and told["rows"][0][0] == "solid 3 isn't closed: a free edge, a non-manifold edge, or faces of opposite orientation"
     yield "freecad: a click", told["selected"] == [["Compound", ["Edge15", "Vertex12", "Vertex7", "Face4", "Face6", "Face22", "Face23"]]]
@@ -269,7 +270,7 @@ def of_mending(context, told, folder):
     mended = subprocess.run([context.programs.repair, "mend", EXAMPLES / "turned.igs", "1"], stdout=subprocess.PIPE).stdout
     files = {it.name: it.read_bytes() for it in (folder / "mend").iterdir()}
     yield "freecad: mended copies", files == {"turned.igs": (EXAMPLES / "turned.igs").read_bytes(), "turned-mended-1.igs": mended, "turned-mended-2.igs": mended}
-    wanted = [[f"turned-mended-{k}.igs", ["solid 1: closed"], 0, f"turned-mended-{k}.igs is written beside turned.igs."] for k in (1, 2)]
+    wanted = [[f"turned-mended-{k}.igs", ["solid 1: closed"], 0, f"turned-mended-{k}.igs is written beside turned.igs.", True] for k in (1, 2)]
     yield "freecad: a mended copy is opened", told["mend"] == wanted
     yield from of_other_mending(context, told, folder)
     yield "freecad: not mended", told["stuck"] == "No remedy is known that closes solid 1." and [it.name for it in (folder / "stuck").iterdir()] == ["one_sided.igs"]
@@ -281,13 +282,13 @@ def of_other_mending(context, told, folder):
     """What is named twice, face flags, and the lines of a bad file: each copy is what igesolid-repair writes, and FreeCAD shows its faces."""
     written = lambda *words: subprocess.run([context.programs.repair, *map(str, words)], stdout=subprocess.PIPE).stdout
     part, flags = folder / "twice" / "part.igs", folder / "flags" / "fail_pair_flag.igs"
-    yield "freecad: what is named twice is mended", told["twice"] == [["part-mended-1.igs", ["solid 3: closed"], 26, "part-mended-1.igs is written beside part.igs."]]
+    yield "freecad: what is named twice is mended", told["twice"] == [["part-mended-1.igs", ["solid 1: closed"], 26, "part-mended-1.igs is written beside part.igs.", True]]
     yield "freecad: as it is written", (folder / "twice" / "part-mended-1.igs").read_bytes() == written("mend", part, 3)
     rows = dict(told["twice_rows"])
     yield "freecad: what is said of it", "remedy: leave out what is named twice" in rows and rows["item 2 of entity 5"].startswith(("Face", "one of Face"))
     yield "freecad: what is selected of it", [it[0] for it in told["twice_selected"]] == ["Compound"] and all(it.startswith("Face") for it in told["twice_selected"][0][1])
     yield "freecad: face flags", [it[1] for it in told["flags"]] == [["solid 1: closed"]] and (folder / "flags" / "fail_pair_flag-mended-1.igs").read_bytes() == written("reorient", flags, 1)
-    yield "freecad: the lines of a bad file", [it[2:] for it in told["lines"]] == [[26, "part-mended-1.igs is written beside part.igs."]] and (folder / "lines" / "part-mended-1.igs").read_bytes() == EDGE.read_bytes()
+    yield "freecad: the lines of a bad file", [it[2:] for it in told["lines"]] == [[26, "part-mended-1.igs is written beside part.igs.", True]] and (folder / "lines" / "part-mended-1.igs").read_bytes() == EDGE.read_bytes()
     yield "freecad: lines that can't be put right", told["bad_lines"] == "It isn't certain how the lines of this file are to be put right: line 2 (short)."
 
 

@@ -41,7 +41,7 @@ def state_of(document):
 def of_a_fault(gui):
     """A file of one failing edge: the panel, a click, the report, and the marks, which are removed and made again."""
     panel = gui.show(task["edge"])
-    answer["rows"], answer["summary"] = rows_of(panel), panel.summary.text()
+    answer["rows"], answer["summary"], answer["seen"] = rows_of(panel), panel.summary.text(), is_seen(gui, panel)
     answer["selected"] = click(panel, "edge ")
     answer["state"] = state_of(panel.document)
     answer["vertex"] = [click(panel, "from vertex "), panel.summary.text() == answer["summary"]]
@@ -63,15 +63,29 @@ def of_a_fault(gui):
 def take_picture(panel, path):
     FreeCADGui.activeDocument().activeView().viewIsometric()
     FreeCADGui.SendMsgToActiveView("ViewFit")
-    panel.tree.resizeColumnToContents(1)
-    wait(2)
+    # However slow the machine is, all is laid out and painted then.
+    for _ in range(20):
+        wait(0.1)
+        QtGui.QApplication.processEvents()
     QtGui.QApplication.primaryScreen().grabWindow(0).save(path)
 
 
 def wait(seconds):
     loop = QtCore.QEventLoop()
-    QtCore.QTimer.singleShot(1000 * seconds, loop.quit)
+    QtCore.QTimer.singleShot(int(1000 * seconds), loop.quit)
     loop.exec_()
+
+
+def is_seen(gui, panel):
+    """Whether the panel is in the window in its whole width, beside the model, once all is laid out."""
+    window = FreeCADGui.getMainWindow()
+    for _ in range(100):
+        seen = panel.visibleRegion().boundingRect()
+        left, right = (panel.mapTo(window, it).x() for it in (seen.topLeft(), seen.topRight()))
+        if seen.width() >= gui.WIDTH and window.centralWidget().geometry().right() < left < right < window.width():
+            return True
+        wait(0.1)
+    return False
 
 
 def of_closed_document(gui):
@@ -100,12 +114,12 @@ def of_others(gui):
 
 
 def mended(gui, name):
-    """A mended copy: its name, the rows on its solids, how many faces FreeCAD shows of it, and what is said of it first."""
+    """A mended copy: its name, the rows on its solids, how many faces FreeCAD shows of it, what is said of it first, and whether it is seen."""
     press(gui.show(task[name]), "Mend")
     found = [it for it in FreeCADGui.getMainWindow().findChildren(QtGui.QDockWidget, gui.NAME) if it.path != task[name]][-1]
     faces = sum(len(it.Shape.Faces) for it in gui.objects_of(found.document))
     rows = [words for words, _ in rows_of(found) if words.startswith("solid ")]
-    return [os.path.basename(found.path), rows, faces, found.summary.text().split("\n")[0]]
+    return [os.path.basename(found.path), rows, faces, found.summary.text().split("\n")[0], is_seen(gui, found)]
 
 
 def unmended(gui, name):

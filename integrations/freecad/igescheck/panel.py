@@ -121,15 +121,20 @@ class Panel(QtGui.QDockWidget):
         """Opens the file, unless a document is there; what is to be said of that."""
         if self.document is not None or not told.solids:
             return ""
-        self.document = FreeCAD.newDocument(pathlib.Path(self.path).stem)
+        stem = pathlib.Path(self.path).stem
+        self.document = FreeCAD.newDocument(stem)
+        # FreeCAD adds a digit to its label where other documents are open.
+        self.document.Label = stem
         if not told.may_open:
             return WRONG_RECORDS
         try:
             ImportGui.insert(self.path, self.document.Name)
         except Exception as fault:
             return f"FreeCAD doesn't read this file: {fault}"
-        is_shown = bool(objects_of(self.document))
-        return "" if is_shown else "FreeCAD shows no face of this file, so what fails is drawn by its coordinates."
+        if objects_of(self.document):
+            return ""
+        drawn = "" if all(it.is_closed for it in told.solids) else ", so what fails is drawn by its coordinates"
+        return f"FreeCAD shows no face of this file{drawn}."
 
     def _add(self, parent: Any, node: Node, marker: Optional[Marker], place: Place) -> None:
         shown = marker.show(node) if marker else Shown()
@@ -263,4 +268,6 @@ def show(path: str, document: Any = None) -> Panel:
         old.deleteLater()
     panel = Panel(path, document)
     window.addDockWidget(QtCore.Qt.RightDockWidgetArea, panel)
+    panel.show()
+    panel.raise_()
     return panel
