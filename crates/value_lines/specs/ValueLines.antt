@@ -7,8 +7,8 @@ use Rattle.where_places.specs.FileLine.{from_line, line_of}
 use Rattle.where_places.specs.declared.places.RecordLines.{RecordLines}
 use Rattle.where_places.specs.declared.placed_file.PlacedFile.{PlacedFile}
 use Rattle.where_text.specs.Spelled.{masked, space_word}
-use Rattle.value_places.specs.declared.span.Span.{Span}
-use Rattle.value_places.specs.Spans.{value_span}
+use Rattle.where_places.specs.declared.span.Span.{Span}
+use Rattle.where_places.specs.Spans.{value_span}
 use Rattle.value_lines.specs.RecordText.{record_text}
 
 unfoldable pub line_fact : ℕ → ℕ → List ℕ

@@ -7,8 +7,7 @@ use crate::record_text::record_text;
 use iges_base::{EntryNo, NoMemory, Out};
 use iges_fields::Values;
 use std::alloc::Global;
-use value_places::{Span, value_span};
-use where_places::{PlacedFile, RecordLines, from_line, line_of};
+use where_places::{PlacedFile, RecordLines, Span, from_line, line_of, value_span};
 use where_text::{put_masked, put_number};
 
 /// The columns of a line that hold the text of a record (IGES 5.3, 2.2.4.5).

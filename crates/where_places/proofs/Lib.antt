@@ -4,3 +4,5 @@ pub mod Pairs
 pub mod Put
 pub mod PlacedFiles
 pub mod OnePlacedFile
+mod Items
+mod Standing

@@ -1,7 +1,7 @@
 use Rattle.std.proofs.Common.{length, ◌+◌, ◌-◌, ◌≡◌, ◌≤◌, drop, not}
 use Rattle.std.specs.List.{prefix_len}
 use Rattle.iges_fields.specs.FreeText.{is_delimiter_of}
-use Rattle.value_places.proofs.item_end.len_before_delimiter.Given as goal
+use Rattle.where_places.proofs.item_end.len_before_delimiter.Given as goal
 
 abbrev pub invariant-bytes : goal.invariant-bytes
 invariant-bytes l = record {

@@ -16,12 +16,12 @@ use Rattle.open_certificate.proofs.Facts.{AllFit, FitsAll, fits_all}
 use Rattle.open_certificate.proofs.Sound.{good_shell}
 use Rattle.cert_lines.specs.Line.{cut_lines}
 use Rattle.open_commands.proofs.Shells.{open_shell}
-use Rattle.open_line_laws.specs.Laws.{AlikeButReach, AcceptedDifferInReach}
-use Rattle.open_line_laws.proofs.LineLists.{some_here, some_later}
-use Rattle.open_line_laws.proofs.SameLines.{kind, next_kind, kind_at, kind_due, waits_for_shell, tests_tell, kinds_count, kinds_any, the_shell, shell_is}
-use Rattle.open_line_laws.proofs.SameLines.{edge_lines}
-use Rattle.open_line_laws.proofs.SameLines.{corner_lines, border_lines}
-use Rattle.open_line_laws.proofs.SameParts.{fit_at, no_test}
+use Rattle.open_laws.specs.AlikeLines.{AlikeButReach, AcceptedDifferInReach}
+use Rattle.open_laws.proofs.LineLists.{some_here, some_later}
+use Rattle.open_laws.proofs.SameLines.{kind, next_kind, kind_at, kind_due, waits_for_shell, tests_tell, kinds_count, kinds_any, the_shell, shell_is}
+use Rattle.open_laws.proofs.SameLines.{edge_lines}
+use Rattle.open_laws.proofs.SameLines.{corner_lines, border_lines}
+use Rattle.open_laws.proofs.SameParts.{fit_at, no_test}
 
 -- the same, or both reach lines
 abbrev Alike : OpenLine → OpenLine → Type 0

@@ -1,6 +1,6 @@
 use Rattle.std.proofs.Common.{length, ◌+◌, ◌-◌, ◌≡◌, ◌≤◌, ◌==◌, drop, not}
 use Rattle.std.specs.List.{prefix_len}
-use Rattle.value_places.proofs.item_end.len_before_h.Given as goal
+use Rattle.where_places.proofs.item_end.len_before_h.Given as goal
 
 abbrev pub invariant-bytes : goal.invariant-bytes
 invariant-bytes l = record {

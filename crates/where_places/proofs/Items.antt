@@ -14,8 +14,8 @@ use Rattle.iges_fields.specs.Delims.{Delims, are_permitted}
 use Rattle.iges_fields.specs.FreeText.{IsItem, delimited, is_delimiter_of}
 use Rattle.iges_fields.proofs.Words.{is_number_byte, number_byte_no_stop, number_byte_no_H, digit_number_byte, space_no_stop, param_stops, end_stops, integer_is}
 use Rattle.iges_fields.proofs.Words.{integer_number_bytes, real_number_bytes}
-use Rattle.value_places.specs.ItemEnds.{behind_item, behind_items, from_delimiter, from_h}
-use Rattle.value_places.specs.Spans.{parted}
+use Rattle.where_places.specs.ItemEnds.{behind_item, behind_items, from_delimiter, from_h}
+use Rattle.where_places.specs.Spans.{parted}
 
 all_spaces : (p : ℕ → Bool) (n : ℕ) → p 32 ≡ true → list_all p (spaces n) ≡ true
 all_spaces p zero e = refl

@@ -31,7 +31,7 @@ use Rattle.open_certificate.proofs.Borders.{AreBorder, StartApart, Goes, goes_on
 use Rattle.open_certificate.proofs.Facts.{AllFit}
 use Rattle.open_certificate.proofs.Fans.{counted_way, both_ways_counted, turns_one, lone_no_turn, chain_no_repeat}
 use Rattle.open_certificate.proofs.Once.{OnceRows, way_one}
-use Rattle.open_line_laws.proofs.LineLists.{least_of, trail_same, chain_same}
+use Rattle.open_laws.proofs.LineLists.{least_of, trail_same, chain_same}
 
 -- ---- edges
 

@@ -1,8 +1,8 @@
 use Rattle.std.proofs.Common.{◌+◌, ◌≡◌, ap, ◌∙◌, sym, subst}
-use Rattle.value_places.specs.declared.span.Span.{Span}
-use Rattle.value_places.specs.Spans.{StandsAt}
-use Rattle.value_places.proofs.Standing.{ends, stands}
-use Rattle.value_places.proofs.span.value_span.Goals as goal
+use Rattle.where_places.specs.declared.span.Span.{Span}
+use Rattle.where_places.specs.Spans.{StandsAt}
+use Rattle.where_places.proofs.Standing.{ends, stands}
+use Rattle.where_places.proofs.span.value_span.Goals as goal
 
 pub returns-clause-stands : goal.returns-clause-stands
 returns-clause-stands c = λ n used v free at. subst (StandsAt c.args.delims.now c.args.text.now _ v) (sym c.found_span.ensures.is)

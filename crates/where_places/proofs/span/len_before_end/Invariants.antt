@@ -1,7 +1,7 @@
 use Rattle.std.proofs.Common.{length, ◌+◌, ◌-◌, ◌≡◌, ◌≤◌, drop}
 use Rattle.std.specs.List.{prefix_len}
-use Rattle.value_places.specs.Spans.{is_of_word}
-use Rattle.value_places.proofs.span.len_before_end.Given as goal
+use Rattle.where_places.specs.Spans.{is_of_word}
+use Rattle.where_places.proofs.span.len_before_end.Given as goal
 
 abbrev pub invariant-bytes : goal.invariant-bytes
 invariant-bytes l = record {

@@ -6,7 +6,7 @@ ghost use Rattle.iges_fields.specs.declared.value.Value.{Value as AnyValue};
 ghost use Rattle.iges_fields.specs.declared.value.Value.TheVariants.{Int};
 ghost use Rattle.std.specs.List.{prefix_len};
 ghost use Rattle.std.specs.Prelude.{◌≡◌, ◌+◌, ◌≤◌, ◌∷◌, IsTrue, ℕ, ℤ, Some, length, option_copied, slice_get, take};
-ghost use Rattle.value_places.specs.Spans.{StandsAt, is_of_word, span_at, span_in, span_past, value_span, word_len};
+ghost use Rattle.where_places.specs.Spans.{StandsAt, is_of_word, span_at, span_in, span_past, value_span, word_len};
 
 use crate::item_end::{behind, behind_counted, behind_items, from_delimiter};
 use iges_base::without_front_spaces;

@@ -4,7 +4,7 @@ ghost use Rattle.iges_fields.specs.Delims.{are_permitted};
 ghost use Rattle.iges_fields.specs.FreeText.{is_delimiter_of};
 ghost use Rattle.std.specs.List.{prefix_len};
 ghost use Rattle.std.specs.Prelude.{◌≡◌, ◌==◌, IsTrue, drop, length, not};
-ghost use Rattle.value_places.specs.ItemEnds.{behind_counted, behind_item, behind_items, from_delimiter, from_h};
+ghost use Rattle.where_places.specs.ItemEnds.{behind_counted, behind_item, behind_items, from_delimiter, from_h};
 
 use iges_fields::{Delimiters, Value};
 

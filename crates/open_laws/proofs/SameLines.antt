@@ -16,9 +16,9 @@ use Rattle.open_certificate.specs.Progress.{border_rows, is_shell, is_edge, is_c
 use Rattle.open_certificate.proofs.Borders.{AreBorder, StartApart, Goes, RingFacts, start_apart, goes_one, keeps_steps, no_rings, ring_step, rings_of}
 use Rattle.open_certificate.proofs.Facts.{AllFit, FitsAll, facts_listed, proper_of}
 use Rattle.open_certificate.proofs.Once.{AreListed, once_rows, lone_border}
-use Rattle.open_line_laws.proofs.LineLists.{all_of_one, falls_same, keyed_same, keys_of_passing, passing, least_of, some_here, some_later}
-use Rattle.open_line_laws.proofs.SameParts.{EdgeIs, CornerIs, BorderIs, ring, one_edge, one_corner, one_border, edge_line_is, corner_line_is, border_line_is}
-use Rattle.open_line_laws.proofs.SameParts.{FitsAt, fit_at}
+use Rattle.open_laws.proofs.LineLists.{all_of_one, falls_same, keyed_same, keys_of_passing, passing, least_of, some_here, some_later}
+use Rattle.open_laws.proofs.SameParts.{EdgeIs, CornerIs, BorderIs, ring, one_edge, one_corner, one_border, edge_line_is, corner_line_is, border_line_is}
+use Rattle.open_laws.proofs.SameParts.{FitsAt, fit_at}
 
 -- ---- the border lines, the latest first
 

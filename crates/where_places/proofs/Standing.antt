@@ -16,10 +16,10 @@ use Rattle.iges_fields.specs.Delims.{Delims, are_permitted}
 use Rattle.iges_fields.specs.FreeText.{FreeText, IsItem, Spells, delimited, is_delimiter_of}
 use Rattle.iges_fields.proofs.Words.{digit_number_byte, end_stops, integer_is, integer_number_bytes, is_number_byte, number_byte_no_H, number_byte_no_space}
 use Rattle.iges_fields.proofs.Words.{number_byte_no_stop, param_stops, real_number_bytes, stop_no_space}
-use Rattle.value_places.specs.ItemEnds.{behind_counted, behind_items, from_delimiter, from_h}
-use Rattle.value_places.specs.Spans.{StandsAt, is_of_word, parted, span_at, span_in, span_past, value_span, word_len}
-use Rattle.value_places.specs.declared.span.Span.{Span}
-use Rattle.value_places.proofs.Items.{behind_all, behind_delimited, from_first_h}
+use Rattle.where_places.specs.ItemEnds.{behind_counted, behind_items, from_delimiter, from_h}
+use Rattle.where_places.specs.Spans.{StandsAt, is_of_word, parted, span_at, span_in, span_past, value_span, word_len}
+use Rattle.where_places.specs.declared.span.Span.{Span}
+use Rattle.where_places.proofs.Items.{behind_all, behind_delimited, from_first_h}
 
 -- ---- the word of an item
 

@@ -6,8 +6,8 @@ use Rattle.iges_fields.specs.declared.value.Value.{Value}
 use Rattle.iges_fields.specs.declared.value.Value.TheVariants as value
 use Rattle.iges_fields.specs.Delims.{Delims}
 use Rattle.iges_fields.specs.FreeText.{IsItem, Spells, begins_with, is_delimiter_of}
-use Rattle.value_places.specs.declared.span.Span.{Span}
-use Rattle.value_places.specs.ItemEnds.{behind_counted, behind_items, from_delimiter}
+use Rattle.where_places.specs.declared.span.Span.{Span}
+use Rattle.where_places.specs.ItemEnds.{behind_counted, behind_items, from_delimiter}
 
 -- items, each with the parameter delimiter behind it
 abbrev pub parted : Delims → List (List ℕ) → List ℕ

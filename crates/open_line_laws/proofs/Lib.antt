@@ -1,4 +1,0 @@
-pub mod LineLists
-pub mod SameParts
-pub mod SameLines
-pub mod Differ

@@ -1,2 +1,0 @@
-pub mod ItemEnds
-pub mod Spans
