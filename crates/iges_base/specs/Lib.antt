@@ -3,3 +3,4 @@ pub mod First
 pub mod InLine
 pub mod FrontDigits
 pub mod Word
+pub mod Reals
