@@ -10,7 +10,8 @@ use Rattle.std.proofs.lemmas.Bool.{and_from, cases_Bool, cond-true, cond-false}
 use Rattle.std.proofs.lemmas.List.{drop_at, take_at, take-append-drop, take-take, length-take-le, length-drop}
 use Rattle.iges_base.specs.declared.leading_digits.LeadingDigits.{LeadingDigits}
 use Rattle.iges_base.specs.FrontDigits.{AreLeadingDigits}
-use Rattle.iges_base.specs.Reals.{is_exponent_letter, is_power}
+use Rattle.iges_base.specs.RealParts.{is_power}
+use Rattle.iges_base.specs.Reals.{is_exponent_letter}
 use Rattle.iges_base.specs.Word.{are_digits, is_empty, is_integer}
 
 -- ---- behind a sign

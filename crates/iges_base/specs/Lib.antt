@@ -4,3 +4,4 @@ pub mod InLine
 pub mod FrontDigits
 pub mod Word
 pub mod Reals
+pub mod RealParts

@@ -1,10 +1,9 @@
--- The parts of a real's word: the digits and points at the front of a text, and an exponent.
-use Rattle.std.specs.Prelude.{◌≡◌, ℕ, min, Bool, true, ◌||◌, ◌&&◌, ◌==◌, nat_le, List, [], ◌∷◌, take, count_by, codes}
+-- Words of a text: reals.
+use Rattle.std.specs.Prelude.{ℕ, Bool, not, ◌&&◌, ◌||◌, ◌==◌, nat_le, List, length, drop, if◌then◌else◌, count_by, take_while, codes}
 use Rattle.std.specs.Char.{is_ascii_digit}
-use Rattle.std.specs.List.{list_any, list_all, prefix_len}
-use Rattle.std.specs.Str.Parse.{digits_value}
-use Rattle.iges_base.specs.declared.mantissa.Mantissa.{Mantissa}
-use Rattle.iges_base.specs.Word.{is_integer}
+use Rattle.std.specs.List.{list_any, list_all}
+use Rattle.std.specs.Str.Parse.{without_leading_sign}
+use Rattle.iges_base.specs.Word.{is_empty, is_integer}
 
 abbrev pub is_point : ℕ → Bool
 is_point b = b == 46
@@ -16,20 +15,10 @@ is_exponent_letter b = list_any (λ x. x == b) (codes "EDed")
 abbrev pub is_mantissa : List ℕ → Bool
 is_mantissa word = list_all (λ b. is_ascii_digit b || is_point b) word && list_any is_ascii_digit word && nat_le (count_by is_point word) 1
 
-abbrev pub is_mantissa_byte : ℕ → Bool
-is_mantissa_byte b = is_ascii_digit b || is_point b
-
--- the number, or the first past 2^63 where it is more
-abbrev pub up_to_past : ℕ → ℕ
-up_to_past n = min n 9223372036854775809
-
--- how long they are, how many of them are points, and the number that they write, where none is a point
-pub record IsMantissa (text : List ℕ) (m : Mantissa) : Type 0 where
-  pub len : m.len ≡ prefix_len is_mantissa_byte text
-  pub points : m.points ≡ count_by is_point (take m.len text)
-  pub value : m.points ≡ 0 → m.value ≡ up_to_past (digits_value 10 (take m.len text))
-
--- nothing, or an exponent's letter and its integer
-abbrev pub is_power : List ℕ → Bool
-is_power [] = true
-is_power (letter ∷ power) = is_exponent_letter letter && is_integer power
+-- A real: an optional sign and a mantissa, and then a letter and an integer. One without a point has the exponent.
+abbrev pub is_real : List ℕ → Bool
+is_real word =
+    let unsigned = without_leading_sign word in
+    let mantissa = take_while (λ b. not (is_exponent_letter b)) unsigned in
+    let exponent = drop (length mantissa) unsigned in
+    is_mantissa mantissa && (if is_empty exponent then list_any is_point mantissa else is_integer (drop 1 exponent))

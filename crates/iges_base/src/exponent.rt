@@ -1,6 +1,6 @@
 //! The exponent of a real that is written without spaces.
 
-ghost use Rattle.iges_base.specs.Reals.{is_power};
+ghost use Rattle.iges_base.specs.RealParts.{is_power};
 ghost use Rattle.iges_base.specs.Reals.{is_exponent_letter};
 ghost use Rattle.std.specs.Prelude.{◌≡◌, ◌≤◌, IsTrue, length, take};
 

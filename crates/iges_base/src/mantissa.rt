@@ -1,6 +1,6 @@
 //! The front of an item: digits and points, and the number that they write.
 
-ghost use Rattle.iges_base.specs.Reals.{IsMantissa, up_to_past};
+ghost use Rattle.iges_base.specs.RealParts.{IsMantissa, up_to_past};
 ghost use Rattle.iges_base.specs.Reals.{is_mantissa};
 ghost use Rattle.std.specs.Prelude.{◌≡◌, ◌+◌, ◌*◌, ◌<◌, ◌≤◌, List, ℕ, take};
 

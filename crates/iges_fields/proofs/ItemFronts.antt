@@ -10,7 +10,7 @@ use Rattle.std.proofs.lemmas.List.{append-nil, take_all, take-append-drop, take-
 use Rattle.std.proofs.lemmas.List.Folds.{length-prefix_len}
 use Rattle.iges_base.specs.declared.mantissa.Mantissa.{Mantissa}
 use Rattle.iges_fields.specs.Delims.{Delims, are_permitted}
-use Rattle.iges_base.specs.Reals.{is_mantissa_byte, up_to_past, IsMantissa}
+use Rattle.iges_base.specs.RealParts.{is_mantissa_byte, up_to_past, IsMantissa}
 use Rattle.iges_fields.specs.FreeText.{is_delimiter_of, begins_with, begins_text, behind_H, text_size}
 use Rattle.iges_base.specs.Word.{is_empty, is_space, trim}
 use Rattle.iges_base.specs.Reals.{is_point}

@@ -20,8 +20,8 @@ use Rattle.iges_base.specs.FrontDigits.{AreLeadingDigits}
 use Rattle.iges_fields.specs.Fronts.{IsPlainFront, value_of}
 use Rattle.iges_fields.specs.Reading.{good_item, read_at, unless_fault}
 use Rattle.iges_base.specs.Word.{after_spaces, is_integer, spaces}
-use Rattle.iges_base.specs.Reals.{is_exponent_letter, is_mantissa, is_mantissa_byte, is_point, is_power, up_to_past}
-use Rattle.iges_fields.specs.Word.{is_real}
+use Rattle.iges_base.specs.RealParts.{is_mantissa_byte, is_power, up_to_past}
+use Rattle.iges_base.specs.Reals.{is_exponent_letter, is_mantissa, is_point, is_real}
 use Rattle.iges_fields.proofs.Again.{item_again}
 use Rattle.iges_base.proofs.Mantissas.{count_point, digit_among}
 use Rattle.iges_base.proofs.Signed.{front_stop, front_unsigned, other_is, some_digits, unsigned_within}

@@ -14,10 +14,9 @@ use Rattle.iges_base.specs.declared.mantissa.Mantissa.{Mantissa}
 use Rattle.iges_fields.specs.declared.kind.WordKind.{WordKind}
 use Rattle.iges_fields.specs.declared.kind.WordKind.TheVariants as kind
 use Rattle.iges_fields.specs.Gives.{IsKindOf}
-use Rattle.iges_base.specs.Reals.{is_mantissa_byte, up_to_past, IsMantissa}
+use Rattle.iges_base.specs.RealParts.{is_mantissa_byte, up_to_past, IsMantissa}
 use Rattle.iges_base.specs.Word.{is_empty, are_digits, is_integer}
-use Rattle.iges_base.specs.Reals.{is_point, is_exponent_letter, is_mantissa}
-use Rattle.iges_fields.specs.Word.{is_real}
+use Rattle.iges_base.specs.Reals.{is_point, is_exponent_letter, is_mantissa, is_real}
 use Rattle.iges_base.proofs.Lists.{prefix_len-pass, take_while-front, list_all-implies}
 use Rattle.iges_base.proofs.Mantissas.{count_point, mantissa_bytes}
 use Rattle.iges_base.proofs.DigitFronts.{digit_is_not}

@@ -1,6 +1,6 @@
 //! Which words are integers, and which are reals.
 
-ghost use Rattle.iges_base.specs.Reals.{IsMantissa, up_to_past};
+ghost use Rattle.iges_base.specs.RealParts.{IsMantissa, up_to_past};
 ghost use Rattle.iges_fields.specs.Gives.{IsKindOf, IsSigned};
 ghost use Rattle.iges_base.specs.Word.{is_integer};
 ghost use Rattle.iges_base.specs.Reals.{is_exponent_letter};
