@@ -3,7 +3,7 @@ use Rattle.std.specs.Prelude.{ℕ, ◌+◌, ◌-◌, ◌^◌, Bool, nat_le, List
 use Rattle.std.specs.Char.{is_ascii_digit}
 use Rattle.std.specs.Str.Parse.{digits_value, starts_with_minus, without_leading_sign}
 use Rattle.iges_fields.specs.FreeText.{begins_with}
-use Rattle.iges_fields.specs.Word.{is_point}
+use Rattle.iges_base.specs.Reals.{is_point}
 
 abbrev pub after_point : List ℕ → List ℕ
 after_point text = drop (if begins_with is_point text then 1 else 0) text

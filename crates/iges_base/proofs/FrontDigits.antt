@@ -1,14 +1,22 @@
 -- The digits at the front of a text, one after the other.
-use Rattle.std.proofs.Common.{◌≡◌, ℕ, suc, ◌+◌, ◌-◌, ◌*◌, ◌^◌, ◌<◌, ◌≤◌, true, List, length, get_or, refl, ap, ◌∙◌, arith}
+use Rattle.std.proofs.Common.{◌≡◌, ℕ, suc, ◌+◌, ◌-◌, ◌*◌, ◌%◌, ◌^◌, ◌<◌, ◌≤◌, true, List, length, get_or, refl, ap, ◌∙◌, arith}
 use Rattle.std.specs.Char.{is_ascii_digit}
 use Rattle.std.proofs.Math.Nat.{pow-le-pow_right, pow-suc}
-use Rattle.std.proofs.lemmas.Bool.{and_from}
+use Rattle.std.proofs.lemmas.Bool.{and_from, le-leb}
 use Rattle.std.proofs.lemmas.Int.Digits.{digits_value_more}
 use Rattle.std.proofs.lemmas.List.Folds.{list_all_more}
 use Rattle.std.proofs.lemmas.Str.{digit_value_digit}
 use Rattle.iges_base.specs.FrontDigits.{AreLeadingDigits, IsDigitsSoFar}
 use Rattle.iges_base.specs.declared.leading_digits.LeadingDigits.{LeadingDigits}
 use Rattle.iges_base.proofs.DigitFronts.{digit_range}
+
+-- a byte less 48, wrapped to 64 bits, where that is no more than 9
+pub digit_from : (byte digit : ℕ) → byte < 18446744073709551616 → digit ≡ (byte + 18446744073709551568) % 18446744073709551616 → digit ≤ 9 →
+    (is_ascii_digit byte ≡ true) × (digit ≡ byte - 48)
+digit_from byte digit few is small = (
+  and_from _ _ (le-leb 48 byte (omega (arith, few, is, small))) (le-leb byte 57 (omega (arith, few, is, small))),
+  omega (arith, few, is, small),
+)
 
 pub no_digits_yet : (text : List ℕ) → IsDigitsSoFar text 0 0
 no_digits_yet text = record { within = omega arith; most = omega arith; all = refl; is = refl; few = omega arith }

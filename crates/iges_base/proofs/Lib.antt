@@ -11,3 +11,5 @@ pub mod Columns
 pub mod Spaced
 pub mod EightDigits
 pub mod FrontDigits
+pub mod Mantissas
+pub mod Signed

@@ -3,3 +3,5 @@ pub mod First
 pub mod InLine
 pub mod FrontDigits
 pub mod Word
+pub mod Reals
+pub mod RealParts

@@ -27,13 +27,13 @@ fn with_next(text: &[u8], digits: LeadingDigits) -> Option<LeadingDigits>
     requires digits { IsDigitsSoFar text.now digits.len digits.value }
     ensures { IfSome result (λ more. (more.len ≡ digits.len + 1) × IsDigitsSoFar text.now more.len more.value) }
 {
-    let byte = text[digits.len];
-    if !byte.is_ascii_digit() {
+    let digit = u64::from(text[digits.len]).wrapping_sub(48);
+    if digit > 9 {
         return None;
     }
     Some(LeadingDigits {
         len: digits.len + 1,
-        value: digits.value * 10 + u64::from(byte - b'0'),
+        value: digits.value * 10 + digit,
     })
 }
 
@@ -104,17 +104,20 @@ fn are_eight_digits(text: &[u8]) -> bool
         & h.is_ascii_digit()
 }
 
-// Eight, where the first eight bytes are digits, else 0.
+// Nine, where the first nine bytes are digits, else 0: one and then eight, since nine are the digits behind most points.
 #[inline(always)]
-fn first_eight(text: &[u8]) -> usize
+fn first_nine(text: &[u8]) -> usize
     ensures within { result ≤ length text.now }
     ensures all { IsTrue (list_all is_ascii_digit (take result text.now)) }
 {
-    if text.len() < 8 {
+    let [first, rest @ ..] = text else {
+        return 0;
+    };
+    if !first.is_ascii_digit() || rest.len() < 8 {
         return 0;
     }
-    let (eight, _) = text.split_at(8);
-    if are_eight_digits(eight) { 8 } else { 0 }
+    let (eight, _) = rest.split_at(8);
+    if are_eight_digits(eight) { 9 } else { 0 }
 }
 
 /// How many bytes at the front of the text are digits, as far as these are counted.
@@ -123,7 +126,7 @@ pub fn digits_len(text: &[u8]) -> usize
     ensures within { result ≤ length text.now }
     ensures all { IsTrue (list_all is_ascii_digit (take result text.now)) }
 {
-    let mut len = first_eight(text);
+    let mut len = first_nine(text);
     'digits: while len < text.len() && text[len].is_ascii_digit() {
         len += 1;
     }

@@ -1,4 +1,4 @@
-//! What all crates share: bytes, a text that grows, a list, spaces, digits and integers in a text, the number of an entry, that
+//! What all crates share: bytes, a text that grows, a list, spaces, digits, integers and parts of reals in a text, the number of an entry, that
 //! memory ran out, and how large a file may be.
 #![tactic(auto)]
 
@@ -7,9 +7,11 @@ mod column;
 mod counting;
 mod digits;
 mod entry_no;
+mod exponent;
 mod front;
 mod leading_digits;
 mod list;
+mod mantissa;
 mod no_memory;
 mod out;
 
@@ -18,9 +20,11 @@ pub use column::column_number;
 pub use counting::about_count;
 pub use digits::{is_digits, low_digit, unsigned};
 pub use entry_no::EntryNo;
+pub use exponent::power_len;
 pub use front::{trimmed, without_front_spaces};
 pub use leading_digits::{LeadingDigits, digits_len, digits_of};
 pub use list::ItemList;
+pub use mantissa::{Mantissa, mantissa_of};
 pub use no_memory::NoMemory;
 pub use out::{Out, put_number, write_number};
 

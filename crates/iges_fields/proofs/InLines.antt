@@ -12,7 +12,7 @@ use Rattle.iges_base.specs.InLine.{is_in_line}
 use Rattle.iges_base.proofs.InLines.{slice_get-all, front_in_line}
 use Rattle.iges_fields.specs.InLine.{stays_in_line, is_value}
 use Rattle.iges_base.specs.Word.{spaces}
-use Rattle.iges_fields.specs.Word.{is_real}
+use Rattle.iges_base.specs.Reals.{is_real}
 
 -- ---- what is got of a list
 

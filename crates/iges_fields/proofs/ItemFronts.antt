@@ -8,15 +8,15 @@ use Rattle.std.specs.Str.Parse.{digits_value, without_leading_sign, without_lead
 use Rattle.std.proofs.lemmas.Bool.{and_parts, or_cases, cases_Bool, cond-false, both_ways, ne_eqb, not-true, and_right}
 use Rattle.std.proofs.lemmas.List.{append-nil, take_all, take-append-drop, take-take}
 use Rattle.std.proofs.lemmas.List.Folds.{length-prefix_len}
-use Rattle.iges_fields.specs.declared.mantissa.Mantissa.{Mantissa}
+use Rattle.iges_base.specs.declared.mantissa.Mantissa.{Mantissa}
 use Rattle.iges_fields.specs.Delims.{Delims, are_permitted}
-use Rattle.iges_fields.specs.Fronts.{is_mantissa_byte, up_to_past, IsMantissa}
+use Rattle.iges_base.specs.RealParts.{is_mantissa_byte, up_to_past, IsMantissa}
 use Rattle.iges_fields.specs.FreeText.{is_delimiter_of, begins_with, begins_text, behind_H, text_size}
 use Rattle.iges_base.specs.Word.{is_empty, is_space, trim}
-use Rattle.iges_fields.specs.Word.{is_point}
+use Rattle.iges_base.specs.Reals.{is_point}
 use Rattle.iges_base.proofs.Spaces.{trim-word}
 use Rattle.iges_base.proofs.Lists.{prefix_len-pass, prefix_len-stop, list_all-implies}
-use Rattle.iges_fields.proofs.Mantissas.{count_point, mantissa_bytes, point_no_digit}
+use Rattle.iges_base.proofs.Mantissas.{count_point, mantissa_bytes, point_no_digit}
 use Rattle.iges_fields.proofs.Steps.{begins_is, no_digits, no_byte_behind, no_H_behind, text_front_from}
 use Rattle.iges_base.proofs.DigitFronts.{digit_is_not}
 use Rattle.iges_fields.proofs.Words.{mantissa_byte, number_byte_no_space, number_byte_no_stop}

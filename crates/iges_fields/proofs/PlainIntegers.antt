@@ -17,9 +17,9 @@ use Rattle.iges_base.proofs.DigitFronts.{digit_is_not}
 use Rattle.iges_fields.proofs.ItemFronts.{trim_plain, unsigned_plain}
 use Rattle.iges_base.proofs.Spaces.{after_spaces-other}
 use Rattle.iges_base.proofs.Lists.{prefix_len-front, list_all-implies}
-use Rattle.iges_fields.proofs.Steps.{item_is_word, no_H_behind, word_default, word_from, word_int}
+use Rattle.iges_fields.proofs.Steps.{item_is_word, no_H_behind, word_from, word_int}
 use Rattle.iges_fields.proofs.WordKinds.{digit_mantissa}
-use Rattle.iges_fields.proofs.Words.{digit_number_byte, number_byte_no_space, number_byte_no_stop, stop_no_H, stop_no_space}
+use Rattle.iges_fields.proofs.Words.{digit_number_byte, number_byte_no_space, number_byte_no_stop, stop_no_H}
 
 -- digits are no spaces
 pub no_space_first : (t : List ℕ) (m : ℕ) → 0 < m → m ≤ length t → list_all is_ascii_digit (take m t) ≡ true → t ≡ after_spaces t
@@ -71,11 +71,6 @@ module _ (d : Delims) (ok : are_permitted d ≡ true) (text : List ℕ) (n : ℕ
   body_is : 0 < n → text ≡ after_spaces text
   body_is some = no_space_first text n some within digits
 
-  body_is_there : n ≡ 0 → text ≡ after_spaces text
-  body_is_there none =
-      let here : text ≡ first ∷ drop 1 behind = split ∙ ap (λ (m : ℕ). take m text ++ first ∷ drop 1 behind) none in
-      here ∙ (sym (after_spaces-other first (drop 1 behind) (stop_no_space d ok first stop)) ∙ ap after_spaces (sym here))
-
   inside : n ≡ length text → ⊥
   inside e = let rest : length behind ≡ length text - n = ap length behind-is ∙ length-drop n text in omega (arith, e, rest, more)
 
@@ -102,11 +97,3 @@ module _ (d : Delims) (ok : are_permitted d ≡ true) (text : List ℕ) (n : ℕ
       item_is_word d text (ap begins_text (sym (body_is some)) ∙ no_text) ∙ ap (word_item d text) (sym (body_is some))
       ∙ word_from d text text n word_ends inside front behind front refl behind-is p.2 (Ok (value.Int (signed_digits_value 10 front))) word
       ∙ ap (λ (z : ℤ). Ok (value.Int z, behind)) p.1
-
-  -- nothing stands before the delimiter
-  pub omitted_item : n ≡ 0 → read_item d text ≡ Ok (value.Default, behind)
-  omitted_item none =
-      let body = body_is_there none in
-      let front_is : [] ≡ take n text = ap (λ (m : ℕ). take m text) (sym none) in
-      item_is_word d text (ap begins_text (sym body) ∙ no_text) ∙ ap (word_item d text) (sym body)
-      ∙ word_from d text text n word_ends inside [] behind [] front_is behind-is refl (Ok value.Default) (word_default d text [] refl)

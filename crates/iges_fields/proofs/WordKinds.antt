@@ -10,15 +10,15 @@ use Rattle.std.proofs.lemmas.Bool.{not-true, not_from_true, not_from_false, cond
 use Rattle.std.proofs.Math.Seq.{drop-cons}
 use Rattle.std.proofs.lemmas.List.{drop_all, drop_at, take_all, take-append-drop, take_rest}
 use Rattle.std.proofs.lemmas.List.Folds.{length-prefix_len, list_all-append}
-use Rattle.iges_fields.specs.declared.mantissa.Mantissa.{Mantissa}
+use Rattle.iges_base.specs.declared.mantissa.Mantissa.{Mantissa}
 use Rattle.iges_fields.specs.declared.kind.WordKind.{WordKind}
 use Rattle.iges_fields.specs.declared.kind.WordKind.TheVariants as kind
 use Rattle.iges_fields.specs.Gives.{IsKindOf}
-use Rattle.iges_fields.specs.Fronts.{is_mantissa_byte, up_to_past, IsMantissa}
+use Rattle.iges_base.specs.RealParts.{is_mantissa_byte, up_to_past, IsMantissa}
 use Rattle.iges_base.specs.Word.{is_empty, are_digits, is_integer}
-use Rattle.iges_fields.specs.Word.{is_point, is_exponent_letter, is_mantissa, is_real}
+use Rattle.iges_base.specs.Reals.{is_point, is_exponent_letter, is_mantissa, is_real}
 use Rattle.iges_base.proofs.Lists.{prefix_len-pass, take_while-front, list_all-implies}
-use Rattle.iges_fields.proofs.Mantissas.{count_point, mantissa_bytes}
+use Rattle.iges_base.proofs.Mantissas.{count_point, mantissa_bytes}
 use Rattle.iges_base.proofs.DigitFronts.{digit_is_not}
 use Rattle.iges_fields.proofs.Words.{digits_all, no_letter, no_point, real_no_integer, stop_is}
 

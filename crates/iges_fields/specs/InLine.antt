@@ -4,7 +4,7 @@ use Rattle.iges_base.specs.InLine.{is_in_line}
 use Rattle.iges_fields.specs.declared.value.Value.{Value}
 use Rattle.iges_fields.specs.declared.value.Value.TheVariants as value
 use Rattle.iges_fields.specs.FreeText.{fits_64_bits}
-use Rattle.iges_fields.specs.Word.{is_real}
+use Rattle.iges_base.specs.Reals.{is_real}
 
 -- the bytes of a text hold no LF
 abbrev pub stays_in_line : Value → Bool

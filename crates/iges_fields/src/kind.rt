@@ -1,14 +1,13 @@
 //! Which words are integers, and which are reals.
 
-ghost use Rattle.iges_fields.specs.Fronts.{IsMantissa, up_to_past};
+ghost use Rattle.iges_base.specs.RealParts.{IsMantissa, up_to_past};
 ghost use Rattle.iges_fields.specs.Gives.{IsKindOf, IsSigned};
 ghost use Rattle.iges_base.specs.Word.{is_integer};
-ghost use Rattle.iges_fields.specs.Word.{is_exponent_letter};
+ghost use Rattle.iges_base.specs.Reals.{is_exponent_letter};
 ghost use Rattle.std.specs.Prelude.{◌≡◌, ◌&&◌, IsTrue, length, pos, neg_ℤ};
 ghost use Rattle.std.specs.Str.Parse.{digits_value, without_leading_sign};
 
-use crate::mantissa::{Mantissa, mantissa_of};
-use iges_base::{is_digits, unsigned};
+use iges_base::{Mantissa, is_digits, mantissa_of, unsigned};
 
 /// What a word of free text is (IGES 5.3, 2.2.2.1 and 2.2.2.2).
 #[derive(Clone, Copy)]

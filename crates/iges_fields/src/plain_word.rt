@@ -11,8 +11,7 @@ ghost use Rattle.std.specs.Str.Parse.{without_leading_sign};
 
 use crate::delimiters::Delimiters;
 use crate::kind::{WordKind, whole_kind};
-use crate::reals::power_len;
-use iges_base::{LeadingDigits, digits_len, digits_of, unsigned};
+use iges_base::{LeadingDigits, digits_len, digits_of, power_len, unsigned};
 
 /// What a word without spaces is.
 #[derive(Clone, Copy)]

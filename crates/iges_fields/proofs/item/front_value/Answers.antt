@@ -1,7 +1,7 @@
 use Rattle.std.proofs.Common.{List, ℕ, length, ap, subst, ◌∙◌}
 use Rattle.iges_fields.specs.Gives.{Gives}
 use Rattle.iges_fields.specs.Reading.{read_word}
-use Rattle.iges_fields.specs.Fronts.{IsMantissa}
+use Rattle.iges_base.specs.RealParts.{IsMantissa}
 use Rattle.iges_fields.proofs.ItemFronts.{plain_trimmed, plain_unsigned}
 use Rattle.iges_fields.proofs.item.front_value.Goals as goal
 

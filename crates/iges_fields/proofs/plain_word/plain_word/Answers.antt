@@ -1,5 +1,5 @@
 use Rattle.std.proofs.Common.{refl}
-use Rattle.iges_fields.proofs.PlainWords.{front_digits}
+use Rattle.iges_base.proofs.Signed.{front_digits}
 use Rattle.iges_fields.proofs.plain_word.plain_word.Goals as goal
 
 pub whole_word-requires-clause-digits : goal.whole_word-requires-clause-digits

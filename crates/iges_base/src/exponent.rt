@@ -1,10 +1,11 @@
-//! The parts of a real that is written without spaces.
+//! The exponent of a real that is written without spaces.
 
-ghost use Rattle.iges_fields.specs.Fronts.{is_power};
-ghost use Rattle.iges_fields.specs.Word.{is_exponent_letter};
+ghost use Rattle.iges_base.specs.RealParts.{is_power};
+ghost use Rattle.iges_base.specs.Reals.{is_exponent_letter};
 ghost use Rattle.std.specs.Prelude.{◌≡◌, ◌≤◌, IsTrue, length, take};
 
-use iges_base::{digits_len, unsigned};
+use crate::digits::unsigned;
+use crate::leading_digits::digits_len;
 
 #[inline(always)]
 fn is_letter(b: u8) -> bool

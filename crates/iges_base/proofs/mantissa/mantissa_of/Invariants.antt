@@ -1,6 +1,6 @@
 use Rattle.std.proofs.Common.{length, ◌-◌}
-use Rattle.iges_fields.proofs.Mantissas.{IsSoFar}
-use Rattle.iges_fields.proofs.mantissa.mantissa_of.Given as goal
+use Rattle.iges_base.proofs.Mantissas.{IsSoFar}
+use Rattle.iges_base.proofs.mantissa.mantissa_of.Given as goal
 
 abbrev pub invariant-bytes : goal.invariant-bytes
 invariant-bytes l = IsSoFar l.text l.len l.points l.value

@@ -1,7 +1,7 @@
 use Rattle.std.proofs.Common.{sym, ◌∙◌, arith}
 use Rattle.std.proofs.lemmas.List.{take_rest}
-use Rattle.iges_fields.proofs.PlainWords.{power_is}
-use Rattle.iges_fields.proofs.reals.power_len.Goals as goal
+use Rattle.iges_base.proofs.Signed.{power_is}
+use Rattle.iges_base.proofs.exponent.power_len.Goals as goal
 
 pub returns-clause-power : goal.returns-clause-power
 returns-clause-power c =

@@ -1,7 +1,7 @@
 use Rattle.std.proofs.Common.{refl, sym, ◌∙◌}
-use Rattle.iges_fields.proofs.Mantissas.{digit_more, point_more}
-use Rattle.iges_fields.proofs.mantissa.mantissa_of.Goals.{then-is_ascii_digit, else-is_ascii_digit+then-byte-eq46}
-use Rattle.iges_fields.proofs.mantissa.mantissa_of.Goals as goal
+use Rattle.iges_base.proofs.Mantissas.{digit_more, point_more}
+use Rattle.iges_base.proofs.mantissa.mantissa_of.Goals.{then-is_ascii_digit, else-is_ascii_digit+then-byte-eq46}
+use Rattle.iges_base.proofs.mantissa.mantissa_of.Goals as goal
 
 pub bytes-preserved : goal.bytes-preserved
 bytes-preserved c =

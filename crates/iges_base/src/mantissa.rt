@@ -1,7 +1,7 @@
 //! The front of an item: digits and points, and the number that they write.
 
-ghost use Rattle.iges_fields.specs.Fronts.{IsMantissa, up_to_past};
-ghost use Rattle.iges_fields.specs.Word.{is_mantissa};
+ghost use Rattle.iges_base.specs.RealParts.{IsMantissa, up_to_past};
+ghost use Rattle.iges_base.specs.Reals.{is_mantissa};
 ghost use Rattle.std.specs.Prelude.{◌≡◌, ◌+◌, ◌*◌, ◌<◌, ◌≤◌, List, ℕ, take};
 
 // The first number whose negative 64 signed bits don't hold.

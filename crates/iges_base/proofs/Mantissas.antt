@@ -11,9 +11,9 @@ use Rattle.std.proofs.lemmas.Int.Digits.{digits_value_more}
 use Rattle.std.proofs.lemmas.List.Folds.{length-prefix_len}
 use Rattle.std.proofs.lemmas.List.Sums.{count_by_more_no, count_by_more_yes, count_by-le-length, sum_by-cons, prefix_len-drop_yes}
 use Rattle.std.proofs.lemmas.Str.{digit_value_digit}
-use Rattle.iges_fields.specs.declared.mantissa.Mantissa.{Mantissa}
-use Rattle.iges_fields.specs.Fronts.{is_mantissa_byte, up_to_past, IsMantissa}
-use Rattle.iges_fields.specs.Word.{is_point, is_mantissa}
+use Rattle.iges_base.specs.declared.mantissa.Mantissa.{Mantissa}
+use Rattle.iges_base.specs.RealParts.{is_mantissa_byte, up_to_past, IsMantissa}
+use Rattle.iges_base.specs.Reals.{is_point, is_mantissa}
 use Rattle.iges_base.proofs.DigitFronts.{digit_range, digit_is_not}
 use Rattle.iges_base.proofs.Lists.{list_all-take_while}
 
