@@ -1,8 +1,7 @@
 //! Edges and vertices by number.
 
-ghost use Rattle.std.specs.Prelude.{◌≡◌, ◌∷◌, ◌++◌, [], not, nat_eq, IfSome, IfOk, OnOk, OnErr, is_some, if◌then◌else◌};
+ghost use Rattle.std.specs.Prelude.{◌≡◌, ◌∷◌, ◌++◌, [], false, IfSome, IfOk, OnOk, is_some, if◌then◌else◌};
 ghost use Rattle.std.specs.List.{list_any};
-ghost use Rattle.indexmap.specs.IndexMap.{values, insert_entry};
 ghost use Rattle.indexmap.specs.IndexSet.{insert_key};
 ghost use Rattle.solid_data.specs.Ring.{place_of};
 ghost use Rattle.solid_data.specs.SolidData.{same_edge, same_vertex};
@@ -10,48 +9,30 @@ ghost use Rattle.solid_data.specs.SolidData.{same_edge, same_vertex};
 use crate::positions::end_position;
 use crate::slots::ItemSlots;
 use iges_base::NoMemory;
-use indexmap::IndexMap;
 use solid_data::{Edge, EdgeId, EdgeKey, Edges, VertexId, VertexKey, Vertices};
 use std::alloc::Global;
 use std::marker::Model;
 use std::mem::replace;
 
-/// The edges and the vertices that were used so far, each numbered from 0 in the order of first appearance. The
-/// maps are keyed by the numbers, and the number of a key is found by its slot, so no file can choose what is hashed.
+/// The edges and the vertices that were used so far, each numbered from 0 in the order of first appearance. The number of
+/// a key is found by its slot, and the key that stands at that number tells whether it is this one's.
 #[derive(Drop)]
 pub struct Numbering {
-    edge_keys: IndexMap<u32, EdgeKey>,
-    edge_slots: ItemSlots,
     edges: Edges,
-    vertex_keys: IndexMap<u32, VertexKey>,
+    edge_slots: ItemSlots,
+    vertices: Vertices,
     vertex_slots: ItemSlots,
 }
 
 impl Model for Numbering {
-    ghost use Rattle.std.specs.Prelude.{ℕ};
-    ghost use Rattle.indexmap.specs.IndexMap.{values};
-    ghost use Rattle.brep_numbering.specs.Keyed.{AreKeyed, edge_slot, vertex_slot};
+    ghost use Rattle.brep_numbering.specs.Keyed.{AreKeyed, edge_slot, keys_of, vertex_slot};
     ghost use Rattle.brep_numbering.specs.Numbered.{Numbered};
 
     ghost Value = { Numbered };
 
-    ghost view = { λ n. record { keys = record { edges = values n.edge_keys; vertices = values n.vertex_keys }; edges = n.edges } };
+    ghost view = { λ n. record { keys = record { edges = keys_of n.edges; vertices = n.vertices }; edges = n.edges } };
 
-    ghost invariant = { λ n. AreKeyed (edge_slot n.edge_slots) n.edge_keys.entries × AreKeyed (vertex_slot n.vertex_slots) n.vertex_keys.entries };
-}
-
-// Puts a key at a number. Room is made fourfold, since each time that it is made the table is filled anew.
-fn put<K: Drop>(map: &mut IndexMap<u32, K>, number: u32, key: K) -> Result<(), NoMemory>
-    ensures entries { OnOk result (map.new.entries
-        ≡ insert_entry nat_eq map.old.entries number key) }
-    ensures err { OnErr result (map.new.entries ≡ map.old.entries) }
-{
-    let len = map.len();
-    if len == map.capacity() {
-        map.reserve(len.saturating_mul(3))?;
-    }
-    map.insert(number, key)?;
-    Ok(())
+    ghost invariant = { λ n. AreKeyed (edge_slot n.edge_slots) (keys_of n.edges) × AreKeyed (vertex_slot n.vertex_slots) n.vertices };
 }
 
 impl Numbering {
@@ -60,10 +41,9 @@ impl Numbering {
         ensures { result ≡ record { keys = record { edges = []; vertices = [] }; edges = [] } }
     {
         Numbering {
-            edge_keys: IndexMap::new(alloc),
-            edge_slots: ItemSlots::new(alloc),
             edges: Edges::new(alloc),
-            vertex_keys: IndexMap::new(alloc),
+            edge_slots: ItemSlots::new(alloc),
+            vertices: Vertices::new(alloc),
             vertex_slots: ItemSlots::new(alloc),
         }
     }
@@ -74,7 +54,7 @@ impl Numbering {
         ensures id { IfSome result (λ id. id.0 ≡ place_of same_vertex self.now.keys.vertices key) }
     {
         let number = self.vertex_slots.get(key.list, key.index);
-        let Some((_, known)) = self.vertex_keys.get_index(number as usize) else {
+        let Some(known) = self.vertices.get(number as usize) else {
             return None;
         };
         if *known == key {
@@ -95,9 +75,9 @@ impl Numbering {
         if let Some(id) = self.known_vertex(key) {
             return Ok(id);
         }
-        let number = end_position(self.vertex_keys.len())?;
+        let number = end_position(self.vertices.len())?;
         self.vertex_slots.set(key.list, key.index, number)?;
-        put(&mut self.vertex_keys, number, key)?;
+        self.vertices.push(key)?;
         Ok(VertexId(number))
     }
 
@@ -107,38 +87,40 @@ impl Numbering {
         ensures id { IfSome result (λ id. id.0 ≡ place_of same_edge self.now.keys.edges key) }
     {
         let number = self.edge_slots.get(key.list, key.index);
-        let Some((_, known)) = self.edge_keys.get_index(number as usize) else {
+        let Some(known) = self.edges.get(number as usize) else {
             return None;
         };
-        if *known == key {
+        if known.key == key {
             Some(EdgeId(number))
         } else {
             None
         }
     }
 
-    // The number of an edge, and whether it is a new one.
-    fn edge_number(&mut self, key: EdgeKey) -> Result<(EdgeId, bool), NoMemory>
-        ensures keys { OnOk result (self.new ≡ record {
-          keys = record { edges = insert_key same_edge self.old.keys.edges key; vertices = self.old.keys.vertices };
-          edges = self.old.edges;
+    // Puts an edge that is new at the end.
+    fn put_edge(&mut self, edge: Edge) -> Result<EdgeId, NoMemory>
+        requires { list_any (same_edge edge.key) self.old.keys.edges ≡ false }
+        ensures put { OnOk result (self.new ≡ record {
+          keys = record { edges = insert_key same_edge self.old.keys.edges edge.key; vertices = self.old.keys.vertices };
+          edges = self.old.edges ++ edge ∷ [];
         }) }
-        ensures id { IfOk result (λ r. r.0.0 ≡ place_of same_edge self.new.keys.edges key) }
-        ensures added { IfOk result (λ r. r.1 ≡ not
-            (list_any (same_edge key) self.old.keys.edges)) }
+        ensures id { IfOk result (λ id. id.0 ≡ place_of same_edge self.new.keys.edges edge.key) }
     {
-        if let Some(id) = self.known_edge(key) {
-            return Ok((id, false));
-        }
-        let number = end_position(self.edge_keys.len())?;
-        self.edge_slots.set(key.list, key.index, number)?;
-        put(&mut self.edge_keys, number, key)?;
-        Ok((EdgeId(number), true))
+        let number = end_position(self.edges.len())?;
+        self.edge_slots.set(edge.key.list, edge.key.index, number)?;
+        self.edges.push(edge)?;
+        Ok(EdgeId(number))
     }
 
-    /// The number of an edge. Where it didn't appear before it is the next one, and the edge goes from the one vertex to
-    /// the other.
-    pub fn edge(&mut self, key: EdgeKey, from: VertexKey, to: VertexKey) -> Result<EdgeId, NoMemory>
+    /// The number of an edge that didn't appear before, which is the next one. The edge goes from the one vertex to the
+    /// other.
+    pub fn new_edge(
+        &mut self,
+        key: EdgeKey,
+        from: VertexKey,
+        to: VertexKey,
+    ) -> Result<EdgeId, NoMemory>
+        requires { list_any (same_edge key) self.old.keys.edges ≡ false }
         ensures keys { OnOk result (self.new.keys ≡ record {
           edges = insert_key same_edge self.old.keys.edges key;
           vertices = insert_key same_vertex (insert_key same_vertex self.old.keys.vertices from) to;
@@ -152,22 +134,15 @@ impl Numbering {
     {
         let from = self.vertex(from)?;
         let to = self.vertex(to)?;
-        let (id, is_new) = self.edge_number(key)?;
-        if is_new {
-            self.edges.push(Edge { key, from, to })?;
-        }
-        Ok(id)
+        self.put_edge(Edge { key, from, to })
     }
 
-    /// The vertices, by number.
-    pub fn vertices(&self, alloc: Global) -> Result<Vertices, NoMemory>
-        ensures { IfOk result (λ vertices. vertices ≡ self.now.keys.vertices) }
+    /// The vertices, by number. None are left.
+    pub fn take_vertices(&mut self, alloc: Global) -> Vertices
+        ensures vertices { result ≡ self.old.keys.vertices }
+        ensures edges { self.new.edges ≡ self.old.edges }
     {
-        let mut vertices = Vertices::with_room(alloc, self.vertex_keys.len())?;
-        'keys: for key in self.vertex_keys.values() {
-            vertices.push(*key)?;
-        }
-        Ok(vertices)
+        replace(&mut self.vertices, Vertices::new(alloc))
     }
 
     /// The edges, by number. None are left.
@@ -181,8 +156,7 @@ impl Numbering {
     pub fn restart(&mut self, alloc: Global)
         ensures { self.new ≡ record { keys = record { edges = []; vertices = [] }; edges = [] } }
     {
-        self.edge_keys = IndexMap::new(alloc);
         self.edges = Edges::new(alloc);
-        self.vertex_keys = IndexMap::new(alloc);
+        self.vertices = Vertices::new(alloc);
     }
 }
