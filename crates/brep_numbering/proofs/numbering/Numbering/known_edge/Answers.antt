@@ -2,40 +2,36 @@ use Rattle.std.proofs.Common.{◌∙◌, ap, sym, slice_get}
 use Rattle.std.specs.List.{list_any}
 use Rattle.solid_data.specs.Ring.{place_of}
 use Rattle.solid_data.specs.SolidData.{same_edge}
-use Rattle.brep_numbering.specs.Keyed.{edge_slot, keys_of}
+use Rattle.brep_numbering.specs.Keyed.{edge_slot}
 use Rattle.brep_numbering.specs.Numbered.{Numbered}
-use Rattle.brep_numbering.proofs.KeyedKeys.{is_known, known_place, other_key, no_key, key_at, no_key_at}
+use Rattle.brep_numbering.proofs.KeyedKeys.{is_known, known_place, other_key, no_key}
 use Rattle.brep_numbering.proofs.SameKeys.{edge_sound, edge_itself}
 use Rattle.brep_numbering.proofs.numbering.Numbering.known_edge.Goals as goal
 
 pub returns-then-eq-clause-found : goal.returns-then-eq-clause-found
 returns-then-eq-clause-found c =
-    is_known same_edge edge_sound edge_itself (edge_slot c.self.inside.edge_slots) (keys_of c.self.inside.edges) c.self.invariant.0 c.args.key
-    c.in-Some.known.now.key
-    (ap (slice_get (keys_of c.self.inside.edges)) (sym c.get-number.ensures)
-    ∙ key_at c.self.inside.edges c.get-number.result c.in-Some.known.now (sym c.in-Some.ensures.item)) (sym c.if-eq.ensures)
+    is_known same_edge edge_sound edge_itself (edge_slot c.self.inside.edge_slots) c.self.inside.edge_keys.entries c.self.invariant.0 c.args.key
+    (c.in-Some.field-0-0.now, c.in-Some.known.now)
+    (ap (slice_get c.self.inside.edge_keys.entries) (sym c.get-number.ensures) ∙ sym c.in-Some.ensures.entry) (sym c.if-eq.ensures)
     ∙ ap (λ (n : Numbered). list_any (same_edge c.args.key) n.keys.edges) c.self.view_is
 
 pub returns-then-eq-clause-id : goal.returns-then-eq-clause-id
 returns-then-eq-clause-id c =
     c.get-number.ensures
-    ∙ (known_place same_edge edge_sound edge_itself (edge_slot c.self.inside.edge_slots) (keys_of c.self.inside.edges) c.self.invariant.0 c.args.key
-    c.in-Some.known.now.key
-    (ap (slice_get (keys_of c.self.inside.edges)) (sym c.get-number.ensures)
-    ∙ key_at c.self.inside.edges c.get-number.result c.in-Some.known.now (sym c.in-Some.ensures.item)) (sym c.if-eq.ensures)
+    ∙ (known_place same_edge edge_sound edge_itself (edge_slot c.self.inside.edge_slots) c.self.inside.edge_keys.entries c.self.invariant.0 c.args.key
+    (c.in-Some.field-0-0.now, c.in-Some.known.now)
+    (ap (slice_get c.self.inside.edge_keys.entries) (sym c.get-number.ensures) ∙ sym c.in-Some.ensures.entry) (sym c.if-eq.ensures)
     ∙ ap (λ (n : Numbered). place_of same_edge n.keys.edges c.args.key) c.self.view_is)
 
 pub returns-else-eq-clause-found : goal.returns-else-eq-clause-found
 returns-else-eq-clause-found c =
-    other_key same_edge edge_sound edge_itself (edge_slot c.self.inside.edge_slots) (keys_of c.self.inside.edges) c.self.invariant.0 c.args.key
-    c.in-Some.known.now.key
-    (ap (slice_get (keys_of c.self.inside.edges)) (sym c.get-number.ensures)
-    ∙ key_at c.self.inside.edges c.get-number.result c.in-Some.known.now (sym c.in-Some.ensures.item)) (sym c.if-eq.ensures)
+    other_key same_edge edge_sound edge_itself (edge_slot c.self.inside.edge_slots) c.self.inside.edge_keys.entries c.self.invariant.0 c.args.key
+    (c.in-Some.field-0-0.now, c.in-Some.known.now)
+    (ap (slice_get c.self.inside.edge_keys.entries) (sym c.get-number.ensures) ∙ sym c.in-Some.ensures.entry) (sym c.if-eq.ensures)
     ∙ ap (λ (n : Numbered). list_any (same_edge c.args.key) n.keys.edges) c.self.view_is
 
 pub returns-in_default-clause-found : goal.returns-in_default-clause-found
 returns-in_default-clause-found c =
-    no_key same_edge edge_sound edge_itself (edge_slot c.self.inside.edge_slots) (keys_of c.self.inside.edges) c.self.invariant.0 c.args.key
-    (ap (slice_get (keys_of c.self.inside.edges)) (sym c.get-number.ensures)
-    ∙ no_key_at c.self.inside.edges c.get-number.result (sym c.in_default.ensures.item))
+    no_key same_edge edge_sound edge_itself (edge_slot c.self.inside.edge_slots) c.self.inside.edge_keys.entries c.self.invariant.0 c.args.key
+    (ap (slice_get c.self.inside.edge_keys.entries) (sym c.get-number.ensures) ∙ sym c.in_default.ensures.entry)
     ∙ ap (λ (n : Numbered). list_any (same_edge c.args.key) n.keys.edges) c.self.view_is

@@ -1,4 +1,3 @@
-use Rattle.std.proofs.Common.{◌≡◌, ◌∙◌, ◌++◌, ◌∷◌, [], ap}
 use Rattle.brep_numbering.proofs.KeyPlaces.{edge_put}
 use Rattle.brep_numbering.proofs.numbering.Numbering.new_edge.Goals as goal
 
