@@ -1,11 +1,10 @@
 -- Keys that are put at the end where they are new, and their places.
-use Rattle.std.specs.Prelude.{◌≡◌, ℕ, suc, ◌||◌, Bool, true, false, not, List, [], ◌∷◌, ◌++◌, if◌then◌else◌}
+use Rattle.std.specs.Prelude.{◌≡◌, ℕ, suc, ◌||◌, Bool, true, false, List, [], ◌∷◌, ◌++◌, Result, Ok, Err, OnOk, if◌then◌else◌}
 use Rattle.std.specs.List.{list_any}
 use Rattle.std.proofs.Common.{refl, sym, ◌∙◌, ap, append_assoc}
 use Rattle.std.proofs.lemmas.List.{append-nil}
 use Rattle.indexmap.specs.IndexSet.{insert_key, insert_all}
 use Rattle.solid_data.specs.Ring.{place_of}
-use Rattle.solid_data.specs.declared.solid.Edge.{Edge}
 use Rattle.solid_data.specs.declared.solid.EdgeKey.{EdgeKey}
 use Rattle.solid_data.specs.declared.solid.VertexId.{VertexId}
 use Rattle.solid_data.specs.declared.solid.VertexKey.{VertexKey}
@@ -81,36 +80,42 @@ module _ {A : Type 0} (same : A → A → Bool) where
   insert_all-append ks [] ys = refl
   insert_all-append ks (x ∷ xs) ys = insert_all-append (insert_key same ks x) xs ys
 
--- an edge that is new goes last
-edge_pushed : (old new : List Edge) (key : EdgeKey) (from to : VertexId) (i j : ℕ) (any is_new : Bool) → is_new ≡ not any → is_new ≡ true → from.0 ≡ i →
-    to.0 ≡ j
-    → new ≡ old ++ record { key = key; from = from; to = to } ∷ []
-    → new ≡ (if any then old else old ++ record { key = key; from = record { 0 = i }; to = record { 0 = j } } ∷ [])
-edge_pushed old new key from to i j true is_new added fresh a b is = absurd (let g : true ≡ false = sym fresh ∙ added in cc)
-edge_pushed old new key from to i j false is_new added fresh a b is =
-    is ∙ (ap (λ n. old ++ record { key = key; from = record { 0 = n }; to = to } ∷ []) a
-    ∙ ap (λ n. old ++ record { key = key; from = record { 0 = i }; to = record { 0 = n } } ∷ []) b)
-
--- with its vertices numbered one after the other; s3 is what the edge was pushed to
-pub edge_numbered : (s0 s1 s2 s3 : Numbered) (pushed : List Edge) (key : EdgeKey) (start end : VertexKey) (from to : VertexId) (is_new : Bool)
+-- An edge that is new goes last, with its vertices numbered one after the other.
+pub edge_put : (s0 s1 s2 s3 : Numbered) (key : EdgeKey) (start end : VertexKey) (from to : VertexId) {T E : Type 0} (r : Result T E)
+    → list_any (same_edge key) s0.keys.edges ≡ false
     → s1 ≡ record { keys = record { edges = s0.keys.edges; vertices = insert_key same_vertex s0.keys.vertices start }; edges = s0.edges }
     → from.0 ≡ place_of same_vertex s1.keys.vertices start
     → s2 ≡ record { keys = record { edges = s1.keys.edges; vertices = insert_key same_vertex s1.keys.vertices end }; edges = s1.edges }
     → to.0 ≡ place_of same_vertex s2.keys.vertices end
-    → is_new ≡ not (list_any (same_edge key) s2.keys.edges) → is_new ≡ true → s3.keys.vertices ≡ s2.keys.vertices → s3.edges ≡ s2.edges
-    → pushed ≡ s3.edges ++ record { key = key; from = from; to = to } ∷ []
-    → pushed ≡ (if list_any (same_edge key) s0.keys.edges then s0.edges else s0.edges ++ record {
+    → OnOk r (s3 ≡ record {
+      keys = record { edges = insert_key same_edge s2.keys.edges key; vertices = s2.keys.vertices };
+      edges = s2.edges ++ record { key = key; from = from; to = to } ∷ [];
+    })
+    → OnOk r (s3.edges ≡ (if list_any (same_edge key) s0.keys.edges then s0.edges else s0.edges ++ record {
       key = key;
       from = record { 0 = place_of same_vertex s3.keys.vertices start };
       to = record { 0 = place_of same_vertex s3.keys.vertices end };
-    } ∷ [])
-edge_numbered s0 s1 s2 s3 pushed key start end from to is_new first i second j added fresh third_vertices third_edges is =
-    let edges : s3.edges ≡ s0.edges = third_edges ∙ (ap (λ (s : Numbered). s.edges) second ∙ ap (λ (s : Numbered). s.edges) first) in
-    let keys : s2.keys.edges ≡ s0.keys.edges = ap (λ (s : Numbered). s.keys.edges) second ∙ ap (λ (s : Numbered). s.keys.edges) first in
-    let still : from.0 ≡ place_of same_vertex s3.keys.vertices start =
-    numbered_still same_vertex vertex_itself s0.keys.vertices s1.keys.vertices s2.keys.vertices start end from.0
-    (ap (λ (s : Numbered). s.keys.vertices) first) (ap (λ (s : Numbered). s.keys.vertices) second) i ∙ ap (λ ks. place_of same_vertex ks start)
-    (sym third_vertices) in
-    edge_pushed s0.edges pushed key from to _ _ (list_any (same_edge key) s0.keys.edges) is_new
-    (added ∙ ap (λ ks. not (list_any (same_edge key) ks)) keys) fresh still (j ∙ ap (λ ks. place_of same_vertex ks end) (sym third_vertices))
-    (is ∙ ap (λ es. es ++ record { key = key; from = from; to = to } ∷ []) edges)
+    } ∷ []))
+edge_put s0 s1 s2 s3 key start end from to (Err e) fresh first i second j put = tt
+edge_put s0 s1 s2 s3 key start end from to (Ok t) fresh first i second j put =
+    ap (λ (s : Numbered). s.edges) put
+    ∙ (ap (λ es. es ++ record { key = key; from = from; to = to } ∷ []) before
+    ∙ (ap (λ n. s0.edges ++ record { key = key; from = record { 0 = n }; to = to } ∷ []) still
+    ∙ (ap (λ n. s0.edges ++ record { key = key; from = record { 0 = place_of same_vertex s3.keys.vertices start }; to = record { 0 = n } } ∷ [])
+    (j ∙ ap (λ ks. place_of same_vertex ks end) (sym vertices))
+    ∙ sym (ap (λ b. if b then s0.edges else s0.edges ++ record {
+      key = key;
+      from = record { 0 = place_of same_vertex s3.keys.vertices start };
+      to = record { 0 = place_of same_vertex s3.keys.vertices end };
+    } ∷ []) fresh))))
+  where
+    before : s2.edges ≡ s0.edges
+    before = ap (λ (s : Numbered). s.edges) second ∙ ap (λ (s : Numbered). s.edges) first
+
+    vertices : s3.keys.vertices ≡ s2.keys.vertices
+    vertices = ap (λ (s : Numbered). s.keys.vertices) put
+
+    still : from.0 ≡ place_of same_vertex s3.keys.vertices start
+    still = numbered_still same_vertex vertex_itself s0.keys.vertices s1.keys.vertices s2.keys.vertices start end from.0
+        (ap (λ (s : Numbered). s.keys.vertices) first) (ap (λ (s : Numbered). s.keys.vertices) second) i
+        ∙ ap (λ ks. place_of same_vertex ks start) (sym vertices)

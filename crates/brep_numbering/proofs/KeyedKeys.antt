@@ -116,7 +116,7 @@ module _ {K : Type 0} (same : K → K → Bool) (sound : (a b : K) → same a b 
           sym (ap (λ (x : ℕ × K). after x.1) end.1) ∙ (here ∙ (last ∙ sym end.0)),
         )) (get_pushed es (n, k) e i (ap (λ l. slice_get l i) (sym pushed) ∙ at))
 
-        keys_pushed : values_of new ≡ values_of es ++ k ∷ []
+        pub keys_pushed : values_of new ≡ values_of es ++ k ∷ []
         keys_pushed = ap values_of pushed ∙ map-append (λ (x : ℕ × K). x.1) es ((n, k) ∷ [])
 
         pub keys_more : values_of new ≡ insert_key same (values_of es) k

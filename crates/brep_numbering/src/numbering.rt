@@ -1,15 +1,15 @@
 //! Edges and vertices by number.
 
-ghost use Rattle.std.specs.Prelude.{◌≡◌, ◌∷◌, ◌++◌, [], not, nat_eq, IfSome, IfOk, OnOk, OnErr, is_some, if◌then◌else◌};
+ghost use Rattle.std.specs.Prelude.{◌≡◌, ◌∷◌, ◌++◌, [], false, nat_eq, IfSome, IfOk, OnOk, OnErr, is_some, if◌then◌else◌};
 ghost use Rattle.std.specs.List.{list_any};
-ghost use Rattle.indexmap.specs.IndexMap.{values, insert_entry};
+ghost use Rattle.indexmap.specs.IndexMap.{insert_entry};
 ghost use Rattle.indexmap.specs.IndexSet.{insert_key};
 ghost use Rattle.solid_data.specs.Ring.{place_of};
 ghost use Rattle.solid_data.specs.SolidData.{same_edge, same_vertex};
 
 use crate::positions::end_position;
 use crate::slots::ItemSlots;
-use iges_base::NoMemory;
+use iges_base::{ItemList, NoMemory};
 use indexmap::IndexMap;
 use solid_data::{Edge, EdgeId, EdgeKey, Edges, VertexId, VertexKey, Vertices};
 use std::alloc::Global;
@@ -18,6 +18,7 @@ use std::mem::replace;
 
 /// The edges and the vertices that were used so far, each numbered from 0 in the order of first appearance. The
 /// maps are keyed by the numbers, and the number of a key is found by its slot, so no file can choose what is hashed.
+/// The lists are what a solid takes.
 #[derive(Drop)]
 pub struct Numbering {
     edge_keys: IndexMap<u32, EdgeKey>,
@@ -25,10 +26,11 @@ pub struct Numbering {
     edges: Edges,
     vertex_keys: IndexMap<u32, VertexKey>,
     vertex_slots: ItemSlots,
+    vertices: Vertices,
 }
 
 impl Model for Numbering {
-    ghost use Rattle.std.specs.Prelude.{ℕ};
+    ghost use Rattle.std.specs.Prelude.{◌≡◌, ℕ};
     ghost use Rattle.indexmap.specs.IndexMap.{values};
     ghost use Rattle.brep_numbering.specs.Keyed.{AreKeyed, edge_slot, vertex_slot};
     ghost use Rattle.brep_numbering.specs.Numbered.{Numbered};
@@ -37,7 +39,8 @@ impl Model for Numbering {
 
     ghost view = { λ n. record { keys = record { edges = values n.edge_keys; vertices = values n.vertex_keys }; edges = n.edges } };
 
-    ghost invariant = { λ n. AreKeyed (edge_slot n.edge_slots) n.edge_keys.entries × AreKeyed (vertex_slot n.vertex_slots) n.vertex_keys.entries };
+    ghost invariant = { λ n. AreKeyed (edge_slot n.edge_slots) n.edge_keys.entries × AreKeyed (vertex_slot n.vertex_slots) n.vertex_keys.entries
+        × (values n.vertex_keys ≡ n.vertices) };
 }
 
 // Puts a key at a number. Room is made fourfold, since each time that it is made the table is filled anew.
@@ -54,6 +57,30 @@ fn put<K: Drop>(map: &mut IndexMap<u32, K>, number: u32, key: K) -> Result<(), N
     Ok(())
 }
 
+// Puts a key at a number, and the item that it is the key of at the end of the list. Where memory runs out, both stay as
+// they were.
+fn put_both<K: Drop, T: Drop>(
+    map: &mut IndexMap<u32, K>,
+    list: &mut ItemList<T>,
+    number: u32,
+    key: K,
+    item: T,
+) -> Result<(), NoMemory>
+    ensures entries { OnOk result (map.new.entries
+        ≡ insert_entry nat_eq map.old.entries number key) }
+    ensures list { OnOk result (list.new ≡ list.old ++ item ∷ []) }
+    ensures err { OnErr result (map.new.entries ≡ map.old.entries) }
+    ensures list_err { OnErr result (list.new ≡ list.old) }
+{
+    let len = list.len();
+    list.push(item)?;
+    if let Err(error) = put(map, number, key) {
+        list.truncate(len);
+        return Err(error);
+    }
+    Ok(())
+}
+
 impl Numbering {
     /// The numbers where no edge and no vertex was used yet.
     pub fn new(alloc: Global) -> Numbering
@@ -65,6 +92,7 @@ impl Numbering {
             edges: Edges::new(alloc),
             vertex_keys: IndexMap::new(alloc),
             vertex_slots: ItemSlots::new(alloc),
+            vertices: Vertices::new(alloc),
         }
     }
 
@@ -97,7 +125,7 @@ impl Numbering {
         }
         let number = end_position(self.vertex_keys.len())?;
         self.vertex_slots.set(key.list, key.index, number)?;
-        put(&mut self.vertex_keys, number, key)?;
+        put_both(&mut self.vertex_keys, &mut self.vertices, number, key, key)?;
         Ok(VertexId(number))
     }
 
@@ -117,28 +145,30 @@ impl Numbering {
         }
     }
 
-    // The number of an edge, and whether it is a new one.
-    fn edge_number(&mut self, key: EdgeKey) -> Result<(EdgeId, bool), NoMemory>
-        ensures keys { OnOk result (self.new ≡ record {
-          keys = record { edges = insert_key same_edge self.old.keys.edges key; vertices = self.old.keys.vertices };
-          edges = self.old.edges;
+    // Puts an edge that is new at the end.
+    fn put_edge(&mut self, edge: Edge) -> Result<EdgeId, NoMemory>
+        requires { list_any (same_edge edge.key) self.old.keys.edges ≡ false }
+        ensures put { OnOk result (self.new ≡ record {
+          keys = record { edges = insert_key same_edge self.old.keys.edges edge.key; vertices = self.old.keys.vertices };
+          edges = self.old.edges ++ edge ∷ [];
         }) }
-        ensures id { IfOk result (λ r. r.0.0 ≡ place_of same_edge self.new.keys.edges key) }
-        ensures added { IfOk result (λ r. r.1 ≡ not
-            (list_any (same_edge key) self.old.keys.edges)) }
+        ensures id { IfOk result (λ id. id.0 ≡ place_of same_edge self.new.keys.edges edge.key) }
     {
-        if let Some(id) = self.known_edge(key) {
-            return Ok((id, false));
-        }
         let number = end_position(self.edge_keys.len())?;
-        self.edge_slots.set(key.list, key.index, number)?;
-        put(&mut self.edge_keys, number, key)?;
-        Ok((EdgeId(number), true))
+        self.edge_slots.set(edge.key.list, edge.key.index, number)?;
+        put_both(&mut self.edge_keys, &mut self.edges, number, edge.key, edge)?;
+        Ok(EdgeId(number))
     }
 
-    /// The number of an edge. Where it didn't appear before it is the next one, and the edge goes from the one vertex to
-    /// the other.
-    pub fn edge(&mut self, key: EdgeKey, from: VertexKey, to: VertexKey) -> Result<EdgeId, NoMemory>
+    /// The number of an edge that didn't appear before, which is the next one. The edge goes from the one vertex to the
+    /// other.
+    pub fn new_edge(
+        &mut self,
+        key: EdgeKey,
+        from: VertexKey,
+        to: VertexKey,
+    ) -> Result<EdgeId, NoMemory>
+        requires { list_any (same_edge key) self.old.keys.edges ≡ false }
         ensures keys { OnOk result (self.new.keys ≡ record {
           edges = insert_key same_edge self.old.keys.edges key;
           vertices = insert_key same_vertex (insert_key same_vertex self.old.keys.vertices from) to;
@@ -152,28 +182,23 @@ impl Numbering {
     {
         let from = self.vertex(from)?;
         let to = self.vertex(to)?;
-        let (id, is_new) = self.edge_number(key)?;
-        if is_new {
-            self.edges.push(Edge { key, from, to })?;
-        }
-        Ok(id)
+        self.put_edge(Edge { key, from, to })
     }
 
-    /// The vertices, by number.
-    pub fn vertices(&self, alloc: Global) -> Result<Vertices, NoMemory>
-        ensures { IfOk result (λ vertices. vertices ≡ self.now.keys.vertices) }
+    /// The vertices, by number. None are left.
+    pub fn take_vertices(&mut self, alloc: Global) -> Vertices
+        ensures vertices { result ≡ self.old.keys.vertices }
+        ensures edges { self.new.edges ≡ self.old.edges }
     {
-        let mut vertices = Vertices::with_room(alloc, self.vertex_keys.len())?;
-        'keys: for key in self.vertex_keys.values() {
-            vertices.push(*key)?;
-        }
-        Ok(vertices)
+        self.vertex_keys = IndexMap::new(alloc);
+        replace(&mut self.vertices, Vertices::new(alloc))
     }
 
     /// The edges, by number. None are left.
     pub fn take_edges(&mut self, alloc: Global) -> Edges
         ensures { result ≡ self.old.edges }
     {
+        self.edge_keys = IndexMap::new(alloc);
         replace(&mut self.edges, Edges::new(alloc))
     }
 
@@ -184,5 +209,6 @@ impl Numbering {
         self.edge_keys = IndexMap::new(alloc);
         self.edges = Edges::new(alloc);
         self.vertex_keys = IndexMap::new(alloc);
+        self.vertices = Vertices::new(alloc);
     }
 }
