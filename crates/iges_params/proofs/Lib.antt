@@ -18,3 +18,6 @@ pub mod FileExact
 pub mod FilePass
 pub mod Copies
 mod Pointers
+pub mod PairedLists
+pub mod Needs
+pub mod Emptied

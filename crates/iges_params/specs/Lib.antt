@@ -11,3 +11,5 @@ pub mod Reading
 pub mod Heads
 pub mod Parts
 pub mod Begun
+pub mod Paired
+pub mod FromLast

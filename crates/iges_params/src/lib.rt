@@ -2,6 +2,7 @@
 #![tactic(auto)]
 
 mod copying;
+mod entry_list;
 mod fault;
 mod file;
 mod global;
@@ -14,6 +15,7 @@ mod passage;
 mod pointer;
 mod reading;
 mod record;
+mod records_read;
 mod solids;
 
 pub use copying::{begun, copied_values, push_copies};
