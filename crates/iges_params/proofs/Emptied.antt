@@ -9,7 +9,7 @@ use Rattle.iges_directory.specs.declared.entry.Entry.{Entry}
 use Rattle.iges_fields.specs.declared.value.Value.{Value}
 use Rattle.iges_params.specs.Contents.{Contents, value_count}
 use Rattle.iges_params.specs.Made.{IsMade, IsMadeEntry}
-use Rattle.iges_params.specs.Paired.{Pairs}
+use Rattle.iges_directory.specs.Paired.{Pairs}
 
 abbrev entry_of : Entry × List Value → Entry
 entry_of e = e.0

@@ -27,7 +27,7 @@ use Rattle.iges_params.specs.declared.records_read.RecordsRead.{RecordsRead}
 use Rattle.iges_params.specs.FromLast.{LieWithin, IsReading, AreRead, IsPut}
 use Rattle.iges_params.specs.Limits.{FitsLimits}
 use Rattle.iges_params.specs.Made.{IsMadeEntry}
-use Rattle.iges_params.specs.Paired.{Pairs, paired}
+use Rattle.iges_directory.specs.Paired.{Pairs, paired}
 use Rattle.iges_params.specs.Records.{HasRecord, IsRecord, AreRecords}
 use Rattle.iges_params.specs.Reading.{read_record, read_records, read_entries, with_entries}
 use Rattle.iges_params.proofs.Owned.{owned, all_owned, all_owned-few, record_few}
@@ -55,8 +55,8 @@ good_step : (p : Placed) (ps here : List Placed) → here ≡ p ∷ ps → (valu
 good_step p ps here e values more None others now n h = (
   omega (arith, h.0, length-append more (values ∷ []), ap length e),
   n ∙ ap (λ (r : Result Pairs LineFault). r >>= behind p values) h.1
-  ∙ sym (ap (λ (l : List Placed). Ok (paired l (reverse (more ++ values ∷ [])))) e ∙ ap (λ (l : List (List Value)). Ok (paired (p ∷ ps) l))
-  (reverse-append more (values ∷ []))),
+      ∙ sym (ap (λ (l : List Placed). Ok (paired l (reverse (more ++ values ∷ [])))) e ∙ ap (λ (l : List (List Value)). Ok (paired (p ∷ ps) l))
+      (reverse-append more (values ∷ []))),
 )
 good_step p ps here e values more (Some fault) others now n h = n ∙ ap (λ (r : Result Pairs LineFault). r >>= behind p values) h
 

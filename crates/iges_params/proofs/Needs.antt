@@ -43,5 +43,5 @@ pub front_less : (k : ℕ) (front all new : List (List ℕ)) → IsFront front a
 front_less k front all new h e = (
   drop k front ++ h.0,
   h.1 ∙ ap (λ (l : List (List ℕ)). l ++ h.0) (sym (take-append-drop k front)) ∙ append_assoc (take k front) (drop k front) h.0
-  ∙ ap (λ (l : List (List ℕ)). l ++ (drop k front ++ h.0)) (sym e),
+      ∙ ap (λ (l : List (List ℕ)). l ++ (drop k front ++ h.0)) (sym e),
 )

@@ -10,7 +10,7 @@ use Rattle.iges_directory.specs.declared.entry.Placed.{Placed}
 use Rattle.iges_directory.specs.Entries.{has_record}
 use Rattle.iges_params.specs.declared.records_read.RecordsRead.{RecordsRead}
 use Rattle.iges_params.specs.Contents.{Contents}
-use Rattle.iges_params.specs.Paired.{Pairs, paired}
+use Rattle.iges_directory.specs.Paired.{Pairs, paired}
 use Rattle.iges_params.specs.Reading.{read_records}
 
 -- the records of the first entries lie among n P lines

@@ -14,10 +14,9 @@ ghost use Rattle.std.specs.Prelude.{◌≡◌, ◌+◌, ◌<◌, ◌≤◌, [], 
 
 mod taking;
 
-use crate::entry_list::EntryList;
 use crate::global::Global26;
 use iges_base::{EntryNo, FILE_LIMIT, NoMemory};
-use iges_directory::Entry;
+use iges_directory::{Entry, EntryList};
 use iges_fields::Values;
 use std::alloc::Global;
 use std::marker::Model;

@@ -2,7 +2,6 @@
 #![tactic(auto)]
 
 mod copying;
-mod entry_list;
 mod fault;
 mod file;
 mod global;

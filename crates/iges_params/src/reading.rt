@@ -17,7 +17,6 @@ ghost use Rattle.iges_params.specs.Reading.{read_entries, read_lines};
 ghost use Rattle.iges_params.specs.Refusal.{Refusal};
 ghost use Rattle.std.specs.Prelude.{◌≡◌, ◌+◌, ◌*◌, ◌≤◌, [], List, MatchResult, Some, IfOk, IsTrue, ℕ, length, map, slice_get};
 
-use crate::entry_list::EntryList;
 use crate::fault::ReadFileFault;
 use crate::file::File;
 use crate::global::Global26;
@@ -25,7 +24,7 @@ use crate::global_pass::read_global;
 use crate::record::{Params, lines_above};
 use crate::records_read::{RecordsRead, read_and_give_back, read_records};
 use iges_base::{FILE_LIMIT, NoMemory};
-use iges_directory::{Directory, directory};
+use iges_directory::{Directory, EntryList, directory};
 use iges_lines::{PassFault, Sections, columns, sections};
 use std::alloc::Global;
 

@@ -193,8 +193,13 @@ fn used_values(
         first,
         width: 64,
     };
-    let (number, others) =
-        parted_passage(alloc, &passage, params.delims, Reason::RecordValue, spare)?;
+    let (number, others) = parted_passage(
+        alloc,
+        &passage,
+        params.delims,
+        Reason::RecordValue,
+        spare,
+    )?;
     behind_type(first, &placed.entry.kind, &number, others)
 }
 

@@ -64,35 +64,6 @@ impl RecordsRead {
         }
     }
 
-    // Reads the record of the last entry that is left.
-    fn read_next(
-        &mut self,
-        alloc: Global,
-        params: &Params<'_>,
-        entries: &Directory,
-    ) -> Result<(), NoMemory>
-        requires some { 0 < self.old.left }
-        requires entries { self.old.left ≤ length entries.now }
-        requires permitted { IsTrue (are_permitted params.now.delims) }
-        requires few { 80 * (params.now.above + length params.now.lines.now.param) ≤ FILE_LIMIT }
-        requires records { LieWithin (length params.now.lines.now.param) self.old.left entries.now }
-        requires spare_empty { self.old.spare ≡ [] }
-        ensures left { OnOk result (self.new.left + 1 ≡ self.old.left) }
-        ensures spare_empty { OnOk result (self.new.spare ≡ []) }
-        ensures read { OnOk result ((all : List (List ℕ)) → IsFront params.now.lines.now.param all
-            → AreRead params.now.above all params.now.delims entries.now self.old
-            → AreRead params.now.above all params.now.delims entries.now self.new) }
-    {
-        let count = entries.count();
-        prove!(self.left <= count);
-        let place = self.left - 1;
-        let placed = entries.placed_at(place).unwrap();
-        let number = 2 * place + 1;
-        let answer = read_record(alloc, params, number, placed, &mut self.text, &mut self.spare);
-        self.left = place;
-        self.put(answer)
-    }
-
     // Reads the records of the entries from this place on that are left.
     fn read_down(
         &mut self,
@@ -113,8 +84,22 @@ impl RecordsRead {
             → AreRead params.now.above all params.now.delims entries.now self.old
             → AreRead params.now.above all params.now.delims entries.now self.new) }
     {
+        let count = entries.count();
         'entries: while self.left > from {
-            self.read_next(alloc, params, entries)?;
+            prove!(self.left <= count);
+            let place = self.left - 1;
+            let placed = entries.placed_at(place).unwrap();
+            let number = 2 * place + 1;
+            let answer = read_record(
+                alloc,
+                params,
+                number,
+                placed,
+                &mut self.text,
+                &mut self.spare,
+            );
+            self.left = place;
+            self.put(answer)?;
         }
         Ok(())
     }

@@ -4,7 +4,7 @@ use Rattle.iges_fields.specs.declared.value.Value.{Value}
 use Rattle.iges_directory.specs.declared.entry.Placed.{Placed}
 use Rattle.iges_params.specs.Contents.{Contents}
 use Rattle.iges_params.specs.Made.{IsMadeEntry}
-use Rattle.iges_params.specs.Paired.{Pairs, paired}
+use Rattle.iges_directory.specs.Paired.{Pairs, paired}
 use Rattle.iges_params.proofs.Answers.{done}
 use Rattle.iges_params.proofs.EntryPass.{each_made, within_limits, file_read}
 use Rattle.iges_params.proofs.reading.filled.Goals as goal

@@ -1,11 +1,11 @@
 //! The entries of a file, each with the values of its record.
 
 ghost use Rattle.iges_directory.specs.declared.entry.Entry.{Entry as OneEntry};
-ghost use Rattle.iges_params.specs.Paired.{paired};
+ghost use Rattle.iges_directory.specs.Paired.{paired};
 ghost use Rattle.std.specs.Prelude.{◌≡◌, ◌<◌, ◌↔◌, [], ◌∷◌, ◌++◌, Some, IsSome, OnOk, OnErr, length, option_copied, option_map, set, slice_get};
 
+use crate::entry::{Entry, Placed};
 use iges_base::NoMemory;
-use iges_directory::{Entry, Placed};
 use iges_fields::Values;
 use std::alloc::Global;
 use std::marker::Model;
@@ -20,7 +20,7 @@ pub struct EntryList {
 }
 
 impl Model for EntryList {
-    ghost use Rattle.iges_params.specs.Paired.{Pairs, paired};
+    ghost use Rattle.iges_directory.specs.Paired.{Pairs, paired};
     ghost use Rattle.std.specs.Prelude.{◌≡◌, length};
 
     ghost Value = { Pairs };

@@ -5,7 +5,7 @@ use Rattle.std.proofs.lemmas.Option.{same_Some, slice_get-get_or, slice_get_case
 use Rattle.iges_fields.specs.declared.value.Value.{Value}
 use Rattle.iges_directory.specs.declared.entry.Entry.{Entry}
 use Rattle.iges_directory.specs.declared.entry.Placed.{Placed}
-use Rattle.iges_params.specs.Paired.{Pairs, paired}
+use Rattle.iges_directory.specs.Paired.{Pairs, paired}
 
 abbrev Lists : Type 0
 Lists = List (List Value)

@@ -3,9 +3,9 @@ use Rattle.std.specs.Prelude.{option_map, set, slice_get}
 use Rattle.std.proofs.lemmas.Option.{slice_get-get_or}
 use Rattle.iges_fields.specs.declared.value.Value.{Value}
 use Rattle.iges_directory.specs.declared.entry.Entry.{Entry}
-use Rattle.iges_params.specs.Paired.{Pairs, paired}
-use Rattle.iges_params.proofs.PairedLists.{paired_count, paired_set, values_at}
-use Rattle.iges_params.proofs.entry_list.EntryList.take_values.Goals as goal
+use Rattle.iges_directory.specs.Paired.{Pairs, paired}
+use Rattle.iges_directory.proofs.PairedLists.{paired_count, paired_set, values_at}
+use Rattle.iges_directory.proofs.entry_list.EntryList.take_values.Goals as goal
 
 pub index_mut-requires : goal.index_mut-requires
 index_mut-requires c =
