@@ -1,16 +1,15 @@
 -- The pass over the records, from the last to the first: its steps, and the file of what was read.
 use Rattle.std.proofs.Common.{◌≡◌, ℕ, zero, suc, ◌+◌, ◌*◌, ◌≤◌, true, List, [], ◌∷◌, ◌++◌, length, drop, reverse, Option, Some, None, Result, Ok, Err, refl}
-use Rattle.std.proofs.Common.{sym, ap, subst, ◌∙◌, arith, length-append, ℤ, pos}
+use Rattle.std.proofs.Common.{sym, ap, subst, ◌∙◌, arith, length-append, pos}
 use Rattle.std.specs.Prelude.{IsTrue, MatchBool, slice_get}
 use Rattle.std.specs.List.{AllByRecursion}
 use Rattle.std.specs.Ordering.{int_eq}
 use Rattle.std.proofs.Math.ListN.{drop_of_length-le}
 use Rattle.std.proofs.Math.Seq.{drop-cons}
-use Rattle.std.proofs.lemmas.Bool.{cond-true}
 use Rattle.std.proofs.lemmas.List.{reverse-append}
 use Rattle.std.proofs.lemmas.List.Sums.{sum_by-cons}
 use Rattle.std.proofs.lemmas.Option.{get_or_from_slice_get, slice_get_within}
-use Rattle.iges_base.specs.declared.TheConstants.{ENTRY_LIMIT, FILE_LIMIT}
+use Rattle.iges_base.specs.declared.TheConstants.{FILE_LIMIT}
 use Rattle.iges_fields.specs.declared.value.Value.{Value}
 use Rattle.iges_fields.specs.Delims.{Delims, are_permitted}
 use Rattle.iges_fields.specs.Reading.{◌>>=◌}
@@ -24,13 +23,13 @@ use Rattle.iges_directory.specs.declared.entry.Placed.{Placed}
 use Rattle.iges_directory.specs.Entries.{has_record, AreEntries}
 use Rattle.iges_params.specs.Contents.{Contents, value_count}
 use Rattle.iges_params.specs.declared.records_read.RecordsRead.{RecordsRead}
-use Rattle.iges_params.specs.FromLast.{LieWithin, IsReading, AreRead, IsPut}
+use Rattle.iges_params.specs.FromLast.{IsReading, AreRead, IsPut}
 use Rattle.iges_params.specs.Limits.{FitsLimits}
 use Rattle.iges_params.specs.Made.{IsMadeEntry}
 use Rattle.iges_directory.specs.Paired.{Pairs, paired}
 use Rattle.iges_params.specs.Records.{HasRecord, IsRecord, AreRecords}
 use Rattle.iges_params.specs.Reading.{read_record, read_records, read_entries, with_entries}
-use Rattle.iges_params.proofs.Owned.{owned, all_owned, all_owned-few, record_few}
+use Rattle.iges_params.proofs.Owned.{all_owned, all_owned-few, record_few}
 use Rattle.iges_params.proofs.RecordsExact.{read_records-AreRecords}
 
 -- the record of an entry lies among the P lines

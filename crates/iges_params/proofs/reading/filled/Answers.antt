@@ -1,6 +1,5 @@
-use Rattle.std.proofs.Common.{◌≡◌, List, None, reverse, sym, ap, subst, ◌∙◌, refl}
+use Rattle.std.proofs.Common.{List, sym, ap, subst, ◌∙◌, refl}
 use Rattle.std.specs.List.{AllByRecursion}
-use Rattle.iges_fields.specs.declared.value.Value.{Value}
 use Rattle.iges_directory.specs.declared.entry.Placed.{Placed}
 use Rattle.iges_params.specs.Contents.{Contents}
 use Rattle.iges_params.specs.Made.{IsMadeEntry}

@@ -1,4 +1,4 @@
-use Rattle.std.proofs.Common.{◌≤◌, sym, ap, ◌∙◌, arith}
+use Rattle.std.proofs.Common.{sym, ap, ◌∙◌, arith}
 use Rattle.std.specs.Prelude.{option_copied}
 use Rattle.iges_params.proofs.Needs.{most_more, needs_more}
 use Rattle.iges_params.proofs.records_read.block_needs.Goals as goal

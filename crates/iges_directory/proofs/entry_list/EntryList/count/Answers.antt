@@ -1,4 +1,4 @@
-use Rattle.std.proofs.Common.{length, sym, ap, ◌∙◌, arith}
+use Rattle.std.proofs.Common.{length, ap, arith}
 use Rattle.iges_directory.specs.Paired.{Pairs}
 use Rattle.iges_directory.proofs.PairedLists.{paired_count}
 use Rattle.iges_directory.proofs.entry_list.EntryList.count.Goals as goal

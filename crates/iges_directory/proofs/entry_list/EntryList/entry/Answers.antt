@@ -1,4 +1,4 @@
-use Rattle.std.proofs.Common.{length, sym, ap, ◌∙◌, arith, refl}
+use Rattle.std.proofs.Common.{length, ap, arith, refl}
 use Rattle.std.proofs.lemmas.Option.{slice_get_read}
 use Rattle.iges_directory.specs.Paired.{Pairs}
 use Rattle.iges_directory.proofs.PairedLists.{paired_count, entry_within, none_past}

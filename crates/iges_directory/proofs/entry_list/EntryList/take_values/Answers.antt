@@ -1,8 +1,7 @@
 use Rattle.std.proofs.Common.{◌≡◌, ◌∙◌, ◌<◌, ap, sym, arith, List, Some, length, []}
-use Rattle.std.specs.Prelude.{option_map, set, slice_get}
+use Rattle.std.specs.Prelude.{set, slice_get}
 use Rattle.std.proofs.lemmas.Option.{slice_get-get_or}
 use Rattle.iges_fields.specs.declared.value.Value.{Value}
-use Rattle.iges_directory.specs.declared.entry.Entry.{Entry}
 use Rattle.iges_directory.specs.Paired.{Pairs, paired}
 use Rattle.iges_directory.proofs.PairedLists.{paired_count, paired_set, values_at}
 use Rattle.iges_directory.proofs.entry_list.EntryList.take_values.Goals as goal

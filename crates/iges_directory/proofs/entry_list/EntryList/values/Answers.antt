@@ -1,4 +1,4 @@
-use Rattle.std.proofs.Common.{length, sym, ap, ◌∙◌, arith}
+use Rattle.std.proofs.Common.{arith}
 use Rattle.std.proofs.lemmas.Option.{slice_get_read}
 use Rattle.iges_directory.proofs.PairedLists.{values_within, none_past}
 use Rattle.iges_directory.proofs.entry_list.EntryList.values.Goals as goal

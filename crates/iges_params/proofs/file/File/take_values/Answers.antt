@@ -1,4 +1,4 @@
-use Rattle.std.proofs.Common.{◌<◌, length, ap, arith, sym}
+use Rattle.std.proofs.Common.{◌<◌, length, ap, arith}
 use Rattle.iges_params.specs.Contents.{Contents}
 use Rattle.iges_params.proofs.Emptied.{emptied}
 use Rattle.iges_params.proofs.file.File.take_values.Goals as goal
