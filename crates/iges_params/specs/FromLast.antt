@@ -9,6 +9,7 @@ use Rattle.iges_lines.specs.declared.fault.PassFault.TheVariants as faults
 use Rattle.iges_directory.specs.declared.entry.Placed.{Placed}
 use Rattle.iges_directory.specs.Entries.{has_record}
 use Rattle.iges_params.specs.declared.records_read.RecordsRead.{RecordsRead}
+use Rattle.iges_params.specs.declared.records_read.TheConstants.{BLOCK}
 use Rattle.iges_params.specs.Contents.{Contents}
 use Rattle.iges_directory.specs.Paired.{Pairs, paired}
 use Rattle.iges_params.specs.Reading.{read_records}
@@ -42,4 +43,4 @@ IsPut (Err faults.NoMemory) old new = ⊥
 
 -- the need was there, or it is this one, of the entries before a block that begins with the i-th
 abbrev pub IsNeedOf : List ℕ → ℕ → ℕ → ℕ → ℕ → Type 0
-IsNeedOf needs i most block need = (slice_get needs block ≡ Some need) ⊎ ((need ≡ most) × (64 * block ≡ i))
+IsNeedOf needs i most block need = (slice_get needs block ≡ Some need) ⊎ ((need ≡ most) × (BLOCK * block ≡ i))

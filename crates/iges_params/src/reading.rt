@@ -158,7 +158,7 @@ pub fn read_file(alloc: Global, bytes: &[u8]) -> Result<File, ReadFileFault>
         → Gives {Y = Contents} result (Err fault) }
 {
     match sections(alloc, bytes) {
-        Ok(lines) => read_sections(alloc, &lines),
+        Ok(lines) => take_sections(alloc, lines),
         Err(fault) => Err(fault),
     }
 }
