@@ -9,12 +9,14 @@ ghost use Rattle.iges_params.specs.Named.{named};
 ghost use Rattle.std.specs.Ordering.{int_eq};
 ghost use Rattle.std.specs.Prelude.{◌≡◌, ◌+◌, ◌<◌, ◌≤◌, [], ◌∷◌, ◌++◌, ◌↔◌, pos, IsSome, IsTrue, IfOk, IfSome, OnOk, OnErr, length, slice_get, option_copied, option_map};
 
+mod leaving;
 mod taking;
 
 use crate::global::Global26;
 use iges_base::{EntryNo, FILE_LIMIT, NoMemory};
 use iges_directory::Entry;
 use iges_fields::Values;
+pub use leaving::Memory;
 use std::alloc::Global;
 use std::marker::Model;
 
@@ -28,6 +30,7 @@ pub struct File {
     start: Vec<[u8; WIDTH]>,
     global: Global26,
     entries: Vec<(Entry, Values)>,
+    is_left: bool,
 }
 
 impl Model for File {
@@ -71,6 +74,7 @@ impl File {
             start: lines,
             global,
             entries: Vec::new(alloc),
+            is_left: false,
         })
     }
 
