@@ -8,13 +8,15 @@ use Rattle.brep_lists.specs.Record.{Items}
 use Rattle.brep_lists.specs.declared.entity_kind.EntityKind.{EntityKind}
 use Rattle.brep_lists.specs.declared.entity_kind.EntityKind.TheVariants.{EdgeList as edges, VertexList as vertices}
 use Rattle.solid_data.specs.Obligations.{AllHold, FirstFalse, obligation, entry_number}
-use Rattle.solid_data.specs.declared.solid.EdgeKey.{EdgeKey}
 use Rattle.solid_data.specs.declared.verdict.Failing.{Failing}
 use Rattle.solid_data.specs.declared.verdict.Rule.TheVariants.{BadIndex}
 use Rattle.solid_data.proofs.ObligationLemmas.{AllHold-append, FirstFalse-append_rest}
 use Rattle.brep_walk.specs.declared.fault.WalkFault.{WalkFault}
 use Rattle.brep_walk.specs.declared.fault.WalkFault.TheVariants.{Fails}
 use Rattle.brep_walk.specs.Kept.{AreKept, NamesRecord, IsEdgeList, IsVertexList}
+use Rattle.brep_numbering.specs.Keys.{Keys}
+use Rattle.brep_walk.specs.NamedEdges.{IsNamedEdge}
+use Rattle.brep_walk.specs.declared.naming.NamedEdge.{NamedEdge}
 use Rattle.brep_walk.specs.Places.{told, edge_at, IsIndex, record_places, item_places}
 use Rattle.brep_walk.specs.SolidOf.{edge_key, vertex_key}
 use Rattle.brep_walk.specs.Walked.{IsFault}
@@ -89,13 +91,15 @@ module _ (f : Contents) (z : ℤ) (v : EntryNo × List EdgeTuple) (kept : IsEdge
       (obligation BadIndex (entry_number entity) place (IsIndex j (length (told edges f z))) ∷ []) x kept.holds
       (⊎_elim (λ bad. inl ((λ i. bad.0 (counted.1 i)), bad.1)) (λ more. absurd more.1) h))
 
-  pub kept_edge : (e : EdgeKey × EdgeTuple) → (e.0 ≡ record { «list» = v.0; index = entry_number k }) × (slice_get v.1 (entry_number k - 1) ≡ Some e.1)
-      → (e.0 ≡ edge_key z j) × (edge_at f z (entry_number j) ≡ Some e.1)
-  kept_edge e h = (
-    h.0 ∙ (ap (λ n. record { «list» = v.0; index = entry_number n }) same ∙ ap (λ n. record { «list» = record { 0 = entry_number n }; index = entry_number j })
-        (sym kept.number)),
-    ap (λ l. slice_get l (entry_number j - 1)) (sym kept.items) ∙ (ap (λ n. slice_get v.1 (entry_number n - 1)) (sym same) ∙ h.1),
-  )
+  pub kept_edge : (keys : Keys) (e : NamedEdge)
+      → IsNamedEdge keys (record { «list» = v.0; index = entry_number k }) (slice_get v.1 (entry_number k - 1)) e
+      → IsNamedEdge keys (edge_key z j) (edge_at f z (entry_number j)) e
+  kept_edge keys e h =
+      subst (λ x. IsNamedEdge keys x (edge_at f z (entry_number j)) e)
+      (ap (λ n. record { «list» = v.0; index = entry_number n }) same
+      ∙ ap (λ n. record { «list» = record { 0 = entry_number n }; index = entry_number j }) (sym kept.number))
+      (subst (λ x. IsNamedEdge keys (record { «list» = v.0; index = entry_number k }) x e)
+      (ap (λ n. slice_get v.1 (entry_number n - 1)) same ∙ ap (λ l. slice_get l (entry_number j - 1)) kept.items) h)
 
 -- A list as it was opened. y is its number as a call was given it.
 

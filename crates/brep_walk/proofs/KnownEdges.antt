@@ -1,5 +1,5 @@
 -- Edges that are numbered were looked at.
-use Rattle.std.specs.Prelude.{◌≡◌, ◌||◌, ◌⊎◌, pos, Bool, true, false, List, [], ◌∷◌, ◌++◌, flat_map, Some, Ok, if◌then◌else◌}
+use Rattle.std.specs.Prelude.{◌≡◌, ◌||◌, ◌⊎◌, ℤ, pos, Bool, true, false, List, [], ◌∷◌, ◌++◌, flat_map, Some, Ok, if◌then◌else◌}
 use Rattle.std.specs.List.{list_any}
 use Rattle.std.proofs.Common.{refl, sym, ◌∙◌, ap, subst, inl, inr}
 use Rattle.std.proofs.lemmas.List.{append-nil}
@@ -10,17 +10,22 @@ use Rattle.brep_lists.specs.Record.{LoopTuple}
 use Rattle.brep_lists.specs.declared.edge_list.EdgeTuple.{EdgeTuple}
 use Rattle.solid_data.specs.Obligations.{AllHold, entry_number}
 use Rattle.solid_data.specs.SolidData.{same_edge, same_vertex}
+use Rattle.solid_data.specs.Ring.{place_of}
+use Rattle.solid_data.specs.declared.solid.EdgeId.{EdgeId}
+use Rattle.solid_data.specs.declared.solid.LoopUse.TheVariants.{EdgeUse}
 use Rattle.solid_data.specs.declared.solid.EdgeKey.{EdgeKey}
 use Rattle.solid_data.specs.declared.solid.VertexKey.{VertexKey}
 use Rattle.brep_numbering.specs.Numbered.{Numbered}
 use Rattle.brep_walk.specs.Numbered.{AreNumbered, IsKnownEdge, AreEdges, AreKnownEdges, Extends}
+use Rattle.brep_walk.specs.NamedEdges.{IsNamedEdge}
+use Rattle.brep_walk.specs.declared.naming.NamedEdge.{NamedEdge}
 use Rattle.brep_walk.specs.Places.{edge_at, edge_places}
 use Rattle.brep_numbering.specs.Keys.{Keys}
-use Rattle.brep_walk.specs.SolidOf.{edge_key, vertex_key, ends_named, edge_by}
+use Rattle.brep_walk.specs.SolidOf.{edge_key, vertex_key, ends_named, edge_by, use_by}
 use Rattle.brep_walk.specs.Stands.{Stands}
 use Rattle.brep_walk.specs.Walks.{Walks}
 use Rattle.brep_walk.specs.declared.state.WalkState.{WalkState}
-use Rattle.brep_walk.proofs.Used.{Extends-trans}
+use Rattle.brep_walk.proofs.Used.{Extends-trans, edge_made}
 use Rattle.brep_numbering.proofs.KeyPlaces.{any_append, inserted, insert_more, insert_all_more}
 use Rattle.brep_numbering.proofs.SameKeys.{vertex_itself}
 use Rattle.brep_numbering.proofs.SameKeys.{edge_sound}
@@ -160,3 +165,18 @@ edge_walks before after x t v key ends named at g same file stands is =
             ((if b then vertex_key t.«list» t.index ∷ [] else ends_named (edge_at f t.«list» (entry_number t.index))) ++ [])) v)))) j;
       };
     }
+
+-- what was found of an edge, by the numbers of its tuple, which were given as l and j
+pub named_so : (keys : Keys) (f : Contents) (l j l2 j2 : ℤ) → l ≡ l2 → j ≡ j2 → (e : NamedEdge)
+    → IsNamedEdge keys (edge_key l j) (edge_at f l (entry_number j)) e → IsNamedEdge keys (edge_key l2 j2) (edge_at f l2 (entry_number j2)) e
+named_so keys f l j l2 j2 a b e h =
+    subst (λ x. IsNamedEdge keys (edge_key l2 x) (edge_at f l2 (entry_number x)) e) b
+    (subst (λ x. IsNamedEdge keys (edge_key x j) (edge_at f x (entry_number j)) e) a h)
+
+-- what an edge that is known makes of a tuple
+pub known_made : (t : LoopTuple) → t.is_vertex ≡ false → (keys later : Keys) (e : EdgeId) (along : Bool)
+    → (list_any (same_edge (edge_key t.«list» t.index)) keys.edges ≡ true) × (e.0 ≡ place_of same_edge keys.edges (edge_key t.«list» t.index))
+    → along ≡ t.flag → Extends keys later → EdgeUse e along ≡ use_by later t
+known_made t v keys later e along h flag more =
+    edge_made t v keys.edges keys later (edge_key t.«list» t.index) e along refl
+    (sym (ap (λ b. if b then keys.edges else keys.edges ++ edge_key t.«list» t.index ∷ []) h.0)) h.1 flag more

@@ -3,6 +3,7 @@ pub mod SolidOf
 pub mod Walked
 pub mod Numbered
 pub mod Kept
+pub mod NamedEdges
 pub mod Stands
 pub mod OpenPlaces
 pub mod Counts

@@ -2,7 +2,6 @@
 
 use iges_base::NoMemory;
 use solid_data::Failing;
-use std::alloc::{AllocError, AllocFailed};
 
 /// Why a walk ended without a solid.
 #[derive(Clone, Copy)]
@@ -31,28 +30,6 @@ impl From<NoMemory> for WalkFault {
     ghost from_gives = { λ _ e. e ≡ OutOfMemory };
 
     fn from(_: NoMemory) -> WalkFault {
-        WalkFault::NoMemory
-    }
-}
-
-impl From<AllocError> for WalkFault {
-    ghost use Rattle.std.specs.Prelude.{◌≡◌};
-    ghost use Rattle.brep_walk.specs.declared.fault.WalkFault.TheVariants.{NoMemory as OutOfMemory};
-
-    ghost from_gives = { λ _ e. e ≡ OutOfMemory };
-
-    fn from(_: AllocError) -> WalkFault {
-        WalkFault::NoMemory
-    }
-}
-
-impl<T: Drop> From<AllocFailed<T>> for WalkFault {
-    ghost use Rattle.std.specs.Prelude.{◌≡◌};
-    ghost use Rattle.brep_walk.specs.declared.fault.WalkFault.TheVariants.{NoMemory as OutOfMemory};
-
-    ghost from_gives = { λ _ e. e ≡ OutOfMemory };
-
-    fn from(_: AllocFailed<T>) -> WalkFault {
         WalkFault::NoMemory
     }
 }

@@ -5,6 +5,7 @@ ghost use Rattle.brep_walk.specs.Here.{record_here, vertex_here, edge_here, ends
 ghost use Rattle.brep_walk.specs.Counts.{item_count};
 ghost use Rattle.brep_walk.specs.Kept.{IsVertexList};
 ghost use Rattle.brep_walk.specs.Known.{uses_places};
+ghost use Rattle.brep_walk.specs.NamedEdges.{IsNamedEdge};
 ghost use Rattle.brep_walk.specs.Places.{told, edge_at, IsIndex, NamesKind, HasRecordOf};
 ghost use Rattle.brep_walk.specs.SolidOf.{edge_key, vertex_key};
 ghost use Rattle.brep_walk.specs.Walked.{IsFault};
@@ -13,13 +14,13 @@ ghost use Rattle.iges_params.specs.Limits.{FitsLimits};
 ghost use Rattle.iges_params.specs.Named.{values_of};
 ghost use Rattle.solid_data.specs.Obligations.{AllHold, FirstFalse, obligation, entry_number};
 ghost use Rattle.solid_data.specs.declared.verdict.Rule.TheVariants.{BadIndex, BadLayout};
-ghost use Rattle.std.specs.Prelude.{◌≡◌, ◌∷◌, ◌<◌, ◌^◌, ◌-◌, [], pos, length, slice_get, Some, IfOk, IfErr, OnOk, IsTrue, IfSome};
+ghost use Rattle.std.specs.Prelude.{◌≡◌, ◌∷◌, ◌<◌, ◌^◌, ◌-◌, [], pos, length, slice_get, IfOk, IfErr, OnOk, IsTrue, IfSome};
 
 use crate::fault::WalkFault;
-use crate::naming::{entry_at, index_in, names_geometry};
+use crate::naming::{NamedEdge, entry_at, index_in, names_geometry};
 use crate::records::Record;
 use brep_lists::{EdgeList, EdgeTuple, VertexList};
-use brep_numbering::{ListTable, Mark, Marks};
+use brep_numbering::{ListTable, Mark, Marks, Numbering};
 use iges_base::{EntryNo, NoMemory};
 use iges_fields::Values;
 use iges_params::File;
@@ -51,23 +52,29 @@ impl<'a> Model for Lists<'a> {
         × AreKnown lists.file.now lists.marks lists.failed };
 }
 
-// The edge of a list that the index at a place names.
+// The edge of a list that the index at a place names. Where it is numbered, the list isn't read.
 fn edge_of(
+    numbering: &Numbering,
     no: EntryNo,
     list: &EdgeList<'_>,
     at: Place,
     index: i64,
-) -> Result<(EdgeKey, EdgeTuple), Failing>
+) -> Result<NamedEdge, Failing>
     requires { length list.now < 2 ^ 31 }
     ensures holds { OnOk result (IsIndex index (length list.now)) }
-    ensures edge { IfOk result (λ e. (e.0 ≡ record { «list» = no; index = entry_number index })
-        × (slice_get list.now (entry_number index - 1) ≡ Some e.1)) }
+    ensures edge { IfOk result (IsNamedEdge numbering.now.keys
+        (record { «list» = no; index = entry_number index })
+        (slice_get list.now (entry_number index - 1))) }
     ensures fails { IfErr result (FirstFalse
         (obligation BadIndex at.entity.0 at.item (IsIndex index (length list.now)) ∷ [])) }
 {
     let index = index_in(list.len() as u32, at, index)?;
-    let tuple = list.tuple(index as usize - 1).unwrap();
-    Ok((EdgeKey { list: no, index }, tuple))
+    let key = EdgeKey { list: no, index };
+    if let Some(edge) = numbering.known_edge(key) {
+        return Ok(NamedEdge::Known(edge));
+    }
+    let ends = list.tuple(index as usize - 1).unwrap();
+    Ok(NamedEdge::New(key, ends))
 }
 
 // That the record of an entry doesn't fit its type.
@@ -122,21 +129,22 @@ impl<'a> Lists<'a> {
     /// The edge that a list and an index at a place name.
     pub fn edge(
         &mut self,
+        numbering: &Numbering,
         at: Place,
         number: i64,
         index: i64,
-    ) -> Result<(EdgeKey, EdgeTuple), WalkFault>
+    ) -> Result<NamedEdge, WalkFault>
         ensures file { self.new ≡ self.old }
         ensures holds { OnOk result (AllHold (edge_here self.old at number index)) }
-        ensures edge { IfOk result (λ e. (e.0 ≡ edge_key number index)
-            × (edge_at self.old number (entry_number index) ≡ Some e.1)) }
+        ensures edge { IfOk result (IsNamedEdge numbering.now.keys (edge_key number index)
+            (edge_at self.old number (entry_number index))) }
         ensures fault { IfErr result (IsFault (edge_here self.old at number index)) }
     {
         if let Some((no, list)) = self.edges.get(number) {
-            return Ok(edge_of(*no, list, at, index)?);
+            return Ok(edge_of(numbering, *no, list, at, index)?);
         }
         let (no, list) = self.record::<EdgeList<'a>>(at, number)?;
-        let edge = edge_of(no, &list, at, index);
+        let edge = edge_of(numbering, no, &list, at, index);
         self.edges.keep(no, list)?;
         Ok(edge?)
     }

@@ -9,12 +9,12 @@ ghost use Rattle.solid_data.specs.Obligations.{AllHold, FirstFalse, obligation};
 ghost use Rattle.solid_data.specs.declared.verdict.Rule.TheVariants.{BadGeometry, BadIndex};
 ghost use Rattle.std.specs.Prelude.{◌≡◌, ◌↔◌, IsTrue, ◌∷◌, [], pos, IfOk, IfErr, OnOk};
 
-use brep_lists::EntityKind;
+use brep_lists::{EdgeTuple, EntityKind};
 use iges_base::EntryNo;
 use iges_directory::Entry;
 use iges_fields::Values;
 use iges_params::File;
-use solid_data::{Failing, Place, Rule};
+use solid_data::{EdgeId, EdgeKey, Failing, Place, Rule};
 
 // Whether the entry has the type, and a form that is accepted.
 fn is_of_kind(entry: &Entry, kind: EntityKind) -> bool
@@ -35,6 +35,15 @@ fn is_geometry(entry: &Entry) -> bool
 pub struct Named<'a> {
     pub no: EntryNo,
     pub values: &'a Values,
+}
+
+/// An edge that a tuple names, by the edges that are numbered so far.
+#[derive(Clone, Copy)]
+pub enum NamedEdge {
+    /// One that is numbered.
+    Known(EdgeId),
+    /// A new one, and what its list says of it.
+    New(EdgeKey, EdgeTuple),
 }
 
 /// The entry of a kind that the number at a place names.

@@ -92,7 +92,7 @@ fn shell_solid(walk: &mut WalkState<'_>, alloc: Global, no: EntryNo) -> Result<S
 {
     let faces = numbered_faces(walk, alloc, no)?;
     let numbering = &mut walk.numbering;
-    let vertices = numbering.vertices(alloc)?;
+    let vertices = numbering.take_vertices(alloc);
     let mut shells = Shells::new(alloc);
     shells.push(Shell {
         entity: no,

@@ -1,6 +1,7 @@
 //! The tuples of loops.
 
 ghost use Rattle.std.specs.Prelude.{◌≡◌, ◌∷◌, ◌<◌, ◌^◌, [], map, length, ℤ, Bool, pos, true, false, Some, All, IsTrue, ◌↔◌, slice_get, IfSome, IfOk, IfErr, OnOk};
+ghost use Rattle.std.specs.List.{list_any};
 ghost use Rattle.indexmap.specs.IndexSet.{insert_key, insert_all};
 ghost use Rattle.brep_walk.specs.Here.{used_here, tuple_here, tuples_in_loop};
 ghost use Rattle.brep_walk.specs.Places.{NamesGeometry, edge_at, edge_places};
@@ -12,7 +13,7 @@ ghost use Rattle.solid_data.specs.Ring.{place_of};
 ghost use Rattle.solid_data.specs.SolidData.{same_edge, same_vertex};
 
 use crate::fault::WalkFault;
-use crate::naming::names_geometry;
+use crate::naming::{NamedEdge, names_geometry};
 use crate::state::WalkState;
 use brep_lists::EdgeTuple;
 use brep_loops::{LoopRecord, LoopTuple};
@@ -62,8 +63,9 @@ impl<'a> WalkState<'a> {
         Ok(LoopUse::VertexUse { vertex })
     }
 
-    // The number of an edge. Where it is numbered, its curve and its vertices were looked at before.
-    fn edge_number(&mut self, key: EdgeKey, ends: EdgeTuple) -> Result<EdgeId, WalkFault>
+    // The number of a new edge.
+    fn new_edge(&mut self, key: EdgeKey, ends: EdgeTuple) -> Result<EdgeId, WalkFault>
+        requires new { list_any (same_edge key) self.old.numbering.keys.edges ≡ false }
         requires ends { edge_at self.old.lists (pos key.«list».0) key.index ≡ Some ends }
         requires stands { Stands self.old.lists self.old.lists self.old.numbering }
         ensures file { self.new.lists ≡ self.old.lists }
@@ -81,18 +83,15 @@ impl<'a> WalkState<'a> {
         ensures fault { IfErr result (IsFault (edge_places self.old.lists
             (pos key.«list».0) key.index (Some ends))) }
     {
-        if let Some(edge) = self.numbering.known_edge(key) {
-            return Ok(edge);
-        }
         let place = Place {
             entity: key.list,
             item: key.index,
         };
         let (from, to) = self.lists.ends(place, ends)?;
-        Ok(self.numbering.edge(key, from, to)?)
+        Ok(self.numbering.new_edge(key, from, to)?)
     }
 
-    // The use that a tuple of an edge is.
+    // The use that a tuple of an edge is. Where the edge is numbered, its curve and its vertices were looked at before.
     fn edge_use(&mut self, at: Place, tuple: &LoopTuple<'_>) -> Result<LoopUse, WalkFault>
         requires edge { tuple.now.is_vertex ≡ false }
         requires stands { Stands self.old.lists self.old.lists self.old.numbering }
@@ -102,12 +101,17 @@ impl<'a> WalkState<'a> {
         ensures holds { OnOk result (AllHold (used_here self.old.lists at tuple.now false)) }
         ensures fault { IfErr result (IsFault (used_here self.old.lists at tuple.now false)) }
     {
-        let (key, ends) = self.lists.edge(at, tuple.list(), tuple.index())?;
-        let edge = self.edge_number(key, ends)?;
-        Ok(LoopUse::EdgeUse {
-            edge,
-            along: tuple.flag(),
-        })
+        let along = tuple.flag();
+        match self
+            .lists
+            .edge(&self.numbering, at, tuple.list(), tuple.index())?
+        {
+            NamedEdge::Known(edge) => Ok(LoopUse::EdgeUse { edge, along }),
+            NamedEdge::New(key, ends) => {
+                let edge = self.new_edge(key, ends)?;
+                Ok(LoopUse::EdgeUse { edge, along })
+            }
+        }
     }
 
     // The use that a tuple is.

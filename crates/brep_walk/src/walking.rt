@@ -107,7 +107,7 @@ pub fn walk_solid(walk: &mut WalkState<'_>, alloc: Global, no: EntryNo) -> Resul
     ensures fault { IfErr result (IsFault (places walk.old.lists no.0)) }
 {
     let shells = numbered_shells(walk, alloc, no)?;
-    let vertices = walk.numbering.vertices(alloc)?;
+    let vertices = walk.numbering.take_vertices(alloc);
     let edges = walk.numbering.take_edges(alloc);
     walk.numbering.restart(alloc);
     Ok(Solid::new(no, shells, edges, vertices))

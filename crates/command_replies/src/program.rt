@@ -15,13 +15,14 @@ use std::rt::{Env, Files};
 // The status where the system doesn't give the words.
 const NO_WORDS: u8 = 9;
 
-/// The file at the path, which may not be there; a source of no file where there is no path.
+/// The file at the path, which may not be there; a source of no file where there is no path. It is for a program, which ends
+/// once it has answered.
 pub fn source_of<R: Files>(rt: &R, path: Option<&str>) -> StdSource<R::File>
     ensures count { result.faults ≡ 0 }
     ensures file { IsSome path.entry ↔ (result.file ≢ Absent) }
 {
     match path {
-        Some(path) => open_source(rt, path),
+        Some(path) => open_source(rt, path).before_exit(),
         None => no_source(),
     }
 }

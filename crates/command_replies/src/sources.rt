@@ -94,7 +94,7 @@ fn read_fed(alloc: Global, feed: LineFeed) -> Result<File, ReadFileFault>
 }
 
 // The file of the lines that came, or the reply where they are those of none.
-fn file_of(alloc: Global, feed: LineFeed) -> Result<Result<File, Reply>, NoMemory>
+fn file_of(alloc: Global, feed: LineFeed, is_left: bool) -> Result<Result<File, Reply>, NoMemory>
     ensures found { (bytes : List ℕ) → IsFed feed bytes → length bytes ≤ FILE_LIMIT
         → IfOk result (λ r. MatchResult r (IsFile bytes)
         (λ reply. OfNoFile bytes reply.answer reply.text)) }
@@ -102,14 +102,18 @@ fn file_of(alloc: Global, feed: LineFeed) -> Result<Result<File, Reply>, NoMemor
         (λ reply. reply.answer ≡ Answer.BadFile)) }
 {
     match read_fed(alloc, feed) {
-        Ok(file) => Ok(Ok(file)),
+        Ok(mut file) => {
+            file.set_left(is_left);
+            Ok(Ok(file))
+        }
         Err(ReadFileFault::Bad(fault)) => Ok(Err(bad_file(alloc, fault)?)),
         Err(ReadFileFault::NoMemory) => Err(NoMemory),
     }
 }
 
 /// Reads a file from a source, line by line as the bytes arrive. Bytes that are too many, or no file, get the reply that
-/// says so. Errs where a read fails or memory runs out.
+/// says so. Errs where a read fails or memory runs out. Where the source says that the process ends soon, the file's memory is
+/// left to the system.
 pub fn file_in<F: Source>(alloc: Global, source: &mut F) -> Result<Result<File, Reply>, Stop>
     requires { F.can_read source.old }
     ensures found { IfOk result (λ r. MatchResult r (IsFileTold (F.left source.old))
@@ -121,8 +125,9 @@ pub fn file_in<F: Source>(alloc: Global, source: &mut F) -> Result<Result<File, 
     ensures within { IfOk result (λ r. OnOk r
         (TakesAtMost FILE_LIMIT (F.left source.old) (F.left source.new))) }
 {
+    let is_left = source.ends_process();
     match lines_in(alloc, source)? {
-        Ok(feed) => Ok(file_of(alloc, feed)?),
+        Ok(feed) => Ok(file_of(alloc, feed, is_left)?),
         Err(reply) => Ok(Err(reply)),
     }
 }

@@ -12,12 +12,14 @@ ghost use Rattle.std.specs.Option.{option_and_then};
 ghost use Rattle.std.specs.Ordering.{int_eq};
 ghost use Rattle.std.specs.Prelude.{◌≡◌, ◌+◌, ◌<◌, ◌≤◌, [], ◌∷◌, ◌++◌, ◌↔◌, pos, IsSome, IsTrue, IfOk, IfSome, OnOk, OnErr, length, slice_get, option_copied, option_map};
 
+mod leaving;
 mod taking;
 
 use crate::global::Global26;
 use iges_base::{EntryNo, FILE_LIMIT, NoMemory};
 use iges_directory::{Entry, EntryList};
 use iges_fields::Values;
+pub use leaving::Memory;
 use std::alloc::Global;
 use std::marker::Model;
 
@@ -31,6 +33,7 @@ pub struct File {
     start: Vec<[u8; WIDTH]>,
     global: Global26,
     entries: EntryList,
+    is_left: bool,
 }
 
 impl Model for File {
@@ -74,6 +77,7 @@ impl File {
             start: lines,
             global,
             entries: EntryList::new(alloc),
+            is_left: false,
         })
     }
 

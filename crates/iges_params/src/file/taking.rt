@@ -20,10 +20,11 @@ impl File {
     }
 
     /// Takes the start lines and the global of another file, whose entries are dropped, in place of its own
-    /// (IGES 5.3, 2.2.4.1 and 2.2.4.3).
+    /// (IGES 5.3, 2.2.4.1 and 2.2.4.3). Its memory is left to the system where the other's would have been.
     pub fn take_front(&mut self, other: File)
         ensures { self.new ≡ record self.old { start = other.start; global = other.global } }
     {
+        self.is_left = other.is_left;
         self.start = other.start;
         self.global = other.global;
     }

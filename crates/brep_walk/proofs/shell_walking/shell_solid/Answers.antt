@@ -12,7 +12,7 @@ new-requires c =
     let e = c.in_ok-faces.ensures in
     subst IsNumberedSolid
     (sym (shell_solid_is f c.args.no c.in_ok-faces.faces _ c.new-shells.ensures c.push.new.self c.in_ok-push.ensures.ok e.faces c.take_edges-edges.result
-    c.in_ok-vertices.vertices c.numbered_faces.new.walk.numbering c.take_edges-edges.ensures e.edges c.in_ok-vertices.ensures e.keys))
+    c.take_vertices-vertices.result c.numbered_faces.new.walk.numbering (c.take_edges-edges.ensures ∙ c.take_vertices-vertices.ensures.edges) e.edges c.take_vertices-vertices.ensures.vertices e.keys))
     (shell_is_numbered f c.args.no.0 e.limits e.holds)
 
 pub returns-clause-solid : goal.returns-clause-solid
@@ -21,7 +21,7 @@ returns-clause-solid c =
     let e = c.in_ok-faces.ensures in
     c.new.ensures
     ∙ shell_solid_is f c.args.no c.in_ok-faces.faces _ c.new-shells.ensures c.push.new.self c.in_ok-push.ensures.ok e.faces c.take_edges-edges.result
-    c.in_ok-vertices.vertices c.numbered_faces.new.walk.numbering c.take_edges-edges.ensures e.edges c.in_ok-vertices.ensures e.keys
+    c.take_vertices-vertices.result c.numbered_faces.new.walk.numbering (c.take_edges-edges.ensures ∙ c.take_vertices-vertices.ensures.edges) e.edges c.take_vertices-vertices.ensures.vertices e.keys
 
 pub returns-in_err-push-clause-fault : goal.returns-in_err-push-clause-fault
 returns-in_err-push-clause-fault c =

@@ -35,7 +35,7 @@ returns-in-Some-clause-edge c =
     kept_edge c.args.self.now c.args.number c.in-Some.field-0.now
     (kept_edges _ _ c.self.view_is c.self.inside.edges c.self.inside.vertices c.self.invariant.0 c.args.number _ (to_z-of_z w64 c.args.number c.ranges.number)
     c.in-Some.field-0.now c.in-Some.ensures)
-    (pos c.args.at.entity.0) c.args.at.item c.args.index _ (to_z-of_z w64 c.args.index c.ranges.index) c.in_ok-edge_of.field-0 c.in_ok-edge_of.ensures.edge
+    (pos c.args.at.entity.0) c.args.at.item c.args.index _ (to_z-of_z w64 c.args.index c.ranges.index) c.args.numbering.now.keys c.in_ok-edge_of.field-0 c.in_ok-edge_of.ensures.edge
 
 pub invariant_of-self-2 : goal.invariant_of-self-2
 invariant_of-self-2 c = (
@@ -86,4 +86,4 @@ returns-clause-edge c =
     kept_edge c.args.self.now c.args.number (c.in_ok-no.no, c.in_ok-no.list)
     (opened_edges c.args.self.now c.args.number _ (to_z-of_z w64 c.args.number c.ranges.number) c.in_ok-no.no c.in_ok-no.list c.in_ok-no.ensures.holds
     c.in_ok-no.ensures.named.0 c.in_ok-no.ensures.named.1 c.in_ok-no.ensures.few)
-    (pos c.args.at.entity.0) c.args.at.item c.args.index _ (to_z-of_z w64 c.args.index c.ranges.index) c.in_ok-edge.field-0 c.in_ok-edge.ensures.edge
+    (pos c.args.at.entity.0) c.args.at.item c.args.index _ (to_z-of_z w64 c.args.index c.ranges.index) c.args.numbering.now.keys c.in_ok-edge.field-0 c.in_ok-edge.ensures.edge
