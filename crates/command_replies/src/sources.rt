@@ -14,7 +14,7 @@ ghost use Rattle.std.specs.Prelude.{◌≡◌, ◌<◌, ◌≤◌, List, ℕ, le
 
 use crate::answer::Answer;
 use crate::reply::{Reply, Stop, bad_file, too_large};
-use iges_base::{Bytes, FILE_LIMIT, NoMemory};
+use iges_base::{Bytes, FILE_LIMIT, Memory, NoMemory};
 use iges_io::{NextPiece, PIECE, ReadAll, Source, next_piece, piece_room, read_all};
 use iges_lines::LineFeed;
 use iges_params::{File, ReadFileFault, take_sections};
@@ -93,8 +93,17 @@ fn read_fed(alloc: Global, feed: LineFeed) -> Result<File, ReadFileFault>
     }
 }
 
+// What becomes of a file's memory, by whether the process ends soon.
+fn memory_of(ends_process: bool) -> Memory {
+    if ends_process {
+        Memory::Left
+    } else {
+        Memory::GivenBack
+    }
+}
+
 // The file of the lines that came, or the reply where they are those of none.
-fn file_of(alloc: Global, feed: LineFeed, is_left: bool) -> Result<Result<File, Reply>, NoMemory>
+fn file_of(alloc: Global, feed: LineFeed, memory: Memory) -> Result<Result<File, Reply>, NoMemory>
     ensures found { (bytes : List ℕ) → IsFed feed bytes → length bytes ≤ FILE_LIMIT
         → IfOk result (λ r. MatchResult r (IsFile bytes)
         (λ reply. OfNoFile bytes reply.answer reply.text)) }
@@ -103,7 +112,7 @@ fn file_of(alloc: Global, feed: LineFeed, is_left: bool) -> Result<Result<File, 
 {
     match read_fed(alloc, feed) {
         Ok(mut file) => {
-            file.set_left(is_left);
+            file.set_memory(memory);
             Ok(Ok(file))
         }
         Err(ReadFileFault::Bad(fault)) => Ok(Err(bad_file(alloc, fault)?)),
@@ -125,9 +134,9 @@ pub fn file_in<F: Source>(alloc: Global, source: &mut F) -> Result<Result<File, 
     ensures within { IfOk result (λ r. OnOk r
         (TakesAtMost FILE_LIMIT (F.left source.old) (F.left source.new))) }
 {
-    let is_left = source.ends_process();
+    let memory = memory_of(source.ends_process());
     match lines_in(alloc, source)? {
-        Ok(feed) => Ok(file_of(alloc, feed, is_left)?),
+        Ok(feed) => Ok(file_of(alloc, feed, memory)?),
         Err(reply) => Ok(Err(reply)),
     }
 }

@@ -1,5 +1,5 @@
 //! What all crates share: bytes, a text that grows, a list, spaces, digits, integers and parts of reals in a text, the number of an entry, that
-//! memory ran out, and how large a file may be.
+//! memory ran out, what becomes of memory that isn't needed, and how large a file may be.
 #![tactic(auto)]
 
 mod bytes;
@@ -12,6 +12,7 @@ mod front;
 mod leading_digits;
 mod list;
 mod mantissa;
+mod memory;
 mod no_memory;
 mod out;
 
@@ -25,6 +26,7 @@ pub use front::{trimmed, without_front_spaces};
 pub use leading_digits::{LeadingDigits, digits_len, digits_of};
 pub use list::ItemList;
 pub use mantissa::{Mantissa, mantissa_of};
+pub use memory::Memory;
 pub use no_memory::NoMemory;
 pub use out::{Out, put_number, write_number};
 

@@ -12,14 +12,12 @@ ghost use Rattle.std.specs.Option.{option_and_then};
 ghost use Rattle.std.specs.Ordering.{int_eq};
 ghost use Rattle.std.specs.Prelude.{◌≡◌, ◌+◌, ◌<◌, ◌≤◌, [], ◌∷◌, ◌++◌, ◌↔◌, pos, IsSome, IsTrue, IfOk, IfSome, OnOk, OnErr, length, slice_get, option_copied, option_map};
 
-mod leaving;
 mod taking;
 
 use crate::global::Global26;
-use iges_base::{EntryNo, FILE_LIMIT, NoMemory};
+use iges_base::{EntryNo, FILE_LIMIT, Memory, NoMemory};
 use iges_directory::{Entry, EntryList};
 use iges_fields::Values;
-pub use leaving::Memory;
 use std::alloc::Global;
 use std::marker::Model;
 
@@ -33,7 +31,7 @@ pub struct File {
     start: Vec<[u8; WIDTH]>,
     global: Global26,
     entries: EntryList,
-    is_left: bool,
+    memory: Memory,
 }
 
 impl Model for File {
@@ -77,7 +75,7 @@ impl File {
             start: lines,
             global,
             entries: EntryList::new(alloc),
-            is_left: false,
+            memory: Memory::GivenBack,
         })
     }
 

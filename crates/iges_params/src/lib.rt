@@ -19,7 +19,7 @@ mod solids;
 
 pub use copying::{begun, copied_values, push_copies};
 pub use fault::ReadFileFault;
-pub use file::{File, Memory};
+pub use file::File;
 pub use global::Global26;
 pub use law::every_text_has_one_reading;
 pub use reading::{read_file, read_sections, take_sections};

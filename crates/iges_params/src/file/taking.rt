@@ -1,9 +1,10 @@
-//! Parts of files that are moved, not copied.
+//! Parts of files that are moved, not copied, and what becomes of a file's memory.
 
 ghost use Rattle.iges_directory.specs.declared.entry.Entry.{Entry as OneEntry};
 ghost use Rattle.std.specs.Prelude.{◌≡◌, ◌<◌, [], Some, length, option_map, set, slice_get};
 
 use crate::file::File;
+use iges_base::Memory;
 use iges_fields::Values;
 use std::alloc::Global;
 
@@ -20,12 +21,25 @@ impl File {
     }
 
     /// Takes the start lines and the global of another file, whose entries are dropped, in place of its own
-    /// (IGES 5.3, 2.2.4.1 and 2.2.4.3). Its memory is left to the system where the other's would have been.
+    /// (IGES 5.3, 2.2.4.1 and 2.2.4.3). What becomes of the
+    /// other's memory becomes of its own.
     pub fn take_front(&mut self, other: File)
         ensures { self.new ≡ record self.old { start = other.start; global = other.global } }
     {
-        self.is_left = other.is_left;
+        self.memory = other.memory;
         self.start = other.start;
         self.global = other.global;
+    }
+
+    /// What becomes of the file's memory, and of what is made of it, once it isn't needed any more.
+    pub fn memory(&self) -> Memory {
+        self.memory
+    }
+
+    /// Says what becomes of it.
+    pub fn set_memory(&mut self, memory: Memory)
+        ensures { self.new ≡ self.old }
+    {
+        self.memory = memory;
     }
 }
