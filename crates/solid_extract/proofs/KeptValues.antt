@@ -229,7 +229,6 @@ module _ (kept : List ℕ) (own : Own) (olds : List Value) (marks : List Bool) (
       (changed : (v : Value) → is_among own.pointers place ≡ false → value_as kept p c (new_value kept own place v) ≡ new_value kept more place v)
       (put : free ≡ true → (v : Value) → slice_get values (place - 1) ≡ Some v → new ≡ set values (place - 1) (value_as kept p c v))
       (stay : free ≡ false → new ≡ values) where
-
     value_next : new ≡ map (as_kept kept more) (enumerate_from 1 olds)
     value_next = by_test free refl
       where
