@@ -1,7 +1,7 @@
 -- A line in an array, with spaces behind it.
-use Rattle.std.proofs.Common.{◌≡◌, ℕ, ◌+◌, ◌-◌, ◌<◌, ◌≤◌, List, [], ◌∷◌, ◌++◌, length, take, drop, refl, sym, ap, ◌∙◌, arith, length-append}
-use Rattle.std.proofs.Math.Seq.{take-add}
-use Rattle.std.proofs.lemmas.List.{drop-drop, drop-replicate, take-replicate, length-take-le, append-nil}
+use Rattle.std.proofs.Common.{◌≡◌, ℕ, ◌+◌, ◌-◌, ◌<◌, ◌≤◌, List, ◌++◌, length, take, drop, sym, ap, ◌∙◌, append_assoc, arith, length-append}
+use Rattle.std.proofs.Math.Seq.{take-add, take-append-add}
+use Rattle.std.proofs.lemmas.List.{drop-drop, drop-replicate, take-replicate, take-take, take-append-le, take-append-drop, length-drop, length-take-le, append-nil}
 use Rattle.std.proofs.lemmas.Slice.{take-put_mid, drop-put_mid}
 use borrow.Rule.Slice.PartMut.{put_mid}
 use Rattle.iges_base.specs.Word.{spaces}
@@ -27,6 +27,70 @@ module _ (bytes piece : List ℕ) (len k : ℕ) (h : IsLineText bytes len) (long
         ap (λ (n : ℕ). drop n (put_mid len k bytes piece)) e
         ∙ drop-put_mid len k bytes piece (len + k) (omega arith) (omega (arith, long, room)) size
         ∙ rest_more bytes len k h.rest
+        ∙ ap (λ (n : ℕ). spaces (96 - n)) (sym e);
+  }
+
+-- a part that is written over
+put_long : (bytes piece : List ℕ) (a k : ℕ) → length bytes ≡ 96 → length piece ≡ k → a + k ≤ 96 → length (put_mid a k bytes piece) ≡ 96
+put_long bytes piece a k long size room =
+    omega (
+      arith,
+      long,
+      size,
+      room,
+      length-append (take a bytes) (piece ++ drop k (drop a bytes)),
+      length-append piece (drop k (drop a bytes)),
+      length-take-le a bytes (omega (arith, long, room)),
+      length-drop k (drop a bytes),
+      length-drop a bytes,
+    )
+
+-- bytes written behind the line by halves
+module _ (bytes piece front back : List ℕ) (len half k j a : ℕ) (h : IsLineText bytes len) (long : length bytes ≡ 96) (room : len + length piece ≤ 96)
+    (few : half ≤ length piece) (many : length piece ≤ half + half) (front_is : front ≡ take half piece) (back_is : back ≡ drop (length piece - half) piece)
+    (k_is : k ≡ half) (j_is : j ≡ half) (a_is : a ≡ len + (length piece - half)) where
+  abbrev first : List ℕ
+  first = put_mid len k bytes front
+
+  abbrev both : List ℕ
+  both = put_mid a j first back
+
+  front_long : length front ≡ k
+  front_long = omega (arith, ap length front_is, length-take-le half piece few, k_is)
+
+  back_long : length back ≡ j
+  back_long = omega (arith, ap length back_is, length-drop (length piece - half) piece, few, j_is)
+
+  first_long : length first ≡ 96
+  first_long = put_long bytes front len k long front_long (omega (arith, room, few, k_is))
+
+  before : take a first ≡ take len bytes ++ take (length piece - half) piece
+  before =
+      let n : ℕ = length piece - half in
+      let stands : length (take len bytes) ≡ len = length-take-le len bytes (omega (arith, room, long)) in
+      let at : a ≡ length (take len bytes) + (length piece - half) = omega (arith, stands, a_is) in
+      ap (λ (m : ℕ). take m first) at
+      ∙ take-append-add (take len bytes) (front ++ drop k (drop len bytes)) (length piece - half)
+      ∙ ap (λ (x : List ℕ). take len bytes ++ x)
+      (take-append-le (length piece - half) front (drop k (drop len bytes)) (omega (arith, front_long, few, many, k_is))
+      ∙ ap (take (length piece - half)) front_is ∙ take-take (length piece - half) half piece (omega (arith, few, many)))
+
+  pub halves_are : (end : ℕ) → end ≡ len + length piece → take end both ≡ take len bytes ++ piece
+  halves_are end e =
+      take-put_mid a j first back end (omega (arith, e, back_long, a_is, j_is, few)) (omega (arith, first_long, room, a_is))
+      ∙ ap (λ (x : List ℕ). x ++ back) before
+      ∙ append_assoc (take len bytes) (take (length piece - half) piece) back
+      ∙ ap (λ (x : List ℕ). take len bytes ++ x)
+      (ap (λ (x : List ℕ). take (length piece - half) piece ++ x) back_is ∙ take-append-drop (length piece - half) piece)
+
+  pub halves_fit : (end : ℕ) → end ≡ len + length piece → IsLineText both end
+  halves_fit end e = record {
+    few = omega (arith, e, room);
+    rest =
+        ap (λ (n : ℕ). drop n both) e
+        ∙ drop-put_mid a j first back (len + length piece) (omega (arith, a_is, j_is, few)) (omega (arith, first_long, room, a_is)) back_long
+        ∙ drop-put_mid len k bytes front (len + length piece) (omega (arith, k_is, few)) (omega (arith, long, room)) front_long
+        ∙ rest_more bytes len (length piece) h.rest
         ∙ ap (λ (n : ℕ). spaces (96 - n)) (sym e);
   }
 

@@ -83,6 +83,46 @@ impl LineText {
         self.len = end;
     }
 
+    // The same of bytes that the first `half` of them and the last cover, so that each is copied at a fixed length.
+    #[inline(always)]
+    fn push_halves(&mut self, piece: &[u8], half: usize)
+        requires room { length self.old + length piece.now ≤ 96 }
+        requires few { half ≤ length piece.now }
+        requires many { length piece.now ≤ half + half }
+        ensures is { self.new ≡ self.old ++ piece.now }
+        ensures long { length self.new ≡ length self.old + length piece.now }
+    {
+        let end = self.len + piece.len();
+        let (front, _) = piece.split_at(half);
+        let (_, back) = piece.split_at(piece.len() - half);
+        self.bytes[self.len..self.len + half].copy_from_slice(front);
+        self.bytes[end - half..end].copy_from_slice(back);
+        self.len = end;
+    }
+
+    /// The same as `push`, of a word that most often is short.
+    #[inline(always)]
+    pub fn push_word(&mut self, word: &[u8])
+        requires { length self.old + length word.now ≤ 96 }
+        ensures is { self.new ≡ self.old ++ word.now }
+        ensures long { length self.new ≡ length self.old + length word.now }
+    {
+        let count = word.len();
+        if count < 2 || count > 16 {
+            self.push(word);
+            return;
+        }
+        if count >= 8 {
+            self.push_halves(word, 8);
+            return;
+        }
+        if count >= 4 {
+            self.push_halves(word, 4);
+            return;
+        }
+        self.push_halves(word, 2);
+    }
+
     /// Fills a shorter line up with spaces.
     #[inline(always)]
     pub fn pad(&mut self, width: usize)

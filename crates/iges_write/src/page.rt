@@ -104,6 +104,15 @@ impl Page {
         self.line.push(bytes);
     }
 
+    // The same of a word that most often is short.
+    #[inline(always)]
+    fn add_word(&mut self, word: &[u8])
+        requires { length self.old.line + length word.now ≤ self.old.width }
+        ensures { self.new ≡ add self.old word.now }
+    {
+        self.line.push_word(word);
+    }
+
     // Ends the line being made where it has no room for so many bytes.
     #[inline(always)]
     fn make_room(&mut self, size: usize) -> Result<(), WriteFileFault>
@@ -167,7 +176,7 @@ impl Page {
             ++ end ∷ []))) }
     {
         self.make_room(word.len() + 1)?;
-        self.add(word);
+        self.add_word(word);
         self.add(&[end]);
         Ok(())
     }

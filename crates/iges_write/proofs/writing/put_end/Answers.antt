@@ -1,4 +1,4 @@
-use Rattle.std.proofs.Common.{ap, subst}
+use Rattle.std.proofs.Common.{subst}
 use Rattle.iges_write.specs.FileSheet.{with_counts}
 use Rattle.iges_write.specs.Sheet.{Sheet, Steps, append_text}
 use Rattle.iges_write.proofs.Sheets.{same_fails}
