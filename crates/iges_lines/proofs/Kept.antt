@@ -1,12 +1,15 @@
 -- What is known of the sections of a file, and of each of their lines.
-use Rattle.std.proofs.Common.{◌≡◌, ℕ, ◌+◌, ◌*◌, ◌≤◌, true, List, [], ◌∷◌, ◌++◌, length, Option, Some, None, refl, sym, ap, ◌∙◌, arith, length-append, Bor}
+use Rattle.std.proofs.Common.{◌≡◌, ℕ, zero, suc, ◌+◌, ◌*◌, ◌≤◌, true, List, [], ◌∷◌, ◌++◌, length, take, Option, Some, None, refl, sym, ap, ◌∙◌, arith}
+use Rattle.std.proofs.Common.{length-append, Bor}
 use Rattle.std.specs.Prelude.{slice_get, option_copied, IfSome, IsTrue}
 use Rattle.std.specs.List.{AllByRecursion, enumerate_from, list_all}
 use Rattle.std.proofs.lemmas.Bool.{and_from}
+use Rattle.std.proofs.lemmas.List.{length-take}
+use Rattle.std.proofs.lemmas.List.Folds.{list_all-append}
 use Rattle.iges_base.specs.InLine.{is_in_line}
 use Rattle.iges_base.specs.declared.TheConstants.{FILE_LIMIT}
 use Rattle.iges_base.proofs.InLines.{slice_get-all}
-use Rattle.iges_base.proofs.Lists.{list_all-parts}
+use Rattle.iges_base.proofs.Lists.{list_all-parts, list_all-take}
 use Rattle.iges_lines.specs.Lines.{SectionLines, joined, lines}
 use Rattle.iges_lines.specs.Sectioned.{IsNumbered, IsSectioned, AreSections}
 use Rattle.iges_lines.proofs.InLines.{size, lines_in_line, lines_size}
@@ -60,6 +63,30 @@ sections_kept bytes s limit h =
         length-append (s.start ++ s.global) s.directory,
         length-append s.start s.global,
       );
+    }
+
+-- ---- sections whose last lines are taken off
+
+take_numbered : (section n k : ℕ) (ls : Lines) → AllByRecursion (λ (l : ℕ × List ℕ). IsNumbered section l.0 l.1) (enumerate_from n ls)
+    → AllByRecursion (λ (l : ℕ × List ℕ). IsNumbered section l.0 l.1) (enumerate_from n (take k ls))
+take_numbered section n zero ls h = tt
+take_numbered section n (suc k) [] h = tt
+take_numbered section n (suc k) (l ∷ ls) h = (h.0, take_numbered section (n + 1) k ls h.1)
+
+pub params_cut : (s : SectionLines) (k : ℕ) → AreSections s → AreSections (record s { param = take k s.param })
+params_cut s k h =
+    let upper = s.start ++ s.global ++ s.directory in
+    let parts = list_all-parts is_in_line upper s.param h.in_line in
+    record {
+      some_start = h.some_start;
+      some_global = h.some_global;
+      start = h.start;
+      global = h.global;
+      directory = h.directory;
+      param = take_numbered 80 1 k s.param h.param;
+      in_line = list_all-append is_in_line upper (take k s.param) ∙ and_from (list_all is_in_line upper) (list_all is_in_line (take k s.param)) parts.0
+          (list_all-take is_in_line k s.param parts.1);
+      within = omega (arith, h.within, length-append upper s.param, length-append upper (take k s.param), length-take k s.param);
     }
 
 -- ---- a line of a section

@@ -77,6 +77,14 @@ impl LineList {
         }
     }
 
+    /// Takes off the lines after the first ones, and gives their memory back.
+    pub fn keep(&mut self, count: usize)
+        ensures { self.new ≡ take count self.old }
+    {
+        self.truncate(count);
+        self.text.shrink_to_fit();
+    }
+
     /// Takes all lines off, and gives their memory back.
     pub fn clear(&mut self)
         ensures { self.new ≡ [] }

@@ -235,6 +235,13 @@ impl SectionTable {
         self.directory.clear();
     }
 
+    /// Takes off the parameter lines after the first ones, and gives their memory back.
+    pub fn keep_params(&mut self, count: usize)
+        ensures { self.new ≡ record self.old { param = take count self.old.param } }
+    {
+        self.param.keep(count);
+    }
+
     /// Puts the line at the end of its section.
     #[inline(always)]
     pub fn add(&mut self, kind: Kind, line: &[u8]) -> Result<(), NoMemory>

@@ -18,3 +18,5 @@ pub mod FileExact
 pub mod FilePass
 pub mod Copies
 mod Pointers
+pub mod Needs
+pub mod Emptied

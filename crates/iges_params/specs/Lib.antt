@@ -11,3 +11,4 @@ pub mod Reading
 pub mod Heads
 pub mod Parts
 pub mod Begun
+pub mod FromLast

@@ -4,8 +4,11 @@ ghost use Rattle.iges_directory.specs.Bounds.{IsBounded};
 ghost use Rattle.iges_base.specs.declared.TheConstants.{ENTRY_LIMIT, FILE_LIMIT};
 ghost use Rattle.iges_params.specs.Contents.{value_count};
 ghost use Rattle.iges_params.specs.Global.{have_kinds};
-ghost use Rattle.iges_params.specs.Made.{IsMade, is_start_line};
+ghost use Rattle.iges_params.specs.Limits.{FitsLimits};
+ghost use Rattle.iges_params.specs.Made.{IsMade, IsMadeEntry, is_start_line};
 ghost use Rattle.iges_params.specs.Named.{named};
+ghost use Rattle.std.specs.List.{AllByRecursion};
+ghost use Rattle.std.specs.Option.{option_and_then};
 ghost use Rattle.std.specs.Ordering.{int_eq};
 ghost use Rattle.std.specs.Prelude.{◌≡◌, ◌+◌, ◌<◌, ◌≤◌, [], ◌∷◌, ◌++◌, ◌↔◌, pos, IsSome, IsTrue, IfOk, IfSome, OnOk, OnErr, length, slice_get, option_copied, option_map};
 
@@ -13,7 +16,7 @@ mod taking;
 
 use crate::global::Global26;
 use iges_base::{EntryNo, FILE_LIMIT, NoMemory};
-use iges_directory::Entry;
+use iges_directory::{Entry, EntryList};
 use iges_fields::Values;
 use std::alloc::Global;
 use std::marker::Model;
@@ -27,7 +30,7 @@ const WIDTH: usize = 72;
 pub struct File {
     start: Vec<[u8; WIDTH]>,
     global: Global26,
-    entries: Vec<(Entry, Values)>,
+    entries: EntryList,
 }
 
 impl Model for File {
@@ -37,9 +40,9 @@ impl Model for File {
 
     ghost use Rattle.iges_params.specs.Made.{IsMade};
 
-    ghost view = { λ f. record { start = f.start.items; global = f.global; entries = f.entries.items } };
+    ghost view = { λ f. record { start = f.start.items; global = f.global; entries = f.entries } };
 
-    ghost invariant = { λ f. IsMade (record { start = f.start.items; global = f.global; entries = f.entries.items }) };
+    ghost invariant = { λ f. IsMade (record { start = f.start.items; global = f.global; entries = f.entries }) };
 }
 
 // A copy of a start line.
@@ -70,7 +73,7 @@ impl File {
         Ok(File {
             start: lines,
             global,
-            entries: Vec::new(alloc),
+            entries: EntryList::new(alloc),
         })
     }
 
@@ -104,16 +107,16 @@ impl File {
         }) }
         ensures err { OnErr result (self.new ≡ self.old) }
     {
-        self.entries.push((entry, values))?;
-        Ok(())
+        self.entries.push(entry, values)
     }
 
-    // Takes the room for so many entries more.
-    pub(crate) fn reserve(&mut self, entries: usize) -> Result<(), NoMemory>
-        ensures { self.new ≡ self.old }
+    // Puts these entries in place of its own.
+    pub(crate) fn fill(&mut self, entries: EntryList)
+        requires each { AllByRecursion IsMadeEntry entries }
+        requires limits { FitsLimits (record self.old { entries = entries }) }
+        ensures { self.new ≡ record self.old { entries = entries } }
     {
-        self.entries.reserve_exact(entries)?;
-        Ok(())
+        self.entries = entries;
     }
 
     /// How many start lines there are (IGES 5.3, 2.2.4.1).
@@ -151,7 +154,7 @@ impl File {
         ensures few { result ≤ ENTRY_LIMIT }
         ensures made { IsMade self.now }
     {
-        self.entries.len()
+        self.entries.count()
     }
 
     /// The i-th entry, i from 0 and those of type 0 among them; None past the end.
@@ -161,27 +164,19 @@ impl File {
         ensures within { IsSome result ↔ (i < length self.now.entries) }
         ensures bounded { IfSome result (λ entry. IsBounded entry.now) }
     {
-        if i >= self.entries.len() {
-            return None;
-        }
-        Some(&self.entries[i].0)
+        self.entries.entry(i)
     }
 
-    // The entry that a number names, with its values.
-    fn record(&self, no: EntryNo) -> Option<&(Entry, Values)>
-        ensures named { option_copied result ≡ named self.now (pos no.0) }
-        ensures bounded { IfSome result (λ e. IsBounded e.now.0) }
+    // The place of the entry that a number names, from 0.
+    fn place(&self, no: EntryNo) -> Option<usize>
+        ensures { named self.now (pos no.0) ≡ option_and_then (slice_get self.now.entries) result }
     {
-        let place = (no.0 / 2) as usize;
-        if no.0 % 2 == 0 || place >= self.entries.len() {
+        if no.0 % 2 == 0 {
             return None;
         }
-        let record = &self.entries[place];
-        if record.0.kind == 0 {
-            None
-        } else {
-            Some(record)
-        }
+        let place = (no.0 / 2) as usize;
+        let entry = self.entries.entry(place)?;
+        if entry.kind == 0 { None } else { Some(place) }
     }
 
     /// The entry that a number names, which is that of its first line in the directory section, from 1 (IGES 5.3,
@@ -190,10 +185,7 @@ impl File {
         ensures named { option_copied result ≡ option_map (λ e. e.0) (named self.now (pos no.0)) }
         ensures bounded { IfSome result (λ entry. IsBounded entry.now) }
     {
-        match self.record(no) {
-            Some(record) => Some(&record.0),
-            None => None,
-        }
+        self.entries.entry(self.place(no)?)
     }
 
     /// The values of the record of the entry that a number names, without the type number (IGES 5.3, 2.2.4.5). None
@@ -201,9 +193,6 @@ impl File {
     pub fn values(&self, no: EntryNo) -> Option<&Values>
         ensures { option_copied result ≡ option_map (λ e. e.1) (named self.now (pos no.0)) }
     {
-        match self.record(no) {
-            Some(record) => Some(&record.1),
-            None => None,
-        }
+        self.entries.values(self.place(no)?)
     }
 }

@@ -14,6 +14,7 @@ mod passage;
 mod pointer;
 mod reading;
 mod record;
+mod records_read;
 mod solids;
 
 pub use copying::{begun, copied_values, push_copies};

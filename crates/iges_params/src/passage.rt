@@ -5,9 +5,9 @@ ghost use Rattle.iges_base.specs.InLine.{is_in_line};
 ghost use Rattle.iges_lines.specs.Gives.{Fails, Gives};
 ghost use Rattle.iges_params.specs.Global.{line_of_byte};
 ghost use Rattle.iges_params.specs.Reading.{read_passage};
-ghost use Rattle.std.specs.Prelude.{◌≡◌, ◌+◌, ◌-◌, ◌<◌, ◌≤◌, ◌^◌, ◌∷◌, Ok, IfOk, IfErr, IsTrue, length};
+ghost use Rattle.std.specs.Prelude.{◌≡◌, ◌+◌, ◌-◌, ◌<◌, ◌≤◌, ◌^◌, [], ◌∷◌, Ok, IfOk, IfErr, IsTrue, length};
 
-use iges_fields::{Delimiters, Value, Values, ValuesFault, parted_values, values};
+use iges_fields::{Delimiters, Value, Values, ValuesFault, parted_values_by, values};
 use iges_lines::{LineFault, PassFault, Reason};
 use std::alloc::Global;
 
@@ -67,24 +67,28 @@ pub fn passage_values(
     }
 }
 
-/// The same, the first value apart from the others, which take no more memory than they need.
+/// The same, the first value apart from the others, which take no more memory than they need. The spare list lends its
+/// room.
 pub fn parted_passage(
     alloc: Global,
     passage: &Passage<'_>,
     delims: Delimiters,
     reason: Reason,
+    spare: &mut Values,
 ) -> Result<(Value, Values), PassFault>
     requires permitted { IsTrue (are_permitted delims) }
     requires in_line { IsTrue (is_in_line passage.now.text.now) }
     requires width { 0 < passage.now.width }
     requires end { length passage.now.text.now ≤ length passage.now.columns.now }
     requires few { passage.now.first + length passage.now.columns.now < 2 ^ 64 }
+    requires spare_empty { spare.old ≡ [] }
     ensures ok { IfOk result
         (λ x. read_passage passage.now.first passage.now.width passage.now.columns.now reason delims passage.now.text.now ≡ Ok (x.0 ∷ x.1)) }
     ensures err { IfErr result (λ e. Fails e
         (read_passage passage.now.first passage.now.width passage.now.columns.now reason delims passage.now.text.now)) }
+    ensures spare_empty { spare.new ≡ [] }
 {
-    match parted_values(alloc, passage.text, delims) {
+    match parted_values_by(alloc, passage.text, delims, spare) {
         Ok(parts) => Ok(parts),
         Err(ValuesFault::Field(fault)) => Err(bad(line_of(passage, fault.at), reason)),
         Err(ValuesFault::NoMemory) => Err(PassFault::NoMemory),

@@ -12,6 +12,7 @@ ghost use Rattle.iges_params.specs.Contents.{Contents};
 ghost use Rattle.iges_params.specs.Global.{have_kinds};
 ghost use Rattle.iges_params.specs.IsFile.{IsFile};
 ghost use Rattle.iges_params.specs.Begun.{IsBegunFile};
+ghost use Rattle.iges_params.specs.FromLast.{AreRead, IsReadSomewhere};
 ghost use Rattle.iges_params.specs.Reading.{read_entries, read_lines};
 ghost use Rattle.iges_params.specs.Refusal.{Refusal};
 ghost use Rattle.std.specs.Prelude.{◌≡◌, ◌+◌, ◌*◌, ◌≤◌, [], List, MatchResult, Some, IfOk, IsTrue, ℕ, length, map, slice_get};
@@ -20,10 +21,11 @@ use crate::fault::ReadFileFault;
 use crate::file::File;
 use crate::global::Global26;
 use crate::global_pass::read_global;
-use crate::record::{lines_above, read_record};
+use crate::record::{Params, lines_above};
+use crate::records_read::{RecordsRead, read_and_give_back, read_records};
 use iges_base::{FILE_LIMIT, NoMemory};
-use iges_directory::{Directory, directory};
-use iges_lines::{Sections, columns, sections};
+use iges_directory::{Directory, EntryList, directory};
+use iges_lines::{PassFault, Sections, columns, sections};
 use std::alloc::Global;
 
 // A file of the start lines and the global.
@@ -46,43 +48,34 @@ fn begun(alloc: Global, lines: &Sections, global: Global26) -> Result<File, NoMe
     Ok(file)
 }
 
-// The file with the entries and the values of their records, where so many lines come before the parameter lines. The
-// text of each record is put in place of `text`.
+// The file with the entries and the values of their records, or the first fault among these.
 fn filled(
-    alloc: Global,
-    lines: &Sections,
-    above: u64,
-    entries: &Directory,
     mut file: File,
-    text: &mut Vec<u8>,
+    entries: Directory,
+    mut records: RecordsRead,
 ) -> Result<File, ReadFileFault>
-    requires few { 80 * (above + length lines.now.param) ≤ FILE_LIMIT }
-    requires records { (i : ℕ) (p : Placed) → slice_get entries.now i ≡ Some p
-        → IsTrue (has_record (length lines.now.param) p.entry.kind p.first p.count) }
     requires permitted { IsTrue (are_permitted file.global.delims) }
-    requires empty { file.entries ≡ [] }
-    ensures { Gives result (read_entries above lines.now.param file entries.now) }
+    requires left { records.left ≡ 0 }
+    requires read { IsReadSomewhere file entries records }
+    ensures { (above : ℕ) (params : List (List ℕ))
+        → AreRead above params file.global.delims entries records
+        → Gives result (read_entries above params file entries) }
 {
-    let delims = file.global().delims;
-    file.reserve(entries.count())?;
-    'entries: for i in 0..entries.count() {
-        let placed = entries.placed_at(i).unwrap();
-        let values = read_record(alloc, lines, above, delims, 2 * i + 1, placed, text)?;
-        file.push(placed.entry, values)?;
+    if let Some(fault) = records.fault {
+        return Err(PassFault::Bad(fault));
     }
+    records.values.reverse();
+    file.fill(EntryList::of(entries.into_placed(), records.values));
     Ok(file)
 }
 
 // What the passes before the records give: the file without its entries, and the directory.
-fn begun_file(
-    alloc: Global,
-    lines: &Sections,
-    text: &mut Vec<u8>,
-) -> Result<(File, Directory), ReadFileFault>
+fn begun_file(alloc: Global, lines: &Sections) -> Result<(File, Directory), ReadFileFault>
     ensures { MatchResult result (λ p. IsBegunFile lines.now p.0 p.1)
         (λ e. Fails e (read_lines lines.now)) }
 {
-    let global = read_global(alloc, lines, text)?;
+    let mut text = Vec::new(alloc);
+    let global = read_global(alloc, lines, &mut text)?;
     let entries = directory(alloc, lines)?;
     let file = begun(alloc, lines, global)?;
     Ok((file, entries))
@@ -92,25 +85,35 @@ fn begun_file(
 fn read_lines(alloc: Global, lines: &Sections) -> Result<File, ReadFileFault>
     ensures { Gives result (read_lines lines.now) }
 {
-    let mut text = Vec::new(alloc);
-    match begun_file(alloc, lines, &mut text) {
+    match begun_file(alloc, lines) {
         Ok((file, entries)) => {
-            filled(alloc, lines, lines_above(lines), &entries, file, &mut text)
+            let params = Params {
+                lines,
+                above: lines_above(lines),
+                delims: file.global().delims,
+            };
+            match read_records(alloc, &params, &entries) {
+                Ok(records) => filled(file, entries, records),
+                Err(_) => Err(PassFault::NoMemory),
+            }
         }
         Err(fault) => Err(fault),
     }
 }
 
-// The same, of which the directory's lines aren't kept after their pass.
+// The same, of which the lines of the directory and of the records aren't kept after they were read.
 fn read_taken(alloc: Global, mut lines: Sections) -> Result<File, ReadFileFault>
     ensures { Gives result (read_lines lines) }
 {
     let above = lines_above(&lines);
-    let mut text = Vec::new(alloc);
-    match begun_file(alloc, &lines, &mut text) {
+    match begun_file(alloc, &lines) {
         Ok((file, entries)) => {
             lines.clear_directory();
-            filled(alloc, &lines, above, &entries, file, &mut text)
+            let delims = file.global().delims;
+            match read_and_give_back(alloc, &mut lines, above, delims, &entries) {
+                Ok(records) => filled(file, entries, records),
+                Err(_) => Err(PassFault::NoMemory),
+            }
         }
         Err(fault) => Err(fault),
     }
@@ -130,8 +133,8 @@ pub fn read_sections(alloc: Global, lines: &Sections) -> Result<File, ReadFileFa
     read_lines(alloc, lines)
 }
 
-/// The same, of lines that aren't needed any more: the memory of the directory's lines is given back as soon as they are
-/// read.
+/// The same, of lines that aren't needed any more: the memory of the lines of the directory and of its records is given
+/// back as they are read.
 pub fn take_sections(alloc: Global, lines: Sections) -> Result<File, ReadFileFault>
     ensures found { (bytes : List ℕ) → IsSectioned bytes lines → IfOk result (IsFile bytes) }
     ensures only { (bytes : List ℕ) (f : Contents) → IsSectioned bytes lines → IsFile bytes f

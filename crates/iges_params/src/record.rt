@@ -10,7 +10,7 @@ ghost use Rattle.iges_params.specs.Reading.{above, read_record, used_values, wit
 ghost use Rattle.iges_params.specs.Records.{is_number, points_back, record_lines};
 ghost use Rattle.std.specs.List.{position_from};
 ghost use Rattle.std.specs.Ordering.{int_eq};
-ghost use Rattle.std.specs.Prelude.{◌≡◌, ◌+◌, ◌-◌, ◌*◌, ◌<◌, ◌≤◌, ◌^◌, ◌∷◌, IfOk, IfSome, IsTrue, Some, flat_map, length, not, pos, slice_get, slice_range, unsigned_abs};
+ghost use Rattle.std.specs.Prelude.{◌≡◌, ◌+◌, ◌-◌, ◌*◌, ◌<◌, ◌≤◌, ◌^◌, [], ◌∷◌, ℕ, IfOk, IfSome, IsTrue, Some, flat_map, length, not, pos, slice_get, slice_range, unsigned_abs};
 
 use crate::part::{Part, put_text};
 use crate::passage::{Passage, bad, parted_passage};
@@ -20,6 +20,17 @@ use iges_directory::{Entry, Placed};
 use iges_fields::{Delimiters, Value, Values};
 use iges_lines::{PassFault, Reason, Sections, columns};
 use std::alloc::Global;
+
+/// Parameter lines, and by what records are read from them.
+#[derive(Clone, Copy)]
+pub struct Params<'l> {
+    /// The sections of the file. Parameter lines that no record is read from any more may be missing at the end.
+    pub lines: &'l Sections,
+    /// How many lines come before the parameter lines in the file.
+    pub above: u64,
+    /// The delimiters of the values.
+    pub delims: Delimiters,
+}
 
 // The first of so many parameter lines, from a place on, that doesn't carry the number of the entry, counted from 0; the
 // first of them does.
@@ -138,62 +149,81 @@ fn is_unused(entry: &Entry) -> bool
     entry.kind == 0
 }
 
+/// How many parameter lines a file must have for the record of the entry, none for type 0.
+pub fn need_of(placed: &Placed) -> usize
+    requires { (n : ℕ) × (n < 2 ^ 62) × IsTrue
+        (has_record n placed.now.entry.kind placed.now.first placed.now.count) }
+    ensures { IsTrue (has_record result placed.now.entry.kind placed.now.first placed.now.count) }
+{
+    if is_unused(&placed.entry) {
+        return 0;
+    }
+    magnitude(&placed.first) - 1 + magnitude(&placed.count)
+}
+
 // The values of the record of an entry that isn't of type 0.
 fn used_values(
     alloc: Global,
-    sections: &Sections,
-    above: u64,
-    delims: Delimiters,
+    params: &Params<'_>,
     number: usize,
     placed: &Placed,
     text: &mut Vec<u8>,
+    spare: &mut Values,
 ) -> Result<Values, PassFault>
-    requires permitted { IsTrue (are_permitted delims) }
+    requires permitted { IsTrue (are_permitted params.now.delims) }
     requires number { number < 2 ^ 63 }
-    requires few { 80 * (above + length sections.now.param) ≤ FILE_LIMIT }
+    requires few { 80 * (params.now.above + length params.now.lines.now.param) ≤ FILE_LIMIT }
     requires first { 0 < unsigned_abs placed.now.first }
     requires within { unsigned_abs placed.now.first - 1 + unsigned_abs placed.now.count
-        ≤ length sections.now.param }
-    ensures { Gives result (used_values above sections.now.param delims number placed.now) }
+        ≤ length params.now.lines.now.param }
+    requires spare_empty { spare.old ≡ [] }
+    ensures gives { Gives result (used_values params.now.above params.now.lines.now.param params.now.delims number placed.now) }
+    ensures spare_empty { spare.new ≡ [] }
 {
     let place = magnitude(&placed.first);
     let count = magnitude(&placed.count);
-    let first = above + place as u64;
-    if let Some(i) = first_foreign(sections, place - 1, count, number) {
+    let first = params.above + place as u64;
+    if let Some(i) = first_foreign(params.lines, place - 1, count, number) {
         return Err(bad(first + i as u64, Reason::BackPointer));
     }
-    let columns = record_text(sections, place - 1, count, text)?;
+    let columns = record_text(params.lines, place - 1, count, text)?;
     let passage = Passage {
         columns,
         text: columns,
         first,
         width: 64,
     };
-    let (number, others) = parted_passage(alloc, &passage, delims, Reason::RecordValue)?;
+    let (number, others) = parted_passage(
+        alloc,
+        &passage,
+        params.delims,
+        Reason::RecordValue,
+        spare,
+    )?;
     behind_type(first, &placed.entry.kind, &number, others)
 }
 
-/// The values of the record of the entry with this number, none for type 0, where so many lines come before the
-/// parameter lines. The record's text, columns 1 to 64 of its lines (IGES 5.3, 2.2.4.5), is put in place of `text`.
+/// The values of the record of the entry with this number, none for type 0. The record's text, columns 1 to 64 of its
+/// lines (IGES 5.3, 2.2.4.5), is put in place of `text`. The spare list lends its room.
 pub fn read_record(
     alloc: Global,
-    sections: &Sections,
-    above: u64,
-    delims: Delimiters,
+    params: &Params<'_>,
     number: usize,
     placed: &Placed,
     text: &mut Vec<u8>,
+    spare: &mut Values,
 ) -> Result<Values, PassFault>
-    requires permitted { IsTrue (are_permitted delims) }
+    requires permitted { IsTrue (are_permitted params.now.delims) }
     requires number { number < 2 ^ 63 }
-    requires few { 80 * (above + length sections.now.param) ≤ FILE_LIMIT }
-    requires record { IsTrue
-        (has_record
-        (length sections.now.param) placed.now.entry.kind placed.now.first placed.now.count) }
-    ensures { Gives result (read_record above sections.now.param delims number placed.now) }
+    requires few { 80 * (params.now.above + length params.now.lines.now.param) ≤ FILE_LIMIT }
+    requires record { IsTrue (has_record
+        (length params.now.lines.now.param) placed.now.entry.kind placed.now.first placed.now.count) }
+    requires spare_empty { spare.old ≡ [] }
+    ensures gives { Gives result (read_record params.now.above params.now.lines.now.param params.now.delims number placed.now) }
+    ensures spare_empty { spare.new ≡ [] }
 {
     if is_unused(&placed.entry) {
         return Ok(Values::new(alloc));
     }
-    used_values(alloc, sections, above, delims, number, placed, text)
+    used_values(alloc, params, number, placed, text, spare)
 }

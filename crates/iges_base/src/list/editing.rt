@@ -1,8 +1,19 @@
-//! Replacing an item of a list, and dropping those at its end.
+//! Replacing an item of a list, dropping those at its end, and taking all of them.
 
-ghost use Rattle.std.specs.Prelude.{◌≡◌, ◌<◌, length, set, take};
+ghost use Rattle.std.specs.Prelude.{◌≡◌, ◌<◌, [], IfOk, OnOk, length, set, take};
 
 use crate::list::ItemList;
+use crate::no_memory::NoMemory;
+use std::alloc::Global;
+
+// The items in memory of their own, which is as large as they need.
+fn moved<T: Drop>(alloc: Global, items: &mut Vec<T>) -> Result<Vec<T>, NoMemory>
+    ensures { IfOk result (λ moved. moved.items ≡ items.old.items) }
+{
+    let mut moved = Vec::with_capacity(alloc, items.len())?;
+    moved.append(items)?;
+    Ok(moved)
+}
 
 impl<T: Drop> ItemList<T> {
     /// Puts an item in the place of the i-th, counted from 0, which is dropped.
@@ -19,5 +30,16 @@ impl<T: Drop> ItemList<T> {
         ensures { self.new ≡ take count self.old }
     {
         self.items.truncate(count);
+    }
+
+    /// The items in a list of their own, which takes no more memory than they need. None are left here, but their room is,
+    /// also where memory runs out.
+    pub fn taken(&mut self, alloc: Global) -> Result<ItemList<T>, NoMemory>
+        ensures ok { IfOk result (λ list. list ≡ self.old) }
+        ensures left { self.new ≡ [] }
+    {
+        let items = moved(alloc, &mut self.items);
+        self.items.clear();
+        Ok(ItemList { items: items? })
     }
 }

@@ -1,10 +1,12 @@
-//! Replacing a value of a list, and dropping those at its end.
+//! Replacing a value of a list, dropping those at its end, and taking all of them.
 
 ghost use Rattle.iges_fields.specs.InLine.{stays_in_line};
-ghost use Rattle.std.specs.Prelude.{◌≡◌, ◌<◌, IsTrue, length, set, take};
+ghost use Rattle.std.specs.Prelude.{◌≡◌, ◌<◌, [], IfOk, IsTrue, length, set, take};
 
 use crate::value::Value;
 use crate::value_list::Values;
+use iges_base::NoMemory;
+use std::alloc::Global;
 
 impl Values {
     /// Puts a value in the place of the i-th, counted from 0, which is dropped.
@@ -22,5 +24,16 @@ impl Values {
         ensures { self.new ≡ take count self.old }
     {
         self.values.truncate(count);
+    }
+
+    /// The values in a list of their own, which takes no more memory than they need. None are left here, but their room
+    /// is, also where memory runs out.
+    pub fn taken(&mut self, alloc: Global) -> Result<Values, NoMemory>
+        ensures ok { IfOk result (λ values. values ≡ self.old) }
+        ensures left { self.new ≡ [] }
+    {
+        Ok(Values {
+            values: self.values.taken(alloc)?,
+        })
     }
 }

@@ -6,7 +6,6 @@ ghost use Rattle.std.specs.Prelude.{◌≡◌, ◌<◌, [], Some, length, option
 use crate::file::File;
 use iges_fields::Values;
 use std::alloc::Global;
-use std::mem;
 
 impl File {
     /// Takes the values of the record of the i-th entry, i from 0, which has none from then on.
@@ -17,7 +16,7 @@ impl File {
             → option_map (λ e. e.0) (slice_get self.old.entries i) ≡ Some entry
             → self.new ≡ record self.old { entries = set self.old.entries i (entry, []) } }
     {
-        mem::replace(&mut self.entries[i].1, Values::new(alloc))
+        self.entries.take_values(alloc, i)
     }
 
     /// Takes the start lines and the global of another file, whose entries are dropped, in place of its own

@@ -1,44 +1,37 @@
-use Rattle.std.proofs.Common.{◌*◌, ◌≤◌, length, sym, ap, ◌∙◌, arith}
-use Rattle.std.specs.Prelude.{option_copied}
-use Rattle.std.proofs.lemmas.Result.{err_from_is_err_and}
-use Rattle.iges_params.specs.declared.global.Global26.{Global26}
-use Rattle.iges_params.proofs.Answers.{ok_is}
-use Rattle.iges_params.proofs.EntryPass.{record_fails, values_few, put_more, put_all}
-use Rattle.iges_params.proofs.RecordPass.{unused_is}
+use Rattle.std.proofs.Common.{List, sym, ap, subst, ◌∙◌, refl}
+use Rattle.std.specs.List.{AllByRecursion}
+use Rattle.iges_directory.specs.declared.entry.Placed.{Placed}
+use Rattle.iges_params.specs.Contents.{Contents}
+use Rattle.iges_params.specs.Made.{IsMadeEntry}
+use Rattle.iges_directory.specs.Paired.{Pairs, paired}
+use Rattle.iges_params.proofs.Answers.{done}
+use Rattle.iges_params.proofs.EntryPass.{each_made, within_limits, file_read}
 use Rattle.iges_params.proofs.reading.filled.Goals as goal
 
-pub read_record-requires-clause-record : goal.read_record-requires-clause-record
-read_record-requires-clause-record c = c.requires.records c.entries.i _ (sym c.placed_at.ensures.placed ∙ ap (λ o. option_copied o) c.unwrap-placed.ensures)
+pub fill-requires-clause-each : goal.fill-requires-clause-each
+fill-requires-clause-each c =
+    let r = c.requires.read in
+    let read = rw c.in_default.is at r.3 in
+    let list_is = c.of.ensures ∙ ap (λ (l : List Placed). paired l c.reverse.new.self.items) c.into_placed.ensures.placed ∙ ap (paired c.args.entries)
+    c.reverse.ensures.items in
+    subst (AllByRecursion IsMadeEntry) (sym list_is)
+    (each_made r.0 r.1 c.args.file.global.delims c.requires.permitted c.args.entries c.into_placed.ensures.bounded c.args.records.left c.requires.left
+    c.args.records.values.items read)
 
-pub returns-in_err-values : goal.returns-in_err-values
-returns-in_err-values c =
-    let p = err_from_is_err_and c.from_residual-in_err-values.result c.from_residual-in_err-values.ensures.1 in
-    let at = sym c.placed_at.ensures.placed ∙ ap (λ o. option_copied o) c.unwrap-placed.ensures in
-    let same = ap (λ (g : Global26). g.delims) c.global.ensures.is in
-    let failed = rw same at (c.in_err-values.ensures {u = tt}) in
-    rw (p.1, p.2) (record_fails c.args.above c.args.lines.now.param c.args.entries.now c.args.file c.entries.file c.entries.i c.entries.invariant _ at _ failed)
-
-pub push-requires-clause-unused : goal.push-requires-clause-unused
-push-requires-clause-unused c = λ t. ok_is c.in_ok-values.values _
-    (sym (c.in_ok-values.ensures {u = tt}) ∙ unused_is c.args.above c.args.lines.now.param _ _ _ t)
-
-pub push-requires-clause-few : goal.push-requires-clause-few
-push-requires-clause-few c =
-    let at = sym c.placed_at.ensures.placed ∙ ap (λ o. option_copied o) c.unwrap-placed.ensures in
-    let same = ap (λ (g : Global26). g.delims) c.global.ensures.is in
-    let read = rw same at (c.in_ok-values.ensures {u = tt}) in
-    values_few c.args.above c.args.lines.now.param c.args.entries.now c.args.file c.entries.file c.entries.i c.entries.invariant _ at c.requires.permitted
-    c.in_ok-values.values read (let few : 80 * length c.args.lines.now.param ≤ 164000000 = omega (arith, c.requires.few) in few)
-
-pub entries-preserved : goal.entries-preserved
-entries-preserved c =
-    let at = sym c.placed_at.ensures.placed ∙ ap (λ o. option_copied o) c.unwrap-placed.ensures in
-    let same = ap (λ (g : Global26). g.delims) c.global.ensures.is in
-    let read = rw same at (c.in_ok-values.ensures {u = tt}) in
-    let put = c.in_ok-push.ensures {u = tt} in
-    put_more c.args.above c.args.lines.now.param c.args.entries.now c.args.file c.entries.file c.entries.i c.entries.invariant _ at c.requires.permitted
-    c.in_ok-values.values read c.push.new.self put.ok
+pub fill-requires-clause-limits : goal.fill-requires-clause-limits
+fill-requires-clause-limits c =
+    let r = c.requires.read in
+    let read = rw c.in_default.is at r.3 in
+    let list_is = c.of.ensures ∙ ap (λ (l : List Placed). paired l c.reverse.new.self.items) c.into_placed.ensures.placed ∙ ap (paired c.args.entries)
+    c.reverse.ensures.items in
+    within_limits r.0 r.1 c.args.file.global.delims c.requires.permitted c.args.entries c.into_placed.ensures.bounded c.args.records.left c.requires.left
+    c.args.records.values.items read r.2 _ list_is
 
 pub returns : goal.returns
-returns c = put_all c.args.above c.args.lines.now.param c.args.entries.now c.args.file c.entries.file c.entries.i c.entries.invariant
-    (let past : length c.args.entries.now ≤ c.entries.i = omega (arith, c.count-i-end.ensures.count, c.entries-test.false) in past)
+returns c = λ above params are.
+    let read = rw c.in_default.is at are in
+    let list_is = c.of.ensures ∙ ap (λ (l : List Placed). paired l c.reverse.new.self.items) c.into_placed.ensures.placed ∙ ap (paired c.args.entries)
+    c.reverse.ensures.items in
+    file_read above params c.args.file.global.delims c.args.entries c.args.records.left c.requires.left c.args.records.values.items c.args.file refl read
+    ∙ ap (λ (es : Pairs). done {X = Contents} (record { start = c.args.file.start; global = c.args.file.global; entries = es })) (sym list_is)
+    ∙ ap (λ (f : Contents). done f) (sym c.fill.ensures)

@@ -1,5 +1,5 @@
 use Rattle.iges_params.proofs.FileExact.{IsFile-read_file, Refusal-read_file}
-use Rattle.iges_params.proofs.FilePass.{lines_fail, fault_from}
+use Rattle.iges_params.proofs.FilePass.{lines_fail}
 use Rattle.iges_params.proofs.reading.read_file.Goals as goal
 
 pub returns-in-Ok-clause-only : goal.returns-in-Ok-clause-only

@@ -1,7 +1,7 @@
 use Rattle.iges_fields.proofs.Loop.{parted_fault, parted_found}
 use Rattle.iges_fields.proofs.FaultPlaces.{places_within}
 use Rattle.iges_fields.proofs.Whole.{FreeText-read_values, IsFieldFault-read_values}
-use Rattle.iges_fields.proofs.reading.parted_values.Goals as goal
+use Rattle.iges_fields.proofs.reading.parted_values_by.Goals as goal
 
 pub returns-clause-found : goal.returns-clause-found
 returns-clause-found c = parted_found c.args.delims c.read_parted.ensures.permitted c.args.text.now c.read_parted.result c.read_parted.ensures.gives
