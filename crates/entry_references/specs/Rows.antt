@@ -1,10 +1,9 @@
 -- Private: the layouts by the names that the code gives them.
-use Rattle.std.specs.Prelude.{◌≡◌, ℕ, ℤ, pos, ◌+◌, ◌*◌, List, [], ◌∷◌, ◌==◌, if◌then◌else◌}
+use Rattle.std.specs.Prelude.{ℤ, ◌+◌, ◌*◌, List, [], ◌∷◌, ◌==◌, if◌then◌else◌}
 use Rattle.std.specs.List.{range_with_len}
 use Rattle.entry_references.specs.Layout.{Layout, fixed, counted, nth, by_form}
 use Rattle.entry_references.specs.declared.layout.Layout.{Layout as Named}
 use Rattle.entry_references.specs.declared.layout.Layout.TheVariants as row
-use Rattle.entry_references.specs.declared.layout.Row.{Row}
 use Rattle.entry_references.specs.declared.layout.Forms.{Forms}
 use Rattle.entry_references.specs.declared.layout.Forms.TheVariants as forms
 
@@ -27,10 +26,3 @@ layout_of_row row.RationalSurface =
 abbrev pub layout_in_form : ℤ → Forms → Layout
 layout_in_form form (forms.Every layout) = layout_of_row layout
 layout_in_form form (forms.First first other) = by_form form (layout_of_row first) (layout_of_row other)
-
--- row by row the type and its layout in a form
-abbrev pub Shows : ℤ → List Row → List (ℕ × Layout) → Type 0
-Shows form [] [] = Unit {0}
-Shows form (r ∷ rs) (x ∷ xs) = (r.0 ≡ pos x.0) × ((layout_in_form form r.1 ≡ x.1) × Shows form rs xs)
-Shows form [] (x ∷ xs) = ⊥
-Shows form (r ∷ rs) [] = ⊥

@@ -1,7 +1,7 @@
 //! The types that extraction follows, but for those of a solid's own records.
 
 ghost use Rattle.entry_references.specs.Layout.{layout_of, listed, is_other_property};
-ghost use Rattle.entry_references.specs.Rows.{layout_of_row, layout_in_form, Shows};
+ghost use Rattle.entry_references.specs.Rows.{layout_of_row, layout_in_form};
 ghost use Rattle.std.specs.Prelude.{find};
 ghost use Rattle.std.specs.Ordering.{int_eq};
 ghost use Rattle.std.specs.Prelude.{◌≡◌, ℤ, pos, option_map};
@@ -38,78 +38,41 @@ pub enum Forms {
     First(Layout, Layout),
 }
 
-/// A type, by its number, and its layouts.
-#[derive(Clone, Copy)]
-pub struct Row(i64, Forms);
-
-// Each type by its name and its section (IGES 5.3, chapter 4).
-const TABLE: [Row; 23] = [
-    Row(100, Forms::Every(Layout::Fixed(7, &[]))), // circular arc, 4.3
-    Row(102, Forms::Every(Layout::CompositeCurve)), // composite curve, 4.4
-    Row(104, Forms::Every(Layout::Fixed(11, &[]))), // conic arc, 4.5
-    Row(106, Forms::Every(Layout::CopiousData)), // copious data, 4.6
-    Row(108, Forms::Every(Layout::Fixed(9, &[5]))), // plane, 4.12
-    Row(110, Forms::Every(Layout::Fixed(6, &[]))), // line, 4.13
-    Row(112, Forms::Every(Layout::SplineCurve)), // parametric spline curve, 4.14
-    Row(116, Forms::Every(Layout::Point)), // point, 4.16
-    Row(118, Forms::Every(Layout::Fixed(4, &[1, 2]))), // ruled surface, 4.17
-    Row(120, Forms::Every(Layout::Fixed(4, &[1, 2]))), // surface of revolution, 4.18
-    Row(122, Forms::Every(Layout::Fixed(4, &[1]))), // tabulated cylinder, 4.19
-    Row(123, Forms::Every(Layout::Fixed(3, &[]))), // direction, 4.20
-    Row(124, Forms::Every(Layout::Fixed(12, &[]))), // transformation matrix, 4.21
-    Row(126, Forms::Every(Layout::RationalCurve)), // rational B-spline curve, 4.23
-    Row(128, Forms::Every(Layout::RationalSurface)), // rational B-spline surface, 4.24
-    Row(140, Forms::Every(Layout::Fixed(5, &[5]))), // offset surface, 4.30
-    // plane surface, 4.50
-    Row(
-        190,
-        Forms::First(Layout::Fixed(3, &[1, 2, 3]), Layout::Fixed(2, &[1, 2])),
-    ),
-    // right circular cylindrical surface, 4.51
-    Row(
-        192,
-        Forms::First(Layout::Fixed(4, &[1, 2, 4]), Layout::Fixed(3, &[1, 2])),
-    ),
-    // right circular conical surface, 4.52
-    Row(
-        194,
-        Forms::First(Layout::Fixed(5, &[1, 2, 5]), Layout::Fixed(4, &[1, 2])),
-    ),
-    // spherical surface, 4.53
-    Row(
-        196,
-        Forms::First(Layout::Fixed(4, &[1, 3, 4]), Layout::Fixed(2, &[1])),
-    ),
-    // toroidal surface, 4.54
-    Row(
-        198,
-        Forms::First(Layout::Fixed(5, &[1, 2, 5]), Layout::Fixed(4, &[1, 2])),
-    ),
-    Row(314, Forms::Every(Layout::Fixed(4, &[]))), // colour definition, in chapter 4
-    Row(406, Forms::Every(Layout::Fixed(2, &[]))), // property, in chapter 4; form 15 is the name
-];
-
-// The row of the table for an entity type.
-fn row_of(rows: &[Row], kind: i64) -> Option<Row>
-    ensures { result ≡ find (λ r. int_eq kind r.0) rows.now }
-{
-    'rows: for row in rows {
-        if kind == row.0 {
-            return Some(*row);
-        }
-    }
-    None
-}
-
-// The layouts of a type that the rows list.
-fn forms_of(rows: &[Row], kind: i64) -> Option<Forms>
-    requires { (form : ℤ) → Shows form rows.now (listed form) }
+// The layouts of a type; each is beside its name and its section (IGES 5.3, chapter 4). A table would be copied at each call.
+fn forms_of(kind: i64) -> Option<Forms>
     ensures { (form : ℤ) → option_map (layout_in_form form) result
         ≡ option_map (λ row. row.1) (find (λ row. int_eq kind (pos row.0)) (listed form)) }
 {
-    match row_of(rows, kind) {
-        Some(row) => Some(row.1),
-        None => None,
+    match kind {
+        100 => Some(Forms::Every(Layout::Fixed(7, &[]))), // circular arc, 4.3
+        102 => Some(Forms::Every(Layout::CompositeCurve)), // composite curve, 4.4
+        104 => Some(Forms::Every(Layout::Fixed(11, &[]))), // conic arc, 4.5
+        106 => Some(Forms::Every(Layout::CopiousData)), // copious data, 4.6
+        108 => Some(Forms::Every(Layout::Fixed(9, &[5]))), // plane, 4.12
+        110 => Some(Forms::Every(Layout::Fixed(6, &[]))), // line, 4.13
+        112 => Some(Forms::Every(Layout::SplineCurve)), // parametric spline curve, 4.14
+        116 => Some(Forms::Every(Layout::Point)), // point, 4.16
+        118 => Some(Forms::Every(Layout::Fixed(4, &[1, 2]))), // ruled surface, 4.17
+        120 => Some(Forms::Every(Layout::Fixed(4, &[1, 2]))), // surface of revolution, 4.18
+        122 => Some(Forms::Every(Layout::Fixed(4, &[1]))), // tabulated cylinder, 4.19
+        123 => Some(Forms::Every(Layout::Fixed(3, &[]))), // direction, 4.20
+        124 => Some(Forms::Every(Layout::Fixed(12, &[]))), // transformation matrix, 4.21
+        126 => Some(Forms::Every(Layout::RationalCurve)), // rational B-spline curve, 4.23
+        128 => Some(Forms::Every(Layout::RationalSurface)), // rational B-spline surface, 4.24
+        140 => Some(Forms::Every(Layout::Fixed(5, &[5]))), // offset surface, 4.30
+        // plane surface, 4.50
+        190 => Some(Forms::First(Layout::Fixed(3, &[1, 2, 3]), Layout::Fixed(2, &[1, 2]))),
+        // right circular cylindrical surface, 4.51
+        192 => Some(Forms::First(Layout::Fixed(4, &[1, 2, 4]), Layout::Fixed(3, &[1, 2]))),
+        // right circular conical surface, 4.52
+        194 => Some(Forms::First(Layout::Fixed(5, &[1, 2, 5]), Layout::Fixed(4, &[1, 2]))),
+        // spherical surface, 4.53
+        196 => Some(Forms::First(Layout::Fixed(4, &[1, 3, 4]), Layout::Fixed(2, &[1]))),
+        // toroidal surface, 4.54
+        198 => Some(Forms::First(Layout::Fixed(5, &[1, 2, 5]), Layout::Fixed(4, &[1, 2]))),
+        314 => Some(Forms::Every(Layout::Fixed(4, &[]))), // colour definition, in chapter 4
+        406 => Some(Forms::Every(Layout::Fixed(2, &[]))), // property, in chapter 4; form 15 is the name
+        _ => None,
     }
 }
 
@@ -139,7 +102,7 @@ pub fn layout_of(entry: &Entry) -> Option<Layout>
     if is_other_property(entry) {
         return None;
     }
-    match forms_of(&TABLE, entry.kind) {
+    match forms_of(entry.kind) {
         Some(forms) => Some(in_form(forms, entry.form)),
         None => None,
     }

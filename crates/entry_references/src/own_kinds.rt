@@ -36,7 +36,7 @@ fn of_shell(alloc: Global, values: &Values) -> Result<Option<Own>, NoMemory>
         return Ok(None);
     };
     let faces = record.len();
-    let mut pointers = ItemList::new(alloc);
+    let mut pointers = ItemList::with_room(alloc, faces)?;
     push_groups(&mut pointers, 2, faces, 2, &[0])?;
     Ok(Some(Own::with_pointers(alloc, 1 + faces * 2, pointers)))
 }
@@ -61,7 +61,8 @@ fn of_loop(alloc: Global, values: &Values) -> Result<Option<Own>, NoMemory>
     let Some(record) = LoopRecord::of(values) else {
         return Ok(None);
     };
-    let mut pointers = ItemList::new(alloc);
+    // Each tuple has five values at least.
+    let mut pointers = ItemList::with_room(alloc, values.len() / 5)?;
     let end = push_tuples(&mut pointers, 2, &record)?;
     Ok(Some(Own::with_pointers(alloc, end - 1, pointers)))
 }
@@ -74,7 +75,8 @@ fn of_edge_list(alloc: Global, values: &Values) -> Result<Option<Own>, NoMemory>
         return Ok(None);
     };
     let count = list.len();
-    let mut pointers = ItemList::new(alloc);
+    // Three of the five values of an edge are pointers.
+    let mut pointers = ItemList::with_room(alloc, values.len() / 5 * 3)?;
     push_groups(&mut pointers, 2, count, 5, &[0, 1, 3])?;
     Ok(Some(Own::with_pointers(alloc, 1 + count * 5, pointers)))
 }

@@ -49,6 +49,14 @@ impl EntryList {
         EntryList { placed, values }
     }
 
+    /// Takes the room for so many entries more, where there is memory for it, so that the list isn't moved as it grows.
+    pub fn reserve(&mut self, count: usize)
+        ensures { self.new ≡ self.old }
+    {
+        let _placed = self.placed.reserve_exact(count);
+        let _values = self.values.reserve_exact(count);
+    }
+
     /// Puts an entry with its values at the end. Where memory runs out, the values are dropped.
     #[inline(always)]
     pub fn push(&mut self, entry: Entry, values: Values) -> Result<(), NoMemory>

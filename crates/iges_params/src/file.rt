@@ -93,6 +93,13 @@ impl File {
         Ok(())
     }
 
+    /// Takes the room for so many entries more, where there is memory for it.
+    pub fn reserve(&mut self, entries: usize)
+        ensures { self.new ≡ self.old }
+    {
+        self.entries.reserve(entries);
+    }
+
     /// Puts an entry with the values of its record, without the type number, at the end (IGES 5.3, 2.2.4.4 and
     /// 2.2.4.5). The entry's fields must fit their columns; type 0 has no values; a file has at most `ENTRY_LIMIT` entries
     /// and at most `FILE_LIMIT` values in all records together. Where memory runs out, the values are dropped and

@@ -12,7 +12,9 @@ pub mod Widths
 pub mod FileBack
 pub mod Made
 pub mod Sheets
+pub mod ShortNumbers
 pub mod Endings
+pub mod LineTexts
 pub mod EntryLines
 pub mod Pages
 pub mod Places

@@ -1,6 +1,8 @@
 -- The sections of a file one after the other are its text.
 use Rattle.std.proofs.Common.{◌≡◌, ℕ, ◌-◌, ◌<◌, ◌≤◌, List, [], ◌∷◌, ◌++◌, length, refl, sym, ap, subst, ◌∙◌, arith, length-append, Result, Ok, Err}
-use Rattle.std.specs.Prelude.{IfOk, OnOk}
+use Rattle.std.specs.Prelude.{IfErr, IfOk, OnOk}
+use Rattle.std.specs.Result.{IsErrAnd}
+use Rattle.std.proofs.lemmas.Result.{err_from_is_err_and}
 use Rattle.iges_base.specs.declared.TheConstants.{FILE_LIMIT}
 use Rattle.iges_params.specs.IsFile.{IsFile}
 use Rattle.iges_write.specs.Writable.{IsWritable}
@@ -8,13 +10,20 @@ use Rattle.iges_params.specs.Contents.{Contents}
 use Rattle.iges_write.specs.declared.counts.Counts.{Counts}
 use Rattle.iges_write.specs.declared.fault.WriteFileFault.{WriteFileFault}
 use Rattle.iges_write.specs.declared.fault.WriteFileFault.TheVariants as fault
-use Rattle.iges_write.specs.FileSheet.{blank, with_front, with_directory, params_sheet, with_records, with_counts, file_sheet, Writes}
+use Rattle.iges_write.specs.FileSheet.{blank, with_front, with_directory, params_sheet, with_records, with_counts, file_sheet, ArePages, Writes}
 use Rattle.iges_write.specs.Gives.{Gives}
 use Rattle.iges_write.specs.Filling.{global_lines, records_lines, text_of}
-use Rattle.iges_write.specs.Sheet.{Sheet, Fails, page_lines}
+use Rattle.iges_write.specs.Sheet.{Sheet, Fails, FailsBoth, append_text, page_lines}
 use Rattle.iges_write.specs.Text.{counts_columns, directory_lines, param_lines, IsText}
 use Rattle.iges_write.proofs.FileBack.{reads_back, IsText-text_of, text_of-IsText}
 use Rattle.iges_write.proofs.Pages.{text_pages}
+
+-- what holds of the fault that a call passes on
+pub passed_on : {A : Type 0} (o : Result A WriteFileFault) (fault : WriteFileFault) (P : WriteFileFault → Type 0) → P fault → IsErrAnd o (λ y. y ≡ fault)
+    → IfErr o P
+passed_on {A} o fault P h e =
+    let p = err_from_is_err_and o e in
+    subst (λ (x : Result A WriteFileFault). IfErr x P) (sym p.1) (subst P (sym p.2) h)
 
 -- what is too large stays it, as the text grows
 fails_further : (fault : WriteFileFault) (s t : Sheet) → t.limit ≡ s.limit → length s.text ≤ length t.text → Fails fault s → Fails fault t
@@ -62,28 +71,62 @@ module _ (limit : ℕ) (f : Contents) where
   front_fails fault start is h =
       fails_further fault front (file_sheet limit f) refl (omega (arith, front_short, records_short)) (subst (λ (s : Sheet). Fails fault (with_front s f)) is h)
 
+  -- the directory and the records are on two pages
   module _ (start s : Sheet) (start_is : start ≡ blank limit 83 72) (s_is : s ≡ with_front start f) where
     both_is : s ≡ front
     both_is = s_is ∙ ap (λ (x : Sheet). with_front x f) start_is
 
-    pub records_fail : (fault : WriteFileFault) → Fails fault (with_records s f) → Fails fault (file_sheet limit f)
-    records_fail fault h = fails_further fault records (file_sheet limit f) refl records_short (subst (λ (x : Sheet). Fails fault (with_records x f)) both_is h)
+    joined_fails : (fault : WriteFileFault) → FailsBoth fault (with_directory front f) (params_sheet limit f) → Fails fault records
+    joined_fails fault.TooLarge h = omega (arith, h, length-append (with_directory front f).text (params_sheet limit f).text)
+    joined_fails fault.NoMemory h = tt
 
-    pub file_done : (t u : Sheet) (counts : Counts) → t ≡ with_records s f → u ≡ params_sheet s.limit f
+    pub records_fail : (fault : WriteFileFault) → FailsBoth fault (with_directory s f) (params_sheet s.limit f) → Fails fault (file_sheet limit f)
+    records_fail fault h =
+        fails_further fault records (file_sheet limit f) refl records_short
+        (joined_fails fault (subst (λ (x : Sheet). FailsBoth fault (with_directory x f) (params_sheet x.limit f)) both_is h))
+
+    pub pages_done : (t u : Sheet) (counts : Counts) → t ≡ with_directory s f → u ≡ params_sheet s.limit f
         → counts.start ≡ length f.start → counts.global ≡ s.number - 1 → counts.directory ≡ t.number - 1 → counts.params ≡ u.number - 1
-        → with_counts t counts ≡ file_sheet limit f
-    file_done t u counts t_is u_is start_count global_count directory_count params_count =
-        let t_whole : t ≡ records = t_is ∙ ap (λ (x : Sheet). with_records x f) both_is in
+        → ArePages limit f t u counts
+    pages_done t u counts t_is u_is start_count global_count directory_count params_count =
+        let t_whole : t ≡ with_directory front f = t_is ∙ ap (λ (x : Sheet). with_directory x f) both_is in
         let u_whole : u ≡ params_sheet limit f = u_is ∙ ap (λ (x : Sheet). params_sheet x.limit f) both_is in
-        let g : counts.global ≡ length (global_lines f.global) = omega (arith, global_count, ap (λ (x : Sheet). x.number) both_is) in
-        let d : counts.directory ≡ length directory = omega (arith, directory_count, ap (λ (x : Sheet). x.number) t_whole) in
-        let p : counts.params ≡ length params = omega (arith, params_count, ap (λ (x : Sheet). x.number) u_whole) in
-        let put : with_counts t counts ≡ with_counts records counts = ap (λ (x : Sheet). with_counts x counts) t_whole in
-        let counted : finished (records.text ++ page_lines [] 84 1 (counts_columns counts.start counts.global counts.directory counts.params ∷ []))
-        ≡ finished (records.text ++ page_lines [] 84 1 last) =
-        ap (λ (columns : List ℕ). finished (records.text ++ page_lines [] 84 1 (columns ∷ [])))
-        (same_columns counts.start counts.global counts.directory counts.params _ _ _ _ start_count g d p) in
-        put ∙ counted ∙ ap finished text_is
+        record {
+          front_is = t_whole;
+          behind_is = u_whole;
+          start = start_count;
+          global = omega (arith, global_count, ap (λ (x : Sheet). x.number) both_is);
+          directory = omega (arith, directory_count, ap (λ (x : Sheet). x.number) t_whole);
+          params = omega (arith, params_count, ap (λ (x : Sheet). x.number) u_whole);
+        }
+
+  pub pages_joined : (t u : Sheet) (counts : Counts) → ArePages limit f t u counts → with_counts (append_text t u.text) counts ≡ file_sheet limit f
+  pages_joined t u counts h =
+      let put : with_counts (append_text t u.text) counts ≡ with_counts records counts =
+      ap (λ (x : Sheet). with_counts (append_text x u.text) counts) h.front_is
+      ∙ ap (λ (x : Sheet). with_counts (append_text (with_directory front f) x.text) counts) h.behind_is in
+      let counted : finished (records.text ++ page_lines [] 84 1 (counts_columns counts.start counts.global counts.directory counts.params ∷ []))
+      ≡ finished (records.text ++ page_lines [] 84 1 last) =
+      ap (λ (columns : List ℕ). finished (records.text ++ page_lines [] 84 1 (columns ∷ [])))
+      (same_columns counts.start counts.global counts.directory counts.params _ _ _ _ h.start h.global h.directory h.params) in
+      put ∙ counted ∙ ap finished text_is
+
+  pub writes_failed : (o : Result (List ℕ) WriteFileFault) (e : WriteFileFault) → Fails e (file_sheet limit f) → IsErrAnd o (λ y. y ≡ e)
+      → Writes limit o (text_of f)
+  writes_failed o e h is =
+      let p = err_from_is_err_and o is in
+      subst (λ (x : Result (List ℕ) WriteFileFault). Writes limit x (text_of f)) (sym p.1)
+      (by_fault p.0 (subst (λ (x : WriteFileFault). Fails x (file_sheet limit f)) (sym p.2) h))
+    where
+      by_fault : (x : WriteFileFault) → Fails x (file_sheet limit f) → Writes limit (Err x) (text_of f)
+      by_fault fault.TooLarge k = k
+      by_fault fault.NoMemory k = tt
+
+-- the last line, behind the records
+pub end_fails : (fault : WriteFileFault) (s : Sheet) (counts : Counts) → Fails fault s → Fails fault (with_counts s counts)
+end_fails fault s counts h =
+    fails_further fault s (with_counts s counts) refl
+    (omega (arith, length-append s.text (page_lines [] 84 1 (counts_columns counts.start counts.global counts.directory counts.params ∷ [])))) h
 
 -- ---- what a file's text within a limit is, by its definition
 

@@ -42,3 +42,12 @@ abbrev pub Writes : ℕ → Result (List ℕ) WriteFileFault → List ℕ → Ty
 Writes limit (Ok bytes) text = (bytes ≡ text) × (length text ≤ limit)
 Writes limit (Err fault.TooLarge) text = limit < length text
 Writes limit (Err fault.NoMemory) text = Unit {0}
+
+-- the two pages of a file, and how many lines its sections have
+pub record ArePages (limit : ℕ) (f : Contents) (front behind : Sheet) (counts : Counts) : Type 0 where
+  pub front_is : front ≡ with_directory (with_front (blank limit letter_S 72) f) f
+  pub behind_is : behind ≡ params_sheet limit f
+  pub start : counts.start ≡ length f.start
+  pub global : counts.global ≡ length (global_lines f.global)
+  pub directory : counts.directory ≡ length (directory_lines 1 f.entries (records_lines f))
+  pub params : counts.params ≡ length (param_lines (records_lines f))

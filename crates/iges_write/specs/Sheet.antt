@@ -94,10 +94,13 @@ abbrev pub tail_bytes : Option (List ℕ) → List ℕ
 tail_bytes (Some tail) = tail
 tail_bytes None = []
 
--- What a page always keeps: it is a sheet of bytes, and knows how the line being made will end.
-pub record IsPage (text ending : List ℕ) (letter number limit : ℕ) : Type 0 where
+-- What a page always keeps: it is a sheet of bytes, knows how the line being made will end, and that line is within its width.
+pub record IsPage (text line ending : List ℕ) (letter number width limit : ℕ) : Type 0 where
   pub sheet : IsSheet text number limit
   pub ending_is : ending ≡ count_field letter number
+  pub wide : 0 < width
+  pub narrow : width ≤ 72
+  pub held : length line ≤ width
 
 -- the next sheet, or it is too large
 abbrev pub Steps : {A : Type 0} → Result A WriteFileFault → Sheet → Sheet → Type 0

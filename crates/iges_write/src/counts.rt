@@ -2,13 +2,13 @@
 
 ghost use Rattle.iges_write.specs.FileSheet.{with_counts};
 ghost use Rattle.iges_write.specs.Sheet.{Steps};
-ghost use Rattle.iges_write.specs.Text.{count_field, counts_columns};
-ghost use Rattle.std.specs.Prelude.{◌≡◌, ◌++◌, IfOk, length};
+ghost use Rattle.iges_write.specs.Text.{counts_columns};
+ghost use Rattle.std.specs.Prelude.{◌≡◌, length};
 
-use crate::column::{count_field, put_spaces};
+use crate::column::count_field;
 use crate::fault::WriteFileFault;
+use crate::line_text::LineText;
 use crate::page::Page;
-use iges_base::NoMemory;
 
 /// How many lines each section has.
 #[derive(Clone, Copy)]
@@ -23,38 +23,25 @@ pub struct Counts {
     pub params: u64,
 }
 
-// A section's letter, and the number of its lines in seven columns.
-fn put_count(line: &mut Vec<u8>, letter: u8, count: u64) -> Result<(), NoMemory>
-    ensures { IfOk result (λ _. line.new.items ≡ line.old.items ++ count_field letter count) }
+// The columns 1 to 72 of the terminate line.
+fn columns_of(counts: &Counts) -> LineText
+    ensures { (result ≡ counts_columns counts.now.start counts.now.global counts.now.directory counts.now.params)
+        × (length result ≡ 72) }
 {
-    line.extend_from_slice(&count_field(letter, count))?;
-    Ok(())
+    let mut line = LineText::new();
+    line.push(&count_field(b'S', counts.start));
+    line.push(&count_field(b'G', counts.global));
+    line.push(&count_field(b'D', counts.directory));
+    line.push(&count_field(b'P', counts.params));
+    line.pad(72);
+    line
 }
 
-// The columns 1 to 72 of the terminate line, in place of `line`.
-fn put_columns(line: &mut Vec<u8>, counts: &Counts) -> Result<(), NoMemory>
-    ensures { IfOk result (λ _. (line.new.items
-        ≡ counts_columns counts.now.start counts.now.global counts.now.directory counts.now.params)
-        × (length line.new.items ≡ 72)) }
-{
-    line.clear();
-    put_count(line, b'S', counts.start)?;
-    put_count(line, b'G', counts.global)?;
-    put_count(line, b'D', counts.directory)?;
-    put_count(line, b'P', counts.params)?;
-    put_spaces(line, 40)?;
-    Ok(())
-}
-
-/// Puts the terminate line. `line` is a scratch buffer.
-pub fn put_terminate(
-    page: &mut Page,
-    line: &mut Vec<u8>,
-    counts: &Counts,
-) -> Result<(), WriteFileFault>
+/// Puts the terminate line.
+pub fn put_terminate(page: &mut Page, counts: &Counts) -> Result<(), WriteFileFault>
     ensures { Steps result page.new (with_counts page.old counts.now) }
 {
-    put_columns(line, counts)?;
+    let line = columns_of(counts);
     page.begin(b'T', 72);
     page.put_line(line.as_slice())
 }

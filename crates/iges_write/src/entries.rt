@@ -22,7 +22,6 @@ use iges_params::File;
 fn put_used(
     page: &mut Page,
     params: &mut Page,
-    line: &mut Vec<u8>,
     number: u64,
     entry: &Entry,
     values: &[Value],
@@ -36,17 +35,11 @@ fn put_used(
 {
     let first = params.number();
     params.put_record(number, &entry.kind, values, delims)?;
-    put_entry(page, line, entry, first, params.number() - first)
+    put_entry(page, entry, first, params.number() - first)
 }
 
 // The two lines of the entry at a place, counted from 0, and its record. An entry of type 0 has none.
-fn put_at(
-    page: &mut Page,
-    params: &mut Page,
-    line: &mut Vec<u8>,
-    file: &File,
-    i: usize,
-) -> Result<(), WriteFileFault>
+fn put_at(page: &mut Page, params: &mut Page, file: &File, i: usize) -> Result<(), WriteFileFault>
     requires both { Both page.old params.old }
     requires made { IsMade file.now }
     requires within { i < length file.now.entries }
@@ -63,24 +56,18 @@ fn put_at(
         Some(values) => put_used(
             page,
             params,
-            line,
             u64::from(no.0),
             entry,
             values.as_slice(),
             delims,
         ),
-        None => put_entry(page, line, entry, 0, 0),
+        None => put_entry(page, entry, 0, 0),
     }
 }
 
 /// Puts the two lines of each entry, and beside them the records, which come in the same order. One pass makes both, since an
-/// entry's lines say where its record is. `line` is a scratch buffer.
-pub fn put_entries(
-    page: &mut Page,
-    params: &mut Page,
-    line: &mut Vec<u8>,
-    file: &File,
-) -> Result<(), WriteFileFault>
+/// entry's lines say where its record is.
+pub fn put_entries(page: &mut Page, params: &mut Page, file: &File) -> Result<(), WriteFileFault>
     requires both { Both page.old params.old }
     ensures steps { StepsBoth result
         page.new (put_lines page.old (directory_lines params.old.number file.now.entries (map (record_text_lines file.now.global.delims) file.now.entries)))
@@ -88,7 +75,7 @@ pub fn put_entries(
     ensures held { OnOk result (AllByRecursion IsHeld file.now.entries) }
 {
     'entries: for i in 0..file.entry_count() {
-        put_at(page, params, line, file, i)?;
+        put_at(page, params, file, i)?;
     }
     Ok(())
 }

@@ -7,10 +7,11 @@ mod entries;
 mod entry;
 mod fault;
 mod law;
+mod line_text;
 mod page;
 mod start;
 mod writing;
 
 pub use fault::WriteFileFault;
 pub use law::{every_file_has_one_text, every_read_file_can_be_made, every_text_reads_back};
-pub use writing::write_file;
+pub use writing::{into_text, write_file};

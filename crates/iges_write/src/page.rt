@@ -8,10 +8,11 @@ ghost use Rattle.iges_write.specs.Filling.{fill};
 ghost use Rattle.iges_write.specs.Text.{count_field};
 ghost use Rattle.iges_write.specs.Parts.{parts, single_parts, value_parts, word_parts};
 ghost use Rattle.iges_write.specs.Sheet.{Steps, add, append_text, begin, end_line, make_room, next_delimiter, put_lines, put_part, put_parts, record_tail, with_tail};
-ghost use Rattle.std.specs.Prelude.{◌≡◌, ◌+◌, ◌<◌, ◌≤◌, ◌^◌, [], ◌∷◌, ◌++◌, length, map, IfOk, IsTrue, decimal};
+ghost use Rattle.std.specs.Prelude.{◌≡◌, ◌+◌, ◌<◌, ◌≤◌, ◌^◌, [], ◌∷◌, ◌++◌, length, map, IsTrue, OnOk, decimal};
 
-use crate::column::{count_field, finish_line, next_field};
+use crate::column::{count_field, next_field};
 use crate::fault::WriteFileFault;
+use crate::line_text::LineText;
 use iges_base::Bytes;
 use iges_fields::{Delimiters, Value};
 use itoa::{Buffer, write_digits};
@@ -24,7 +25,7 @@ use std::marker::Model;
 #[derive(Drop)]
 pub struct Page {
     text: Vec<u8>,
-    line: Vec<u8>,
+    line: LineText,
     tail: Option<[u8; 8]>,
     ending: [u8; 8],
     letter: u8,
@@ -40,7 +41,7 @@ impl Model for Page {
 
     ghost view = { λ p. record {
       text = p.text.items;
-      line = p.line.items;
+      line = p.line;
       tail = tail_bytes p.tail;
       letter = p.letter;
       number = p.number;
@@ -48,18 +49,20 @@ impl Model for Page {
       limit = p.limit;
     } };
 
-    ghost invariant = { λ p. IsPage p.text.items p.ending p.letter p.number p.limit };
+    ghost invariant = { λ p. IsPage p.text.items p.line p.ending p.letter p.number p.width p.limit };
 }
 
 impl Page {
     /// No lines yet. The text grows to at most `limit` bytes.
     pub fn new(alloc: Global, limit: u64, letter: u8, width: usize) -> Page
-        requires { limit ≤ FILE_LIMIT }
+        requires limit { limit ≤ FILE_LIMIT }
+        requires wide { 0 < width }
+        requires narrow { width ≤ 72 }
         ensures { result ≡ blank limit letter width }
     {
         Page {
             text: Vec::new(alloc),
-            line: Vec::new(alloc),
+            line: LineText::new(),
             tail: None,
             ending: first_ending(letter),
             letter,
@@ -69,14 +72,11 @@ impl Page {
         }
     }
 
-    /// The same with room for so many bytes of text, where there is memory for it, so that the text isn't moved as it grows.
-    pub fn with_room(alloc: Global, limit: u64, letter: u8, width: usize, room: usize) -> Page
-        requires { limit ≤ FILE_LIMIT }
-        ensures { result ≡ blank limit letter width }
+    /// Takes room for so many bytes of text more, where there is memory for it, so that the text isn't moved as it grows.
+    pub fn reserve(&mut self, room: usize)
+        ensures { self.new ≡ self.old }
     {
-        let mut page = Page::new(alloc, limit, letter, width);
-        let _reserved = page.text.reserve_exact(room);
-        page
+        let _reserved = self.text.reserve_exact(room);
     }
 
     // Ends the line being made.
@@ -84,11 +84,11 @@ impl Page {
         ensures { Steps result self.new (end_line self.old) }
     {
         let next = next_field(self.ending, self.letter, self.number);
-        finish_line(&mut self.line, self.width, self.tail, self.ending)?;
-        if self.line.len() as u64 > self.limit - self.text.len() as u64 {
+        let whole = self.line.ended(self.width, self.tail, self.ending);
+        if whole.len() as u64 > self.limit - self.text.len() as u64 {
             return Err(WriteFileFault::TooLarge);
         }
-        self.text.extend_from_slice(self.line.as_slice())?;
+        self.text.extend_from_slice(whole.as_slice())?;
         self.line.clear();
         self.ending = next;
         self.number += 1;
@@ -97,18 +97,28 @@ impl Page {
 
     // Appends to the line being made.
     #[inline(always)]
-    fn add(&mut self, bytes: &[u8]) -> Result<(), WriteFileFault>
-        ensures { Steps result self.new (add self.old bytes.now) }
+    fn add(&mut self, bytes: &[u8])
+        requires { length self.old.line + length bytes.now ≤ self.old.width }
+        ensures { self.new ≡ add self.old bytes.now }
     {
-        self.line.extend_from_slice(bytes)?;
-        Ok(())
+        self.line.push(bytes);
+    }
+
+    // The same of a word that most often is short.
+    #[inline(always)]
+    fn add_word(&mut self, word: &[u8])
+        requires { length self.old.line + length word.now ≤ self.old.width }
+        ensures { self.new ≡ add self.old word.now }
+    {
+        self.line.push_word(word);
     }
 
     // Ends the line being made where it has no room for so many bytes.
     #[inline(always)]
     fn make_room(&mut self, size: usize) -> Result<(), WriteFileFault>
-        requires { size ≤ 2 ^ 63 }
-        ensures { Steps result self.new (make_room self.old size) }
+        requires { size ≤ self.old.width }
+        ensures steps { Steps result self.new (make_room self.old size) }
+        ensures room { OnOk result (length self.new.line + size ≤ self.new.width) }
     {
         if self.line.len() + size <= self.width {
             return Ok(());
@@ -119,10 +129,20 @@ impl Page {
     // Puts bytes that may not be cut.
     #[inline(always)]
     fn put_part(&mut self, part: &[u8]) -> Result<(), WriteFileFault>
+        requires { length part.now ≤ self.old.width }
         ensures { Steps result self.new (put_part self.old part.now) }
     {
         self.make_room(part.len())?;
-        self.add(part)
+        self.add(part);
+        Ok(())
+    }
+
+    // Puts a byte.
+    fn put_single(&mut self, byte: u8) -> Result<(), WriteFileFault>
+        ensures { Steps result self.new (put_part self.old (byte ∷ [])) }
+    {
+        let _width = self.width;
+        self.put_part(&[byte])
     }
 
     // Each byte is a part.
@@ -131,7 +151,7 @@ impl Page {
     {
         let mut rest = bytes;
         'bytes: while let Some((byte, others)) = rest.split_first() {
-            self.put_part(&[*byte])?;
+            self.put_single(*byte)?;
             rest = others;
         }
         Ok(())
@@ -146,7 +166,7 @@ impl Page {
         let (front, behind) = word.split_at(self.width);
         self.put_part(front)?;
         self.put_singles(behind)?;
-        self.put_part(&[end])
+        self.put_single(end)
     }
 
     // A word and the delimiter after it, which a line holds.
@@ -156,8 +176,9 @@ impl Page {
             ++ end ∷ []))) }
     {
         self.make_room(word.len() + 1)?;
-        self.add(word)?;
-        self.add(&[end])
+        self.add_word(word);
+        self.add(&[end]);
+        Ok(())
     }
 
     // A word and the byte after it.
@@ -181,7 +202,7 @@ impl Page {
     {
         self.put_word(Buffer::new().format(text.len()).as_bytes(), b'H')?;
         self.put_singles(text)?;
-        self.put_part(&[delimiter])
+        self.put_single(delimiter)
     }
 
     // A digit and the delimiter after it, which a line holds.
@@ -192,10 +213,70 @@ impl Page {
         ensures { Steps result self.new (put_parts self.old (word_parts self.old.width (decimal n
             ++ delimiter ∷ []))) }
     {
-        self.put_part(&[b'0' + n as u8, delimiter])
+        self.put_part(&[digit(n), delimiter])
     }
 
-    // A number without a sign and the delimiter after it, which a line holds.
+    // A number of two digits and the delimiter after it, which a line holds. So with the next ones.
+    #[inline(always)]
+    fn put_two(&mut self, n: u64, delimiter: u8) -> Result<(), WriteFileFault>
+        requires digits { (10 ≤ n) × (n < 100) }
+        requires width { 2 < self.old.width }
+        ensures { Steps result self.new (put_parts self.old (word_parts self.old.width (decimal n
+            ++ delimiter ∷ []))) }
+    {
+        self.put_part(&[digit(n / 10), digit(n % 10), delimiter])
+    }
+
+    #[inline(always)]
+    fn put_three(&mut self, n: u64, delimiter: u8) -> Result<(), WriteFileFault>
+        requires digits { (100 ≤ n) × (n < 1000) }
+        requires width { 3 < self.old.width }
+        ensures { Steps result self.new (put_parts self.old (word_parts self.old.width (decimal n
+            ++ delimiter ∷ []))) }
+    {
+        let tens = n / 10;
+        self.put_part(&[digit(tens / 10), digit(tens % 10), digit(n % 10), delimiter])
+    }
+
+    #[inline(always)]
+    fn put_four(&mut self, n: u64, delimiter: u8) -> Result<(), WriteFileFault>
+        requires digits { (1000 ≤ n) × (n < 10000) }
+        requires width { 4 < self.old.width }
+        ensures { Steps result self.new (put_parts self.old (word_parts self.old.width (decimal n
+            ++ delimiter ∷ []))) }
+    {
+        let tens = n / 10;
+        let hundreds = tens / 10;
+        self.put_part(&[
+            digit(hundreds / 10),
+            digit(hundreds % 10),
+            digit(tens % 10),
+            digit(n % 10),
+            delimiter,
+        ])
+    }
+
+    #[inline(always)]
+    fn put_five(&mut self, n: u64, delimiter: u8) -> Result<(), WriteFileFault>
+        requires digits { (10000 ≤ n) × (n < 100000) }
+        requires width { 5 < self.old.width }
+        ensures { Steps result self.new (put_parts self.old (word_parts self.old.width (decimal n
+            ++ delimiter ∷ []))) }
+    {
+        let tens = n / 10;
+        let hundreds = tens / 10;
+        let thousands = hundreds / 10;
+        self.put_part(&[
+            digit(thousands / 10),
+            digit(thousands % 10),
+            digit(hundreds % 10),
+            digit(tens % 10),
+            digit(n % 10),
+            delimiter,
+        ])
+    }
+
+    // A number without a sign and the delimiter after it, which a line holds. Short ones are the most by far.
     #[inline(always)]
     fn put_number(&mut self, n: u64, delimiter: u8) -> Result<(), WriteFileFault>
         requires { 20 < self.old.width }
@@ -203,9 +284,18 @@ impl Page {
             ++ delimiter ∷ []))) }
     {
         if n < 10 {
-            return self.put_digit(n, delimiter);
+            self.put_digit(n, delimiter)
+        } else if n < 100 {
+            self.put_two(n, delimiter)
+        } else if n < 1000 {
+            self.put_three(n, delimiter)
+        } else if n < 10_000 {
+            self.put_four(n, delimiter)
+        } else if n < 100_000 {
+            self.put_five(n, delimiter)
+        } else {
+            self.put_digits(n, delimiter)
         }
-        self.put_digits(n, delimiter)
     }
 
     // The same of a number of any length.
@@ -261,6 +351,8 @@ impl Page {
 
     /// Begins a section: its lines have this letter, so many free columns, and are numbered from 1.
     pub fn begin(&mut self, letter: u8, width: usize)
+        requires wide { 0 < width }
+        requires narrow { width ≤ 72 }
         ensures { self.new ≡ begin self.old letter width }
     {
         self.line.clear();
@@ -277,7 +369,7 @@ impl Page {
         requires empty { self.old.line ≡ [] }
         ensures { Steps result self.new (put_lines self.old (columns.now ∷ [])) }
     {
-        self.add(columns)?;
+        self.add(columns);
         self.end_line()
     }
 
@@ -365,14 +457,16 @@ impl Page {
         self.number
     }
 
-    /// Appends the finished lines of another page.
-    pub fn append(&mut self, other: &Page) -> Result<(), WriteFileFault>
+    /// Appends the finished lines of another page, with room for so many bytes behind them.
+    pub fn append(&mut self, other: &Page, room: usize) -> Result<(), WriteFileFault>
+        requires { room < 2 ^ 32 }
         ensures { Steps result self.new (append_text self.old other.now.text) }
     {
         let more = other.text.as_slice();
         if more.len() as u64 > self.limit - self.text.len() as u64 {
             return Err(WriteFileFault::TooLarge);
         }
+        let _reserved = self.text.reserve_exact(more.len() + room);
         self.text.extend_from_slice(more)?;
         Ok(())
     }
@@ -384,6 +478,15 @@ impl Page {
     {
         Bytes::from_vec(self.text)
     }
+}
+
+// A digit as a byte.
+#[inline(always)]
+fn digit(n: u64) -> u8
+    requires { n < 10 }
+    ensures { result ≡ 48 + n }
+{
+    b'0' + n as u8
 }
 
 // The ending of a section's first line.

@@ -96,6 +96,7 @@ fn put_kept(new: &mut File, alloc: Global, file: &File, renaming: &Renaming) -> 
     }) }
 {
     let kept = renaming.kept();
+    new.reserve(kept.len());
     let mut marks = Vec::new(alloc);
     'entries: for i in 0..kept.len() {
         let no = kept.get(i).unwrap();
@@ -140,6 +141,7 @@ fn put_taken(
         ≡ map (new_record file.old renaming.now) (records_of file.old renaming.now)) }
 {
     let kept = renaming.kept();
+    new.reserve(kept.len());
     let mut marks = Vec::new(alloc);
     'entries: for i in 0..kept.len() {
         let no = kept.get(i).unwrap();

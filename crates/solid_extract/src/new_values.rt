@@ -4,18 +4,20 @@ ghost use Rattle.entry_references.specs.Refs.{is_name, number_of};
 ghost use Rattle.iges_fields.specs.declared.value.Value.{Value as OneValue};
 ghost use Rattle.iges_base.specs.declared.TheConstants.{FILE_LIMIT};
 ghost use Rattle.solid_extract.specs.Extracted.{new_value, renamed};
-ghost use Rattle.solid_extract.specs.NewValues.{AreMarkedPlaces, names_behind, new_numbers, value_as, with_mark};
+ghost use Rattle.entry_references.specs.Layout.{Own as OwnValues};
+ghost use Rattle.solid_extract.specs.NewValues.{AreRenewed, is_open, names_behind, new_numbers, value_as, with_cut, with_mark, with_pointer};
 ghost use Rattle.std.specs.List.{enumerate_from};
-ghost use Rattle.std.specs.Prelude.{◌≡◌, ◌+◌, ◌∷◌, ◌++◌, ◌<◌, ◌≤◌, ◌^◌, [], IfOk, IsTrue, MatchOption, OnOk, Some, drop, filter, filter_map, if◌then◌else◌, length, map, pos, set, slice_get, take};
+ghost use Rattle.std.specs.Prelude.{◌≡◌, ◌+◌, ◌∷◌, ◌++◌, ◌<◌, ◌≤◌, ◌^◌, ℕ, List, [], IfOk, IsTrue, MatchOption, OnOk, Some, drop, filter, filter_map, if◌then◌else◌, length, map, pos, set, slice_get, take};
 
 use crate::renaming::Renaming;
-use entry_references::{Group, Own, Shape, mark_at, push_names};
+use entry_references::{Group, Own, Shape, push_names};
 use iges_base::{ItemList, NoMemory};
 use iges_fields::{Value, Values};
 use iges_params::File;
 use std::alloc::Global;
 
 // Marks a place, from 1, where the values have it.
+#[inline(always)]
 fn set_mark(marks: &mut Vec<bool>, place: usize)
     ensures { marks.new.items ≡ with_mark marks.old.items place }
 {
@@ -24,16 +26,13 @@ fn set_mark(marks: &mut Vec<bool>, place: usize)
     }
 }
 
-// Makes one mark for each of the first `count` places, counted from 1: true where the place is one of `places`.
-fn mark_places(marks: &mut Vec<bool>, places: &[usize], count: usize) -> Result<(), NoMemory>
-    ensures { OnOk result (AreMarkedPlaces marks.new.items places.now count) }
+// Whether the values have a place, from 1, and it isn't marked.
+#[inline(always)]
+fn is_open(marks: &[bool], place: usize) -> bool
+    ensures is { result ≡ is_open marks.now place }
+    ensures within { IsTrue result → (0 < place) × (place ≤ length marks.now) }
 {
-    marks.clear();
-    marks.resize(count, false)?;
-    'places: for place in places {
-        set_mark(marks, *place);
-    }
-    Ok(())
+    place > 0 && place <= marks.len() && !marks[place - 1]
 }
 
 // An integer as it is kept: a pointer is renamed, and one that isn't followed is cut.
@@ -61,24 +60,69 @@ fn integer_for(renaming: &Renaming, value: &Value, is_pointer: bool, is_cut: boo
     }
 }
 
-// Puts in place of the i-th value, i from 0, what it is as it is kept. Most values stay.
+// Puts in place of the i-th value, i from 0, what it is as it is kept.
 #[inline(always)]
-#[tactic(auto, using(crate::proofs::KeptValues::stays))]
 fn renew(values: &mut Values, renaming: &Renaming, i: usize, is_pointer: bool, is_cut: bool)
     requires { i < length values.old }
     ensures { (v : OneValue) → slice_get values.old i ≡ Some v
         → values.new ≡ set values.old i (value_as renaming.now is_pointer is_cut v) }
 {
-    if !is_pointer && !is_cut {
-        return;
-    }
     let value = values.get(i).unwrap();
     if let Some(number) = integer_for(renaming, value, is_pointer, is_cut) {
         values.set(i, Value::Int(number));
     }
 }
 
-// Puts in place of each of the own values what it is as it is kept. `marks` is a scratch buffer.
+// Renames the pointer in a place, from 1, unless it is marked, and marks it.
+#[inline(always)]
+fn rename_in(values: &mut Values, renaming: &Renaming, marks: &mut Vec<bool>, place: usize)
+    requires { length marks.old.items ≡ length values.old }
+    ensures { (own : OwnValues) (olds : List OneValue) → own.cut ≡ []
+        → AreRenewed renaming.now own olds marks.old.items values.old
+        → AreRenewed renaming.now (with_pointer own place) olds marks.new.items values.new }
+{
+    let open = is_open(marks.as_slice(), place);
+    set_mark(marks, place);
+    if !open {
+        return;
+    }
+    renew(values, renaming, place - 1, true, false);
+}
+
+// Cuts the pointer in a place, from 1, unless it is marked.
+fn cut_in(values: &mut Values, renaming: &Renaming, marks: &[bool], place: usize)
+    requires { length marks.now ≡ length values.old }
+    ensures { (own : OwnValues) (olds : List OneValue)
+        → AreRenewed renaming.now own olds marks.now values.old
+        → AreRenewed renaming.now (with_cut own place) olds marks.now values.new }
+{
+    if !is_open(marks, place) {
+        return;
+    }
+    renew(values, renaming, place - 1, false, true);
+}
+
+// Renames the pointers in these places, from 1, and marks them.
+fn rename_places(
+    values: &mut Values,
+    renaming: &Renaming,
+    places: &[usize],
+    marks: &mut Vec<bool>,
+) -> Result<(), NoMemory>
+    ensures { OnOk result ((count : ℕ) → AreRenewed renaming.now
+        (record { count = count; pointers = places.now; cut = [] })
+        values.old marks.new.items values.new) }
+{
+    marks.clear();
+    marks.resize(values.len(), false)?;
+    'places: for place in places {
+        rename_in(values, renaming, marks, *place);
+    }
+    Ok(())
+}
+
+// Puts in place of each of the own values what it is as it is kept. Only those in places of pointers change. `marks` is a
+// scratch buffer.
 fn renew_all(
     values: &mut Values,
     renaming: &Renaming,
@@ -88,14 +132,12 @@ fn renew_all(
     ensures { OnOk result (values.new ≡ map (λ v. new_value renaming.now own.now v.0 v.1)
         (enumerate_from 1 values.old)) }
 {
-    let count = values.len();
-    mark_places(marks, own.pointers.as_slice(), count)?;
-    let pointers = marks.as_slice();
+    let pointers = own.pointers.as_slice();
     let cut = own.cut.as_slice();
-    'values: for i in 0..count {
-        let is_pointer = mark_at(pointers, i);
-        let is_cut = cut.contains(&(i + 1));
-        renew(values, renaming, i, is_pointer, is_cut);
+    rename_places(values, renaming, pointers, marks)?;
+    let pointed = marks.as_slice();
+    'cut: for place in cut {
+        cut_in(values, renaming, pointed, *place);
     }
     Ok(())
 }

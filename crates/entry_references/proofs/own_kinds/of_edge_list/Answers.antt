@@ -26,5 +26,5 @@ overflow_add-count c =
 
 pub returns : goal.returns
 returns c =
-    ap (λ o. Some o) c.with_pointers.ensures ∙ edges_own c.args.values.now c.in-Some.list c.len-count.result c.new-pointers.result c.push_groups.new.places
-    c.in-Some.ensures.some c.in-Some.ensures.read c.len-count.ensures c.new-pointers.ensures c.in_ok-push_groups.ensures
+    ap (λ o. Some o) c.with_pointers.ensures ∙ edges_own c.args.values.now c.in-Some.list c.len-count.result c.in_ok-pointers.pointers c.push_groups.new.places
+    c.in-Some.ensures.some c.in-Some.ensures.read c.len-count.ensures c.in_ok-pointers.ensures c.in_ok-push_groups.ensures

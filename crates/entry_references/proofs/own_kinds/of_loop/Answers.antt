@@ -14,5 +14,5 @@ push_tuples-requires c =
 pub returns : goal.returns
 returns c =
     ap (λ o. Some o) c.with_pointers.ensures
-    ∙ loop_own c.args.values.now c.in-Some.record c.in_ok-end.end c.new-pointers.result c.push_tuples.new.places c.in-Some.ensures.some c.in-Some.ensures.read
-    c.in_ok-end.ensures.end c.new-pointers.ensures c.in_ok-end.ensures.places
+    ∙ loop_own c.args.values.now c.in-Some.record c.in_ok-end.end c.in_ok-pointers.pointers c.push_tuples.new.places c.in-Some.ensures.some c.in-Some.ensures.read
+    c.in_ok-end.ensures.end c.in_ok-pointers.ensures c.in_ok-end.ensures.places

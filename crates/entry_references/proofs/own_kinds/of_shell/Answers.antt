@@ -26,5 +26,5 @@ overflow_add-faces c =
 
 pub returns : goal.returns
 returns c =
-    ap (λ o. Some o) c.with_pointers.ensures ∙ shell_own c.args.values.now c.in-Some.record c.len-faces.result c.new-pointers.result c.push_groups.new.places
-    c.in-Some.ensures.some c.in-Some.ensures.read c.len-faces.ensures c.new-pointers.ensures c.in_ok-push_groups.ensures
+    ap (λ o. Some o) c.with_pointers.ensures ∙ shell_own c.args.values.now c.in-Some.record c.len-faces.result c.in_ok-pointers.pointers c.push_groups.new.places
+    c.in-Some.ensures.some c.in-Some.ensures.read c.len-faces.ensures c.in_ok-pointers.ensures c.in_ok-push_groups.ensures

@@ -1,4 +1,4 @@
-use Rattle.std.proofs.Common.{refl, ◌∙◌, sym, ap, subst, List, ℕ, length, arith}
+use Rattle.std.proofs.Common.{◌∙◌, sym, ap, subst, List, ℕ, length, arith}
 use Rattle.std.specs.List.{AllByRecursion}
 use Rattle.std.specs.Prelude.{option_copied}
 use Rattle.std.proofs.lemmas.List.{length-map}
@@ -35,7 +35,11 @@ push_kept-requires-clause-values c =
     (omega (arith, ap (λ (ms : List ℕ). value_count (records_of c.args.file.now ms)) c.kept-kept.ensures.is, c.requires.values))
 
 pub entries-init : goal.entries-init
-entries-init c = record { start = refl; global = refl; entries = c.requires.blank }
+entries-init c = record {
+  start = ap (λ (x : Contents). x.start) c.reserve.ensures;
+  global = ap (λ (x : Contents). x.global) c.reserve.ensures;
+  entries = ap (λ (x : Contents). x.entries) c.reserve.ensures ∙ c.requires.blank;
+}
 
 pub entries-preserved : goal.entries-preserved
 entries-preserved c =

@@ -15,7 +15,7 @@ use Rattle.solid_extract.proofs.extraction.put_taken.Goals as goal
 pub entries-init : goal.entries-init
 entries-init c = record {
   left = all_left c.args.file.now (numbers_of c.kept-kept.result.now) (subst IsStrictlyIncreasing (sym c.kept-kept.ensures.is) c.requires.rising);
-  entries = c.requires.blank;
+  entries = ap (λ (x : Contents). x.entries) c.reserve.ensures ∙ c.requires.blank;
 }
 
 pub push_taken-requires-clause-named : goal.push_taken-requires-clause-named

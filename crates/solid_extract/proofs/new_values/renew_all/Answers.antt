@@ -1,24 +1,44 @@
-use Rattle.std.proofs.Common.{◌+◌, ◌≤◌, ◌∙◌, ap, arith, length, Bool, false, List, ℕ}
-use Rattle.std.specs.Prelude.{slice_index_or}
-use Rattle.entry_references.specs.EntrySets.{is_among}
+use Rattle.std.proofs.Common.{◌∙◌, subst, sym, ap, ℕ, List, Bool, [], take}
+use Rattle.std.proofs.lemmas.List.{take_more, take_all}
 use Rattle.entry_references.specs.Layout.{Own}
-use Rattle.solid_extract.proofs.KeptValues.{renewed_long, renewed_next}
+use Rattle.solid_extract.specs.NewValues.{AreRenewed}
+use Rattle.solid_extract.proofs.KeptValues.{renewed_fits}
 use Rattle.solid_extract.proofs.new_values.renew_all.Goals as goal
 
-pub renew-requires : goal.renew-requires
-renew-requires c =
-    let few : c.values.i + 1 ≤ length c.args.values.now = omega (arith, c.values-test.true, c.len-count.ensures.is) in
-    let long = renewed_long c.args.renaming.now c.args.own.now c.args.values.now c.values.i c.values.values (omega (arith, few)) c.values.invariant in
-    omega (arith, few, long)
+pub cut-init : goal.cut-init
+cut-init c =
+    let own = c.args.own.now in
+    subst (λ (ms : List Bool).
+    AreRenewed c.args.renaming.now (record { count = own.count; pointers = own.pointers; cut = [] }) c.args.values.now ms c.rename_places.new.values)
+    (sym c.as_slice-pointed.ensures.value)
+    (subst (λ (ps : List ℕ).
+    AreRenewed c.args.renaming.now (record { count = own.count; pointers = ps; cut = [] }) c.args.values.now c.rename_places.new.marks.items
+    c.rename_places.new.values)
+    (c.as_slice-pointers.ensures ∙ ap (λ (o : Own). o.pointers) c.own.view_is)
+    (c.in_ok-rename_places.ensures {u = tt} own.count))
 
-pub values-preserved : goal.values-preserved
-values-preserved c =
-    let i = c.values.i in
-    let few : c.values.i + 1 ≤ length c.args.values.now = omega (arith, c.values-test.true, c.len-count.ensures.is) in
-    renewed_next c.args.renaming.now c.args.own.now c.args.values.now i c.mark_at-is_pointer.result c.contains-is_cut.result c.values.values c.renew.new.values
-    (omega (arith, few))
-    (c.mark_at-is_pointer.ensures ∙ (ap (λ (ms : List Bool). slice_index_or ms i false) c.as_slice-pointers.ensures.value
-    ∙ (c.in_ok-mark_places.ensures.marked i c.values-test.true ∙ ap (λ (ps : List ℕ). is_among ps (i + 1))
-    (c.as_slice.ensures ∙ ap (λ (o : Own). o.pointers) c.own.view_is))))
-    (c.contains-is_cut.ensures.value ∙ ap (λ (ps : List ℕ). is_among ps (i + 1)) (c.as_slice-cut.ensures ∙ ap (λ (o : Own). o.cut) c.own.view_is))
-    c.values.invariant c.renew.ensures
+pub cut_in-requires : goal.cut_in-requires
+cut_in-requires c =
+    let own = c.args.own.now in
+    renewed_fits c.args.renaming.now (record { count = own.count; pointers = own.pointers; cut = take c.cut.place-index c.as_slice-cut.result.now })
+    c.args.values.now c.as_slice-pointed.result.now c.cut.values c.cut.invariant
+
+pub cut-preserved : goal.cut-preserved
+cut-preserved c =
+    let own = c.args.own.now in
+    subst (λ (ps : List ℕ).
+    AreRenewed c.args.renaming.now (record { count = own.count; pointers = own.pointers; cut = ps }) c.args.values.now c.as_slice-pointed.result.now
+    c.cut_in.new.values)
+    (sym (take_more c.as_slice-cut.result.now c.cut.place-index 0 c.cut-test.true))
+    (c.cut_in.ensures (record { count = own.count; pointers = own.pointers; cut = take c.cut.place-index c.as_slice-cut.result.now }) c.args.values.now
+    c.cut.invariant)
+
+pub returns : goal.returns
+returns c =
+    let own = c.args.own.now in
+    let all = subst (λ (ps : List ℕ).
+    AreRenewed c.args.renaming.now (record { count = own.count; pointers = own.pointers; cut = ps }) c.args.values.now c.as_slice-pointed.result.now
+    c.cut.values)
+    (take_all c.cut.place-index c.as_slice-cut.result.now c.cut-test.false
+    ∙ (c.as_slice-cut.ensures ∙ ap (λ (o : Own). o.cut) c.own.view_is)) c.cut.invariant in
+    all.are

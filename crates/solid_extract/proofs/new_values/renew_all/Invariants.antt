@@ -1,6 +1,7 @@
-use Rattle.std.proofs.Common.{◌≡◌}
-use Rattle.solid_extract.proofs.KeptValues.{renewed}
+use Rattle.std.proofs.Common.{take}
+use Rattle.solid_extract.specs.NewValues.{AreRenewed}
 use Rattle.solid_extract.proofs.new_values.renew_all.Given as goal
 
-abbrev pub invariant-values : goal.invariant-values
-invariant-values l = l.values ≡ renewed l.renaming l.own l.fn.values l.i
+abbrev pub invariant-cut : goal.invariant-cut
+invariant-cut l =
+    AreRenewed l.renaming (record { count = l.own.count; pointers = l.own.pointers; cut = take l.place-index l.cut }) l.fn.values l.pointed l.values

@@ -1,16 +1,10 @@
-use Rattle.std.proofs.Common.{ap, sym, subst, arith, ◌≡◌, ◌∙◌, ◌∷◌, [], ◌++◌, List, ℕ, length}
+use Rattle.std.proofs.Common.{arith, ap, sym, ◌∷◌, [], ◌++◌, List, ℕ}
 use Rattle.std.specs.Fmt.{decimal}
-use Rattle.std.proofs.lemmas.Fmt.{decimal_digit}
-use Rattle.iges_write.specs.Sheet.{Sheet, Steps, put_part}
-use Rattle.iges_write.proofs.Sheets.{word_is_part}
+use Rattle.iges_write.proofs.ShortNumbers.{as_word, one_digit}
 use Rattle.iges_write.proofs.page.Page.put_digit.Goals as goal
 
 pub returns : goal.returns
 returns c =
-    let word : List ℕ = decimal c.args.n ++ c.args.delimiter ∷ [] in
-    let is = decimal_digit c.args.n c.requires.digit in
-    let two : length (decimal c.args.n ++ c.args.delimiter ∷ []) ≡ 2 = ap (λ (x : List ℕ). length (x ++ c.args.delimiter ∷ [])) is in
-    subst (λ (s : Sheet). Steps c.put_part.result c.put_part.new.self s)
-    (ap (put_part c.args.self.now) (sym (ap (λ (x : List ℕ). x ++ c.args.delimiter ∷ []) is))
-    ∙ word_is_part c.args.self.now word (omega (arith, two, c.requires.width)))
-    c.put_part.ensures
+    as_word c.put_part.result c.args.self.now c.put_part.new.self (c.digit.result ∷ c.args.delimiter ∷ []) (decimal c.args.n ++ c.args.delimiter ∷ [])
+    (sym (ap (λ (x : List ℕ). x ++ c.args.delimiter ∷ []) (one_digit c.args.n c.digit.result c.requires.digit c.digit.ensures)))
+    (omega (arith, c.requires.width)) c.put_part.ensures
