@@ -16,7 +16,7 @@ mod taking;
 
 use crate::global::Global26;
 use iges_base::{EntryNo, FILE_LIMIT, Memory, NoMemory};
-use iges_directory::{Entry, EntryList};
+use iges_directory::{Entry, EntryRecords};
 use iges_fields::Values;
 use std::alloc::Global;
 use std::marker::Model;
@@ -30,7 +30,7 @@ const WIDTH: usize = 72;
 pub struct File {
     start: Vec<[u8; WIDTH]>,
     global: Global26,
-    entries: EntryList,
+    entries: EntryRecords,
     memory: Memory,
 }
 
@@ -74,7 +74,7 @@ impl File {
         Ok(File {
             start: lines,
             global,
-            entries: EntryList::new(alloc),
+            entries: EntryRecords::new(alloc),
             memory: Memory::GivenBack,
         })
     }
@@ -120,7 +120,7 @@ impl File {
     }
 
     // Puts these entries in place of its own.
-    pub(crate) fn fill(&mut self, entries: EntryList)
+    pub(crate) fn fill(&mut self, entries: EntryRecords)
         requires each { AllByRecursion IsMadeEntry entries }
         requires limits { FitsLimits (record self.old { entries = entries }) }
         ensures { self.new ≡ record self.old { entries = entries } }

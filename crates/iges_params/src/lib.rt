@@ -2,7 +2,6 @@
 #![tactic(auto)]
 
 mod copying;
-mod fault;
 mod file;
 mod global;
 mod global_pass;
@@ -18,8 +17,7 @@ mod records_read;
 mod solids;
 
 pub use copying::{begun, copied_values, push_copies};
-pub use fault::ReadFileFault;
 pub use file::File;
 pub use global::Global26;
 pub use law::every_text_has_one_reading;
-pub use reading::{read_file, read_sections, take_sections};
+pub use reading::{ReadFileFault, read_file, read_sections, take_sections};

@@ -17,16 +17,18 @@ ghost use Rattle.iges_params.specs.Reading.{read_entries, read_lines};
 ghost use Rattle.iges_params.specs.Refusal.{Refusal};
 ghost use Rattle.std.specs.Prelude.{◌≡◌, ◌+◌, ◌*◌, ◌≤◌, [], List, MatchResult, Some, IfOk, IsTrue, ℕ, length, map, slice_get};
 
-use crate::fault::ReadFileFault;
 use crate::file::File;
 use crate::global::Global26;
 use crate::global_pass::read_global;
 use crate::record::{Params, lines_above};
 use crate::records_read::{RecordsRead, read_and_give_back, read_records};
 use iges_base::{FILE_LIMIT, NoMemory};
-use iges_directory::{Directory, EntryList, directory};
+use iges_directory::{Directory, EntryRecords, directory};
 use iges_lines::{PassFault, Sections, columns, sections};
 use std::alloc::Global;
+
+/// Why a file was not read: a reason from 1 to 17, or that memory ran out.
+pub type ReadFileFault = PassFault;
 
 // A file of the start lines and the global.
 fn begun(alloc: Global, lines: &Sections, global: Global26) -> Result<File, NoMemory>
@@ -65,7 +67,7 @@ fn filled(
         return Err(PassFault::Bad(fault));
     }
     records.values.reverse();
-    file.fill(EntryList::of(entries.into_placed(), records.values));
+    file.fill(EntryRecords::of(entries.into_placed(), records.values));
     Ok(file)
 }
 

@@ -3,7 +3,7 @@ use Rattle.iges_fields.specs.declared.value.Value.{Value}
 use Rattle.iges_directory.specs.declared.entry.Placed.{Placed}
 use Rattle.iges_directory.specs.Paired.{Pairs, paired}
 use Rattle.iges_directory.proofs.PairedLists.{paired_more, where_ok}
-use Rattle.iges_directory.proofs.entry_list.EntryList.push.Goals as goal
+use Rattle.iges_directory.proofs.entry_records.EntryRecords.push.Goals as goal
 
 pub returns-in_default-clause-ok : goal.returns-in_default-clause-ok
 returns-in_default-clause-ok c =

@@ -2,7 +2,7 @@ use Rattle.std.proofs.Common.{length, ap, arith, refl}
 use Rattle.std.proofs.lemmas.Option.{slice_get_read}
 use Rattle.iges_directory.specs.Paired.{Pairs}
 use Rattle.iges_directory.proofs.PairedLists.{paired_count, entry_within, none_past}
-use Rattle.iges_directory.proofs.entry_list.EntryList.entry.Goals as goal
+use Rattle.iges_directory.proofs.entry_records.EntryRecords.entry.Goals as goal
 
 pub returns-then-i-len-clause-entry : goal.returns-then-i-len-clause-entry
 returns-then-i-len-clause-entry c = rw (← c.self.view_is) (none_past c.self.inside.placed.items c.self.inside.values.items c.self.invariant c.args.i (λ e. e.0)

@@ -4,7 +4,7 @@ use Rattle.std.proofs.lemmas.Option.{slice_get-get_or}
 use Rattle.iges_fields.specs.declared.value.Value.{Value}
 use Rattle.iges_directory.specs.Paired.{Pairs, paired}
 use Rattle.iges_directory.proofs.PairedLists.{paired_count, paired_set, values_at}
-use Rattle.iges_directory.proofs.entry_list.EntryList.take_values.Goals as goal
+use Rattle.iges_directory.proofs.entry_records.EntryRecords.take_values.Goals as goal
 
 pub index_mut-requires : goal.index_mut-requires
 index_mut-requires c =

@@ -1,7 +1,7 @@
 use Rattle.std.proofs.Common.{length, ap, arith}
 use Rattle.iges_directory.specs.Paired.{Pairs}
 use Rattle.iges_directory.proofs.PairedLists.{paired_count}
-use Rattle.iges_directory.proofs.entry_list.EntryList.count.Goals as goal
+use Rattle.iges_directory.proofs.entry_records.EntryRecords.count.Goals as goal
 
 pub returns : goal.returns
 returns c =

@@ -13,13 +13,13 @@ use std::mem;
 
 /// Entries in order, each with the values of its record without the type number.
 #[derive(Drop)]
-pub struct EntryList {
+pub struct EntryRecords {
     // As the directory has them: so they needn't be copied.
     placed: Vec<Placed>,
     values: Vec<Values>,
 }
 
-impl Model for EntryList {
+impl Model for EntryRecords {
     ghost use Rattle.iges_directory.specs.Paired.{Pairs, paired};
     ghost use Rattle.std.specs.Prelude.{◌≡◌, length};
 
@@ -30,23 +30,23 @@ impl Model for EntryList {
     ghost invariant = { λ l. length l.placed.items ≡ length l.values.items };
 }
 
-impl EntryList {
+impl EntryRecords {
     /// No entries.
-    pub fn new(alloc: Global) -> EntryList
+    pub fn new(alloc: Global) -> EntryRecords
         ensures { result ≡ [] }
     {
-        EntryList {
+        EntryRecords {
             placed: Vec::new(alloc),
             values: Vec::new(alloc),
         }
     }
 
     /// Entries with their values, place by place.
-    pub fn of(placed: Vec<Placed>, values: Vec<Values>) -> EntryList
+    pub fn of(placed: Vec<Placed>, values: Vec<Values>) -> EntryRecords
         requires { length placed.items ≡ length values.items }
         ensures { result ≡ paired placed.items values.items }
     {
-        EntryList { placed, values }
+        EntryRecords { placed, values }
     }
 
     /// Takes the room for so many entries more, where there is memory for it, so that the list isn't moved as it grows.

@@ -1,7 +1,7 @@
 use Rattle.std.proofs.Common.{arith}
 use Rattle.std.proofs.lemmas.Option.{slice_get_read}
 use Rattle.iges_directory.proofs.PairedLists.{values_within, none_past}
-use Rattle.iges_directory.proofs.entry_list.EntryList.values.Goals as goal
+use Rattle.iges_directory.proofs.entry_records.EntryRecords.values.Goals as goal
 
 pub returns-then-i-len : goal.returns-then-i-len
 returns-then-i-len c = rw (← c.self.view_is) (none_past c.self.inside.placed.items c.self.inside.values.items c.self.invariant c.args.i (λ e. e.1)
