@@ -36,16 +36,17 @@ fn closed_reply(alloc: Global, solid: &Solid) -> Result<Reply, NoMemory>
 pub fn certify_solid(alloc: Global, file: File, no: u32) -> Result<Reply, NoMemory>
     ensures { IfOk result (λ reply. OfCertify no file reply.answer reply.text) }
 {
+    let memory = file.memory();
     let walked = walk(alloc, &file, EntryNo(no));
-    // The certificate needs the room that the file takes.
-    drop(file);
+    // Where memory is given back, the certificate needs the room that the file takes.
+    memory.release(file);
     let solid = match walked {
         Ok(solid) => solid,
         Err(WalkFault::Fails(failing)) => return failed(alloc, failing),
         Err(WalkFault::NoMemory) => return Err(NoMemory),
     };
     let reply = closed_reply(alloc, &solid);
-    drop(solid);
+    memory.release(solid);
     reply
 }
 
@@ -61,8 +62,8 @@ pub fn certify_solids(alloc: Global, file: File) -> Result<Reply, NoMemory>
         Err(BookFault::TooMany { .. }) => return Ok(too_large(alloc)),
         Err(BookFault::NoMemory) => return Err(NoMemory),
     };
-    // The text needs the room that the file takes.
-    drop(file);
+    // Where memory is given back, the text needs the room that the file takes.
+    file.memory().release(file);
     Ok(Reply {
         answer: Answer::Done,
         text: write_book(alloc, &parts)?,

@@ -27,7 +27,7 @@ fn whole_reply(alloc: Global, command: WholeCommand, file: File) -> Result<Reply
     ensures { IfOk result (λ reply. OfWhole command file reply.answer reply.text) }
 {
     match command {
-        WholeCommand::Solids => list_solids(alloc, &file),
+        WholeCommand::Solids => list_solids(alloc, file),
         WholeCommand::CertifyAll => certify_solids(alloc, file),
     }
 }
@@ -42,7 +42,7 @@ fn entity_reply(
     ensures { IfOk result (λ reply. OfEntity command no file reply.answer reply.text) }
 {
     match command {
-        EntityCommand::Show => show_solid(alloc, &file, no),
+        EntityCommand::Show => show_solid(alloc, file, no),
         EntityCommand::Certify => certify_solid(alloc, file, no),
         EntityCommand::Extract => extract_solid(alloc, file, no),
         EntityCommand::Open => certify_shell(alloc, file, no),

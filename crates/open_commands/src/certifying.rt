@@ -15,13 +15,14 @@ use std::alloc::Global;
 pub fn certify_shell(alloc: Global, file: File, no: u32) -> Result<Reply, NoMemory>
     ensures { IfOk result (λ reply. OfOpen no file reply.answer reply.text) }
 {
-    let solid = match walk_shell(alloc, &file, EntryNo(no)) {
+    let walked = walk_shell(alloc, &file, EntryNo(no));
+    // Where memory is given back, the certificate needs the room that the file takes.
+    file.memory().release(file);
+    let solid = match walked {
         Ok(solid) => solid,
         Err(WalkFault::Fails(failing)) => return failed(alloc, failing),
         Err(WalkFault::NoMemory) => return Err(NoMemory),
     };
-    // The certificate needs the room that the file takes.
-    drop(file);
     let certificate = match open_certify(alloc, &solid) {
         Ok(certificate) => certificate,
         Err(OpenFault::Fails(failing)) => {
