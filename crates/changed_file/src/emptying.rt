@@ -110,11 +110,7 @@ fn emptied_some(alloc: Global, file: &mut File, numbers: &[i64]) -> Result<File,
 
 /// The file in which those of these entries to which no entry points are of type 0, without values. The values of all others stay
 /// in their memory.
-pub(crate) fn emptied(
-    alloc: Global,
-    mut file: File,
-    numbers: &[i64],
-) -> Result<File, ChangeFault>
+pub(crate) fn emptied(alloc: Global, mut file: File, numbers: &[i64]) -> Result<File, ChangeFault>
     ensures { IfOk result (λ new. new ≡ emptied numbers.now file) }
 {
     if numbers.is_empty() {
