@@ -6,5 +6,5 @@ mod fitting;
 mod new_names;
 
 pub use covering::covers;
-pub use fitting::fits;
+pub use fitting::{fits, fits_with};
 pub use new_names::names_new;

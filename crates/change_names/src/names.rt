@@ -39,11 +39,30 @@ fn push_face(out: &mut Vec<UseNow>, fate: &Fate) -> Result<(), NoMemory>
     }
 }
 
+fn loop_uses(loops: &[LoopNow]) -> usize {
+    let mut count = 0usize;
+    'loops: for i in 0..loops.len() {
+        count = count.saturating_add(loops[i].uses.len());
+    }
+    count
+}
+
+// How many uses the faces have that are kept.
+fn use_count(fates: &[Fate]) -> usize {
+    let mut count = 0usize;
+    'faces: for i in 0..fates.len() {
+        if let Fate::Kept(face) = &fates[i] {
+            count = count.saturating_add(loop_uses(face.loops.as_slice()));
+        }
+    }
+    count
+}
+
 /// The uses of all faces that are kept, as they are after a change.
 pub fn uses_after(alloc: Global, fates: &[Fate]) -> Result<Vec<UseNow>, NoMemory>
     ensures { IfOk result (λ uses. uses.items ≡ all_after fates.now) }
 {
-    let mut out = Vec::new(alloc);
+    let mut out = Vec::with_capacity(alloc, use_count(fates))?;
     'faces: for i in 0..fates.len() {
         push_face(&mut out, &fates[i])?;
     }
@@ -99,7 +118,8 @@ fn seams_are_own(rows: &Rows, seams: &[Seam]) -> bool
     true
 }
 
-fn are_own(rows: &Rows, change: &Change, uses: &[UseNow]) -> bool
+/// The same as `names_own`, where the rows of the shell are given, and the uses of all faces that are kept.
+pub fn are_own(rows: &Rows, change: &Change, uses: &[UseNow]) -> bool
     requires { uses.now ≡ all_after change.now.faces }
     ensures { IsTrue result ↔ NamesOwnOf rows.now change.now }
 {

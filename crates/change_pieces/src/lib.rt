@@ -8,6 +8,7 @@ mod comparing;
 mod ends;
 mod gathering;
 mod making;
+mod name_places;
 mod names;
 mod numbering;
 mod parts;

@@ -1,6 +1,7 @@
 //! The pieces of a changed shell, made with numbers of their own. What is made is compared with the change afterwards.
 
 use crate::ends::{NamedEnds, ends_named};
+use crate::name_places::places_for;
 use crate::names::{EdgeNames, VertexNames, narrow};
 use iges_base::{EntryNo, ItemList, NoMemory};
 use shell_change::{Change, EdgeName, FaceNow, Fate, LoopNow, Rim, RimEdge, UseNow, VertexName};
@@ -169,13 +170,14 @@ pub(crate) fn make_pieces(
     flag: bool,
     pieces: &[Vec<u32>],
 ) -> Result<Made, NoMemory> {
+    let (edge_places, vertex_places) = places_for(alloc, solid, change)?;
     let mut maker = Maker {
         alloc,
         solid,
         change,
         edges: ItemList::new(alloc),
-        edge_names: EdgeNames::new(alloc),
-        vertex_names: VertexNames::new(alloc),
+        edge_names: EdgeNames::new(alloc, edge_places),
+        vertex_names: VertexNames::new(alloc, vertex_places),
     };
     let mut shells = ItemList::with_room(alloc, pieces.len())?;
     for places in pieces {

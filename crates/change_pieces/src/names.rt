@@ -2,10 +2,10 @@
 
 ghost use Rattle.std.specs.Prelude.{◌≡◌, ◌<◌, ◌+◌, ◌^◌, IsTrue, IfOk, Some, slice_get};
 ghost use Rattle.change_pieces.specs.Names.{StandOnce};
-ghost use Rattle.change_pieces.specs.OneName.{edge_name, place_among, vertex_name};
+ghost use Rattle.change_pieces.specs.OneName.{edge_name, vertex_name};
 
+use crate::name_places::Places;
 use iges_base::NoMemory;
-use indexmap::IndexSet;
 use shell_change::{EdgeName, VertexName, item_at};
 use std::alloc::Global;
 
@@ -48,23 +48,23 @@ pub(crate) fn narrow(n: usize) -> Result<u32, NoMemory>
 #[derive(Drop)]
 pub(crate) struct EdgeNames {
     pub names: Vec<EdgeName>,
-    pub places: IndexSet<Name>,
+    pub places: Places,
 }
 
 /// Vertices, each with its place for its number.
 #[derive(Drop)]
 pub(crate) struct VertexNames {
     pub names: Vec<VertexName>,
-    pub places: IndexSet<Name>,
+    pub places: Places,
 }
 
 impl EdgeNames {
     ghost use Rattle.std.specs.Prelude.{◌<◌, ◌+◌, ◌^◌, IfOk};
 
-    pub(crate) fn new(alloc: Global) -> EdgeNames {
+    pub(crate) fn new(alloc: Global, places: Places) -> EdgeNames {
         EdgeNames {
             names: Vec::new(alloc),
-            places: IndexSet::new(alloc),
+            places,
         }
     }
 
@@ -72,38 +72,29 @@ impl EdgeNames {
     pub(crate) fn number(&mut self, edge: EdgeName) -> Result<(u32, bool), NoMemory>
         ensures { IfOk result (λ r. r.0 + 1 < 2 ^ 32) }
     {
-        let (place, is_new) = self.places.insert_full(name_of_edge(edge))?;
+        let (place, is_new) = self.places.place(name_of_edge(edge), self.names.len())?;
         if is_new {
             self.names.push(edge)?;
         }
-        Ok((narrow(place)?, is_new))
+        Ok((place, is_new))
     }
 }
 
 impl VertexNames {
-    pub(crate) fn new(alloc: Global) -> VertexNames {
+    pub(crate) fn new(alloc: Global, places: Places) -> VertexNames {
         VertexNames {
             names: Vec::new(alloc),
-            places: IndexSet::new(alloc),
+            places,
         }
     }
 
     /// The number of a vertex.
     pub(crate) fn number(&mut self, vertex: VertexName) -> Result<u32, NoMemory> {
-        let (place, is_new) = self.places.insert_full(name_of_vertex(vertex))?;
+        let (place, is_new) = self.places.place(name_of_vertex(vertex), self.names.len())?;
         if is_new {
             self.names.push(vertex)?;
         }
-        narrow(place)
-    }
-}
-
-fn edge_stands_at(edges: &EdgeNames, edge: EdgeName, place: usize) -> bool
-    ensures { IsTrue result → place_among edges.now.places.keys (edge_name edge) ≡ Some place }
-{
-    match edges.places.get_index_of(&name_of_edge(edge)) {
-        None => false,
-        Some(own) => own == place,
+        Ok(place)
     }
 }
 
@@ -113,20 +104,11 @@ pub(crate) fn edges_once(edges: &EdgeNames) -> bool
 {
     let names = edges.names.as_slice();
     'names: for i in 0..names.len() {
-        if !edge_stands_at(edges, *item_at(names, i), i) {
+        if !edges.places.is_place(name_of_edge(*item_at(names, i)), i) {
             return false;
         }
     }
     true
-}
-
-fn vertex_stands_at(vertices: &VertexNames, vertex: VertexName, place: usize) -> bool
-    ensures { IsTrue result → place_among vertices.now.places.keys (vertex_name vertex) ≡ Some place }
-{
-    match vertices.places.get_index_of(&name_of_vertex(vertex)) {
-        None => false,
-        Some(own) => own == place,
-    }
 }
 
 /// Whether no vertex stands twice.
@@ -135,7 +117,10 @@ pub(crate) fn vertices_once(vertices: &VertexNames) -> bool
 {
     let names = vertices.names.as_slice();
     'names: for i in 0..names.len() {
-        if !vertex_stands_at(vertices, *item_at(names, i), i) {
+        if !vertices
+            .places
+            .is_place(name_of_vertex(*item_at(names, i)), i)
+        {
             return false;
         }
     }

@@ -1,5 +1,5 @@
 -- Entries that are put one by one.
-use Rattle.std.specs.Prelude.{◌≡◌, ℕ, zero, suc, ◌+◌, ◌*◌, ◌/◌, ◌%◌, ◌<◌, ◌≤◌, ◌==◌, ◌&&◌, Bool, true, false, not, ℤ, pos, List, [], ◌∷◌, ◌++◌, length, map, flat_map, take, drop, Option, Some, None, slice_get, option_map, get_or}
+use Rattle.std.specs.Prelude.{◌≡◌, ℕ, zero, suc, ◌+◌, ◌*◌, ◌/◌, ◌%◌, ◌<◌, ◌≤◌, ◌==◌, ◌&&◌, Bool, true, false, not, ℤ, pos, List, [], ◌∷◌, ◌++◌, length, map, flat_map, take, drop, Option, Some, None, slice_get, option_map, get_or, set}
 use Rattle.std.specs.List.{AllByRecursion, enumerate_from}
 use Rattle.std.specs.Ordering.{int_eq}
 use Rattle.std.proofs.Common.{refl, sym, ◌∙◌, ap, subst, arith, append_assoc}
@@ -7,7 +7,7 @@ use Rattle.iges_base.proofs.Lists.{open_at}
 use Rattle.std.proofs.lemmas.Bool.{eqb-true}
 use Rattle.std.proofs.lemmas.Bool.Decides.{Decides-int_eq}
 use Rattle.std.proofs.lemmas.Option.{none-some, same_Some}
-use Rattle.std.proofs.lemmas.List.{take_all, map-append}
+use Rattle.std.proofs.lemmas.List.{length-set, take_all, map-append}
 use Rattle.std.proofs.lemmas.List.FromFn.{length-enumerate_from}
 use Rattle.iges_directory.specs.declared.entry.Entry.{Entry}
 use Rattle.iges_fields.specs.declared.value.Value.{Value}
@@ -123,6 +123,31 @@ refs_next f i r out new all at en inv =
     ap (λ (x : List ℤ). x ++ flat_map (refs_of f) (drop (i + 1) f.entries)) en
     ∙ (append_assoc out (refs_of f r) (flat_map (refs_of f) (drop (i + 1) f.entries))
     ∙ (sym (ap (λ (es : List Record). out ++ flat_map (refs_of f) es) (open_at f.entries i r at)) ∙ inv))
+
+-- ---- a file from which the values of one entry after the other are taken
+
+-- the entries from a place on are as they were
+pub record IsEmptied (f g : Contents) (i : ℕ) : Type 0 where
+  pub long : length g.entries ≡ length f.entries
+  pub rest : (j : ℕ) → i ≤ j → slice_get g.entries j ≡ slice_get f.entries j
+
+pub none_emptied : (f : Contents) → IsEmptied f f 0
+none_emptied f = record { long = refl; rest = λ j le. refl }
+
+get_later : {X : Type 0} (xs : List X) (i j : ℕ) (x : X) → i < j → slice_get (set xs i x) j ≡ slice_get xs j
+get_later [] i j x lt = refl
+get_later (y ∷ ys) zero zero x lt = absurd (omega (arith, lt))
+get_later (y ∷ ys) zero (suc j) x lt = refl
+get_later (y ∷ ys) (suc i) zero x lt = absurd (omega (arith, lt))
+get_later (y ∷ ys) (suc i) (suc j) x lt = get_later ys i j x (omega (arith, lt))
+
+pub next_emptied : (f g next : Contents) (i : ℕ) (e : Entry) → IsEmptied f g i → next ≡ record g { entries = set g.entries i (e, []) }
+    → IsEmptied f next (i + 1)
+next_emptied f g next i e h same = record {
+  long = ap (λ (x : Contents). length x.entries) same ∙ (length-set g.entries i (e, []) ∙ h.long);
+  rest = λ j le. ap (λ (x : Contents). slice_get x.entries j) same
+      ∙ (get_later g.entries i j (e, []) (omega (arith, le)) ∙ h.rest j (omega (arith, le)));
+}
 
 -- ---- the file without them
 

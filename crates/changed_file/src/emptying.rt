@@ -5,10 +5,10 @@ ghost use Rattle.entry_references.specs.Refs.{Record as AnyRecord};
 ghost use Rattle.iges_directory.specs.Bounds.{IsBounded};
 ghost use Rattle.iges_params.specs.Contents.{value_count};
 ghost use Rattle.std.specs.List.{enumerate_from};
-ghost use Rattle.std.specs.Prelude.{◌≡◌, ◌<◌, ◌∷◌, ◌++◌, ◌&&◌, ℤ, List, [], Some, IfOk, OnOk, false, get_or, length, map, not, slice_get};
+ghost use Rattle.std.specs.Prelude.{◌≡◌, ◌<◌, ◌∷◌, ◌++◌, ◌&&◌, ℤ, List, [], Some, IfOk, OnOk, false, get_or, length, map, not, set, slice_get};
 
 use crate::marking::{all_refs, marks_of};
-use crate::rewriting::{push_within, values_at};
+use crate::rewriting::push_within;
 use changed_records::ChangeFault;
 use iges_directory::Entry;
 use iges_fields::Values;
@@ -27,26 +27,37 @@ fn of_no_type(entry: Entry) -> Entry
     }
 }
 
-// Puts the i-th entry, which is gone or isn't.
+// The fields and the values of the i-th entry, which has no values from then on.
+fn taken(alloc: Global, file: &mut File, i: usize) -> (Entry, Values)
+    requires { i < length file.old.entries }
+    ensures taken { slice_get file.old.entries i ≡ Some (result.0, result.1) }
+    ensures bounded { IsBounded result.0 }
+    ensures left { file.new ≡ record file.old { entries = set file.old.entries i (result.0, []) } }
+{
+    let entry = *file.entry_at(i).unwrap();
+    let values = file.take_values(alloc, i);
+    (entry, values)
+}
+
+// Puts an entry with its values, or without them, if it is gone.
 fn put_entry(
     alloc: Global,
     new: &mut File,
     count: u64,
-    file: &File,
-    i: usize,
+    whole: (Entry, Values),
     gone: bool,
 ) -> Result<u64, ChangeFault>
-    requires within { i < length file.now.entries }
+    requires bounded { IsBounded whole.0 }
     requires counted { count ≡ value_count new.old.entries }
-    ensures ok { OnOk result ((r : AnyRecord) → slice_get file.now.entries i ≡ Some r
-        → new.new ≡ record new.old { entries = new.old.entries ++ unless_gone gone r ∷ [] }) }
+    ensures ok { OnOk result (new.new ≡ record new.old {
+      entries = new.old.entries ++ unless_gone gone (whole.0, whole.1) ∷ [];
+    }) }
     ensures counted { IfOk result (λ n. n ≡ value_count new.new.entries) }
 {
-    let entry = *file.entry_at(i).unwrap();
+    let (entry, values) = whole;
     if gone {
         return push_within(new, count, of_no_type(entry), Values::new(alloc));
     }
-    let values = values_at(alloc, file, i)?;
     push_within(new, count, entry, values)
 }
 
@@ -63,28 +74,30 @@ fn is_gone(gone: &[bool], used: &[bool], i: usize) -> bool
     is_marked(gone, i) && !is_marked(used, i)
 }
 
+// Puts all entries. Their values are moved.
 fn put_entries(
     alloc: Global,
     new: &mut File,
-    file: &File,
+    file: &mut File,
     gone: &[bool],
     used: &[bool],
 ) -> Result<(), ChangeFault>
     requires { new.old.entries ≡ [] }
-    ensures { OnOk result ((ns us : List ℤ) → AreMarksOf gone.now ns (length file.now.entries)
-        → AreMarksOf used.now us (length file.now.entries) → new.new ≡ record new.old { entries = map (emptied_record ns us) (enumerate_from 0 file.now.entries) }) }
+    ensures { OnOk result ((ns us : List ℤ) → AreMarksOf gone.now ns (length file.old.entries)
+        → AreMarksOf used.now us (length file.old.entries) → new.new ≡ record new.old { entries = map (emptied_record ns us) (enumerate_from 0 file.old.entries) }) }
 {
     let mut count = 0;
     'entries: for i in 0..file.entry_count() {
         let gone_now = is_gone(gone, used, i);
-        count = put_entry(alloc, new, count, file, i, gone_now)?;
+        let whole = taken(alloc, file, i);
+        count = put_entry(alloc, new, count, whole, gone_now)?;
     }
     Ok(())
 }
 
 // Of some of these numbers.
-fn emptied_some(alloc: Global, file: &File, numbers: &[i64]) -> Result<File, ChangeFault>
-    ensures { IfOk result (λ new. new ≡ emptied numbers.now file.now) }
+fn emptied_some(alloc: Global, file: &mut File, numbers: &[i64]) -> Result<File, ChangeFault>
+    ensures { IfOk result (λ new. new ≡ emptied numbers.now file.old) }
 {
     let count = file.entry_count();
     let refs = all_refs(alloc, file)?;
@@ -95,12 +108,13 @@ fn emptied_some(alloc: Global, file: &File, numbers: &[i64]) -> Result<File, Cha
     Ok(new)
 }
 
-/// The file in which those of these entries to which no entry points are of type 0, without values.
-pub(crate) fn emptied(alloc: Global, file: File, numbers: &[i64]) -> Result<File, ChangeFault>
+/// The file in which those of these entries to which no entry points are of type 0, without values. The values of all others stay
+/// in their memory.
+pub(crate) fn emptied(alloc: Global, mut file: File, numbers: &[i64]) -> Result<File, ChangeFault>
     ensures { IfOk result (λ new. new ≡ emptied numbers.now file) }
 {
     if numbers.is_empty() {
         return Ok(file);
     }
-    emptied_some(alloc, &file, numbers)
+    emptied_some(alloc, &mut file, numbers)
 }

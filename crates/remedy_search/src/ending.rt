@@ -70,11 +70,14 @@ fn finish(
     table: &Table,
     found: &mut Found,
 ) {
-    if !is_whole(table) {
+    if !is_whole(table) || found.is_too_dear(trial.cost) {
         return;
     }
     if trial.piece_count < 2 {
         let _parted = part(memory, facts, trial, table, By::All);
+    }
+    if found.is_too_dear(trial.cost) {
+        return;
     }
     let fans = fans_of(memory, table);
     split_vertices(memory, facts, trial, table, &fans);
@@ -102,6 +105,11 @@ fn thin(
         return Some(table_of(memory, facts, trial));
     }
     Some(now)
+}
+
+// What a way costs at least.
+fn least_cost(way: u32) -> u32 {
+    if way == 0 { 2 } else { 4 }
 }
 
 fn try_way(
@@ -132,8 +140,11 @@ fn try_straight(
     }
     let ways = if can_split_edges(table) { 3 } else { 1 };
     'ways: for way in 0..ways {
-        let mut other = copy_of(memory, trial);
-        try_way(memory, facts, sewn, &mut other, (way, table), found);
+        let cost = trial.cost.saturating_add(least_cost(way));
+        if !found.is_too_dear(cost) {
+            let mut other = copy_of(memory, trial);
+            try_way(memory, facts, sewn, &mut other, (way, table), found);
+        }
     }
 }
 
@@ -146,7 +157,6 @@ pub(crate) fn try_ways(
     table: &Table,
     found: &mut Found,
 ) {
-    found.count_trial();
     match straighten(memory, facts, trial, table) {
         Straight::Not => {}
         Straight::Already => try_straight(memory, facts, sewn, trial, table, found),

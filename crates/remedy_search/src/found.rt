@@ -43,6 +43,11 @@ impl Found {
     pub(crate) fn count_trial(&mut self) {
         self.trials = self.trials.saturating_add(1);
     }
+
+    /// Whether a remedy of this cost would come after all that are told. So would a dearer one, and no step makes a trial cheaper.
+    pub(crate) fn is_too_dear(&self, cost: u32) -> bool {
+        self.remedies.len() >= MOST_TOLD && place_for(&self.remedies, cost) >= MOST_TOLD
+    }
 }
 
 fn shares_some(facts: &Facts) -> bool {
@@ -100,11 +105,6 @@ fn add(memory: &mut Memory, found: &mut Found, remedy: Remedy, split: u32) {
     found.splits.truncate(MOST_TOLD);
 }
 
-// Whether a remedy of this cost would come after all that are told.
-fn is_too_dear(found: &Found, cost: u32) -> bool {
-    found.remedies.len() >= MOST_TOLD && place_for(&found.remedies, cost) >= MOST_TOLD
-}
-
 // Puts a trial among the remedies, unless one that does the same costs no more; one that costs more goes.
 fn add_unlike(memory: &mut Memory, facts: &Facts, sewn: &Sewn, trial: &Trial, found: &mut Found) {
     let cost = trial.cost.max(1);
@@ -143,7 +143,7 @@ pub(crate) fn add_trial(
             return;
         }
     }
-    if !is_too_dear(found, trial.cost.max(1)) {
+    if !found.is_too_dear(trial.cost.max(1)) {
         add_unlike(memory, facts, sewn, trial, found);
     }
 }

@@ -7,7 +7,7 @@ use shell_change::{Known, Remedy};
 use shell_trial::{Facts, Memory, Table, Trial, copy_of, facts_of, first_trial, table_of};
 use solid_data::{ShellAt, Solid};
 use std::alloc::Global;
-use trial_removals::{copies, like_faces, removals, remove};
+use trial_removals::{Removal, copies, like_faces, removals, remove};
 use trial_seams::{SeamCounts, Sewn, seams_at, sew};
 
 const NO_SEAMS: SeamCounts = SeamCounts {
@@ -16,6 +16,42 @@ const NO_SEAMS: SeamCounts = SeamCounts {
     curve: 0,
     gaps: 0,
 };
+
+// Tries a sewn shell as it is.
+fn try_plain(
+    memory: &mut Memory,
+    facts: &Facts,
+    sewn: &Sewn,
+    trial: &Trial,
+    table: &Table,
+    found: &mut Found,
+) {
+    found.count_trial();
+    if !found.is_too_dear(trial.cost) {
+        let mut plain = copy_of(memory, trial);
+        try_ways(memory, facts, sewn, &mut plain, table, found);
+    }
+}
+
+// Tries a sewn shell without some faces.
+fn try_removal(
+    memory: &mut Memory,
+    facts: &Facts,
+    sewn: &Sewn,
+    trial: &Trial,
+    removal: &Removal,
+    found: &mut Found,
+) {
+    found.count_trial();
+    if found.is_too_dear(trial.cost.saturating_add(removal.cost)) {
+        return;
+    }
+    let mut other = copy_of(memory, trial);
+    remove(&mut other, removal);
+    other.sure = false;
+    let rows = table_of(memory, facts, &other);
+    try_ways(memory, facts, sewn, &mut other, &rows, found);
+}
 
 // Tries a sewn shell, as it is and with each set of faces removed that may be too many.
 fn try_removals(
@@ -26,8 +62,7 @@ fn try_removals(
     table: &Table,
     found: &mut Found,
 ) {
-    let mut plain = copy_of(memory, trial);
-    try_ways(memory, facts, sewn, &mut plain, table, found);
+    try_plain(memory, facts, sewn, trial, table, found);
     if found.is_over() {
         return;
     }
@@ -36,11 +71,7 @@ fn try_removals(
         if found.is_over() {
             break 'removals;
         }
-        let mut other = copy_of(memory, trial);
-        remove(&mut other, &removals[i]);
-        other.sure = false;
-        let rows = table_of(memory, facts, &other);
-        try_ways(memory, facts, sewn, &mut other, &rows, found);
+        try_removal(memory, facts, sewn, trial, &removals[i], found);
     }
 }
 

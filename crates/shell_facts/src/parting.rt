@@ -20,8 +20,8 @@ ghost use Rattle.solid_faults.specs.declared.edge.Unpaired.{Unpaired as AnyUnpai
 use crate::grouping::by_least;
 use edge_uses::Rows;
 use iges_base::{EntryNo, NoMemory};
-use shell_components::{Groups, Used, add_face, grouped, nothing_used, rise, used_by};
-use solid_data::{Cells, FaceUse, Shell, ShellAt, Solid, push_if};
+use shell_components::{Groups, Used, add_face, grouped, nothing_used, used_by};
+use solid_data::{Cells, FaceUse, Shell, ShellAt, Solid, occurring_numbers, push_if};
 use solid_faults::Unpaired;
 use std::alloc::Global;
 use std::marker::Model;
@@ -285,23 +285,22 @@ impl<'a> PartTables<'a> {
     ghost use Rattle.std.specs.Prelude.{◌≡◌, IfOk};
     ghost use Rattle.shell_facts.specs.PartFacts.{IsPart};
 
-    /// A part, by its first face. It goes over the uses of the part's faces, and sorts what they use.
+    /// A part, by its first face. It goes over the uses of the part's faces.
     pub fn part(&self, alloc: Global, first: u32) -> Result<Part, NoMemory>
         ensures { IfOk result
             (λ p. IsPart self.now.solid self.now.shell self.now.firsts self.now.unpaired first p) }
     {
         let numbers = self.by_part.places(first);
-        let mut used = used_by_faces(alloc, self.solid, self.shell, numbers)?;
-        rise(&mut used.edges);
-        rise(&mut used.vertices);
+        let used = used_by_faces(alloc, self.solid, self.shell, numbers)?;
+        let edges = occurring_numbers(alloc, used.edges.as_slice())?;
+        let vertices = occurring_numbers(alloc, used.vertices.as_slice())?;
         let faces = entities(alloc, self.shell, numbers)?;
-        let vertices = used.vertices.as_slice();
-        let touching = touching(alloc, &self.lows, vertices, first)?;
+        let touching = touching(alloc, &self.lows, vertices.as_slice(), first)?;
         Ok(Part {
             faces,
-            edges: used.edges.len(),
-            unpaired: unpaired_among(&self.by_edge, used.edges.as_slice()),
-            vertices: used.vertices,
+            edges: edges.len(),
+            unpaired: unpaired_among(&self.by_edge, edges.as_slice()),
+            vertices,
             touching,
         })
     }

@@ -6,7 +6,7 @@ ghost use Rattle.solid_geometry.specs.Curves.{is_line};
 ghost use Rattle.solid_geometry.specs.Lines.{IsLineNumber, IsLineOf, ends_key, pair_key, point_key};
 ghost use Rattle.std.specs.Fmt.{decimal};
 ghost use Rattle.std.specs.List.{AllZip};
-ghost use Rattle.std.specs.Prelude.{◌≡◌, ◌↔◌, ◌++◌, ◌+◌, ◌≤◌, ◌<◌, ◌^◌, IfOk, IsTrue, OnOk};
+ghost use Rattle.std.specs.Prelude.{◌≡◌, ◌↔◌, ◌++◌, ◌+◌, ◌≤◌, ◌<◌, ◌^◌, IfOk, IfSome, IsTrue, OnOk};
 
 use crate::values::put_at;
 use equal_values::put_text;
@@ -101,6 +101,33 @@ fn line_of(
     Ok(Some(number_of_line(alloc, file, numbers, curve)?))
 }
 
+/// A curve that was looked at, and its number if it's a line.
+#[derive(Clone, Copy)]
+struct Seen {
+    curve: i64,
+    line: Option<u32>,
+}
+
+// The number of a curve that is a line; edges that follow one another often have one curve.
+fn line_after(
+    alloc: Global,
+    file: &File,
+    numbers: &mut LineNumbers,
+    seen: Option<Seen>,
+    curve: i64,
+) -> Result<Option<u32>, NoMemory>
+    ensures line { IfOk result (λ line. AreNumbers numbers.old.points
+        → IfSome seen (λ s. IsLineOf file.now numbers.old.points numbers.old.pairs s.curve s.line)
+        → IsLineOf file.now numbers.new.points numbers.new.pairs curve line) }
+    ensures points { OnOk result (AreNumbers numbers.old.points → KeepsNumbers numbers.old.points numbers.new.points × AreNumbers numbers.new.points) }
+    ensures pairs { OnOk result (AreNumbers numbers.old.pairs → KeepsNumbers numbers.old.pairs numbers.new.pairs × AreNumbers numbers.new.pairs) }
+{
+    match seen {
+        Some(seen) if seen.curve == curve => Ok(seen.line),
+        _ => line_of(alloc, file, numbers, curve),
+    }
+}
+
 /// The number of each of the curves that is a line.
 pub fn lines_of(
     alloc: Global,
@@ -115,8 +142,14 @@ pub fn lines_of(
     ensures pairs { OnOk result (AreNumbers numbers.new.pairs) }
 {
     let mut lines = Vec::with_capacity(alloc, curves.len())?;
+    let mut seen = None;
     'curves: for curve in curves {
-        lines.push(line_of(alloc, file, numbers, *curve)?)?;
+        let line = line_after(alloc, file, numbers, seen, *curve)?;
+        seen = Some(Seen {
+            curve: *curve,
+            line,
+        });
+        lines.push(line)?;
     }
     Ok(lines)
 }

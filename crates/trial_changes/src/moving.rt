@@ -15,6 +15,8 @@ pub(crate) struct Moves {
     pub(crate) list: ItemList<Move>,
     // Of each vertex of the shell the last move of its way; `NONE` if there is none yet.
     last: Vec<u32>,
+    // Whether some vertices became one.
+    any: bool,
     // Of each vertex one further on its way, without another place between; itself, where the next one has another place.
     further: Vec<u32>,
 }
@@ -37,6 +39,7 @@ pub(crate) fn no_moves(memory: &mut Memory, facts: &Facts, sewn: &Sewn) -> Moves
     Moves {
         list: memory.items(),
         last: memory.filled(count, NONE),
+        any: !sewn.links.is_empty(),
         further,
     }
 }
@@ -104,6 +107,9 @@ pub(crate) fn move_of(
     moves: &mut Moves,
     vertex: u32,
 ) -> Option<u32> {
+    if !moves.any {
+        return None;
+    }
     let least = at(&views.sewn.least, vertex);
     if least == vertex || views.facts.vertex(vertex).place == views.facts.vertex(least).place {
         return None;

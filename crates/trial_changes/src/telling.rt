@@ -59,9 +59,12 @@ fn place_of(views: Views<'_>, vertex: u32) -> u32 {
 
 // Whether a use of an edge runs the other way now.
 fn is_turned(views: Views<'_>, before: TrialUse, now: TrialUse) -> bool {
-    let old = views.facts.edge(before.item);
     let new = views.trial.edge(now.item);
     let changed = now.along != before.along;
+    if !changed && new.like == before.item {
+        return false;
+    }
+    let old = views.facts.edge(before.item);
     let at_one = old.from_place == old.to_place
         || place_of(views, new.from) == place_of(views, new.to);
     if at_one {

@@ -1,53 +1,34 @@
 //! Faces that are like each other by their records.
 
 use shell_trial::{
-    Entry, Facts, Key, Memory, NONE, TrialUse, at, classes_of, is_set, key_of, list_classes, put,
-    set, short,
+    Entry, Facts, Memory, NONE, TrialUse, at, classes_of, is_set, key_of, list_classes, put, set,
+    short,
 };
 
-// What a use is, whatever its edge or vertex is called.
-fn use_key(facts: &Facts, item: TrialUse, place: u32) -> Key {
+// A number for what a use is, whatever its edge or vertex is called: edges that are sure to be one are the same.
+fn use_class(facts: &Facts, item: TrialUse) -> u32 {
     if !item.on_edge {
-        return key_of(0, facts.vertex(item.item).place, place);
+        let edges = short(facts.edges.len());
+        let place = facts.vertex(item.item).place;
+        return edges.saturating_mul(2).saturating_add(place);
     }
     let edge = facts.edge(item.item);
-    let (from, to) = (edge.from_place, edge.to_place);
-    if edge.is_line && from != to {
-        let (start, end) = if item.along { (from, to) } else { (to, from) };
-        return Key {
-            first: 1,
-            second: start,
-            third: end,
-            fourth: 0,
-            place,
-        };
-    }
-    Key {
-        first: if item.along { 2 } else { 3 },
-        second: from,
-        third: to,
-        fourth: edge.record,
-        place,
-    }
+    // A line has no direction of its own.
+    let falls = edge.is_line && edge.from_place > edge.to_place;
+    let class = at(&facts.sure, item.item);
+    class
+        .saturating_mul(2)
+        .saturating_add(u32::from(item.along != falls))
 }
 
-fn use_classes(memory: &mut Memory, facts: &Facts) -> Vec<u32> {
-    let mut keys = memory.room(facts.uses.len());
-    'uses: for i in 0..facts.uses.len() {
-        memory.add(&mut keys, use_key(facts, facts.uses[i], short(i)));
-    }
-    classes_of(memory, keys, short(facts.uses.len()))
-}
-
-fn use_entries(memory: &mut Memory, facts: &Facts, classes: &[u32]) -> Vec<Entry> {
+fn use_entries(memory: &mut Memory, facts: &Facts) -> Vec<Entry> {
     let mut out = memory.room(facts.uses.len());
     'uses: for i in 0..facts.uses.len() {
-        let i = short(i);
         memory.add(
             &mut out,
             Entry {
-                owner: at(&facts.face_of, i),
-                number: at(classes, i),
+                owner: at(&facts.face_of, short(i)),
+                number: use_class(facts, facts.uses[i]),
             },
         );
     }
@@ -76,8 +57,7 @@ fn face_classes(memory: &mut Memory, facts: &Facts, lists: &[u32]) -> Vec<u32> {
 /// Of each face the first one that is like it, which may be itself.
 pub fn like_faces(memory: &mut Memory, facts: &Facts) -> Vec<u32> {
     let count = short(facts.faces.len());
-    let uses = use_classes(memory, facts);
-    let entries = use_entries(memory, facts, &uses);
+    let entries = use_entries(memory, facts);
     let lists = list_classes(memory, entries, count);
     let classes = face_classes(memory, facts, &lists);
     let edged = with_edges(memory, facts);

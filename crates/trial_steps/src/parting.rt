@@ -25,11 +25,17 @@ fn joins(table: &Table, i: u32, by: By) -> bool {
 /// The sets of faces that edges join.
 pub fn sets_of(memory: &mut Memory, facts: &Facts, table: &Table, by: By) -> Sets {
     let mut sets = Sets::new(memory, short(facts.faces.len()));
+    // Rows that follow one another often join the same two faces.
+    let mut last = (NONE, NONE);
     'rows: for i in 0..table.rows.len() {
         let i = short(i);
         let row = table.row(i);
         if row.edge != NONE && row.same != NONE && joins(table, i, by) {
-            let _joined = sets.join(at(&facts.face_of, i), at(&facts.face_of, row.same), false);
+            let pair = (at(&facts.face_of, i), at(&facts.face_of, row.same));
+            if pair.0 != last.0 || pair.1 != last.1 {
+                let _joined = sets.join(pair.0, pair.1, false);
+                last = pair;
+            }
         }
     }
     sets

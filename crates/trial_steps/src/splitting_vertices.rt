@@ -128,8 +128,20 @@ fn split_points(memory: &mut Memory, facts: &Facts, trial: &mut Trial, splits: &
     }
 }
 
+fn has_points(trial: &Trial, walk: LoopFact) -> bool {
+    'uses: for t in 0..walk.uses {
+        if !trial.item(walk.first_use.saturating_add(t)).on_edge {
+            return true;
+        }
+    }
+    false
+}
+
 // Uses of vertices go with the edge uses before them.
 fn follow_edges(trial: &mut Trial, walk: LoopFact) {
+    if !has_points(trial, walk) {
+        return;
+    }
     let mut last = last_end(trial, walk);
     'uses: for t in 0..walk.uses {
         let here = walk.first_use.saturating_add(t);

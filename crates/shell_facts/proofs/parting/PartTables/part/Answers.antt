@@ -20,11 +20,11 @@ touching-requires c =
     let named : faces_numbered h c.places-numbers.result.now ≡ part_faces h firsts c.args.first =
     ap (faces_numbered h) (c.places-numbers.ensures ∙ ap (places_of c.args.first) c.self.invariant.parts)
     ∙ part_named h firsts c.args.first c.self.invariant.each in
-    let vertices : c.rise-2.new.numbers.items ≡ part_vertices s h firsts c.args.first =
-    rises_to (length s.vertices) c.in_ok-used.used.vertices.items c.rise-2.new.numbers.items (flat_map (face_vertices s) (part_faces h firsts c.args.first))
-    c.rise-2.ensures (c.in_ok-used.ensures.vertices ∙ ap (flat_map (face_vertices s)) named)
+    let vertices : c.in_ok-vertices.vertices.items ≡ part_vertices s h firsts c.args.first =
+    rises_to (length s.vertices) c.as_slice-2.result.now c.in_ok-vertices.vertices.items (flat_map (face_vertices s) (part_faces h firsts c.args.first))
+    c.in_ok-vertices.ensures (c.as_slice-2.ensures.value ∙ (c.in_ok-used.ensures.vertices ∙ ap (flat_map (face_vertices s)) named))
     (vertices_below s h firsts c.args.first c.self.invariant.known) in
-    subst (All (IsWithin c.self.inside.lows.span)) (sym (c.as_slice-vertices.ensures.value ∙ vertices))
+    subst (All (IsWithin c.self.inside.lows.span)) (sym (c.as_slice-3.ensures.value ∙ vertices))
     (part_within s h firsts c.args.first c.self.inside.lows.span c.self.invariant.within)
 
 pub returns : goal.returns
@@ -36,17 +36,18 @@ returns c =
     let named : faces_numbered h c.places-numbers.result.now ≡ part_faces h firsts c.args.first =
     ap (faces_numbered h) (c.places-numbers.ensures ∙ ap (places_of c.args.first) c.self.invariant.parts)
     ∙ part_named h firsts c.args.first c.self.invariant.each in
-    let edges : c.rise.new.numbers.items ≡ part_edges s h firsts c.args.first =
-    rises_to (length s.edges) c.in_ok-used.used.edges.items c.rise.new.numbers.items (flat_map face_edges (part_faces h firsts c.args.first)) c.rise.ensures
-    (c.in_ok-used.ensures.edges ∙ ap (flat_map face_edges) named) (edges_below s h firsts c.args.first c.self.invariant.known) in
-    let vertices : c.rise-2.new.numbers.items ≡ part_vertices s h firsts c.args.first =
-    rises_to (length s.vertices) c.in_ok-used.used.vertices.items c.rise-2.new.numbers.items (flat_map (face_vertices s) (part_faces h firsts c.args.first))
-    c.rise-2.ensures (c.in_ok-used.ensures.vertices ∙ ap (flat_map (face_vertices s)) named)
+    let edges : c.in_ok-edges.edges.items ≡ part_edges s h firsts c.args.first =
+    rises_to (length s.edges) c.as_slice.result.now c.in_ok-edges.edges.items (flat_map face_edges (part_faces h firsts c.args.first)) c.in_ok-edges.ensures
+    (c.as_slice.ensures.value ∙ (c.in_ok-used.ensures.edges ∙ ap (flat_map face_edges) named))
+    (edges_below s h firsts c.args.first c.self.invariant.known) in
+    let vertices : c.in_ok-vertices.vertices.items ≡ part_vertices s h firsts c.args.first =
+    rises_to (length s.vertices) c.as_slice-2.result.now c.in_ok-vertices.vertices.items (flat_map (face_vertices s) (part_faces h firsts c.args.first))
+    c.in_ok-vertices.ensures (c.as_slice-2.ensures.value ∙ (c.in_ok-used.ensures.vertices ∙ ap (flat_map (face_vertices s)) named))
     (vertices_below s h firsts c.args.first c.self.invariant.known) in
     let told : Part = record {
       faces = c.in_ok-faces.faces;
       edges = c.len.result;
-      vertices = c.rise-2.new.numbers;
+      vertices = c.in_ok-vertices.vertices;
       unpaired =
           c.unpaired_among.result;
       touching = c.in_ok-touching.touching;
@@ -56,10 +57,10 @@ returns c =
       edges = omega (arith, c.len.ensures, ap length edges);
       vertices = vertices;
       unpaired = c.unpaired_among.ensures
-          ∙ (ap (λ es. length (occurring es c.self.inside.by_edge)) (c.as_slice.ensures.value ∙ edges)
+          ∙ (ap (λ es. length (occurring es c.self.inside.by_edge)) (c.as_slice-4.ensures.value ∙ edges)
           ∙ ap (λ us. length (occurring (part_edges s h firsts c.args.first) us)) c.self.invariant.edges);
       touching = c.in_ok-touching.ensures
-          ∙ (ap (flat_map (low_vertex lows c.args.first)) (c.as_slice-vertices.ensures.value ∙ vertices)
+          ∙ (ap (flat_map (low_vertex lows c.args.first)) (c.as_slice-3.ensures.value ∙ vertices)
           ∙ touching_kept s h firsts c.args.first lows c.self.invariant.lows (part_within s h firsts c.args.first lows.span c.self.invariant.within)
           (omega (arith, c.ranges.first.fits)));
     })
