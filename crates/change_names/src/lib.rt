@@ -4,5 +4,5 @@
 mod names;
 mod owning;
 
-pub use names::{are_own, names_own, uses_after};
+pub use names::{are_own, uses_after};
 pub use owning::is_among;

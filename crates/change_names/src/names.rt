@@ -1,16 +1,14 @@
 //! Whether the old edges and vertices that a change names are the shell's.
 
-ghost use Rattle.std.specs.Prelude.{◌≡◌, ◌↔◌, ◌<◌, ◌++◌, IsTrue, Contains, IfOk, flat_map, length};
-ghost use Rattle.edge_uses.specs.ShellRows.{rows_of};
+ghost use Rattle.std.specs.Prelude.{◌≡◌, ◌↔◌, ◌++◌, IsTrue, Contains, IfOk, flat_map};
 ghost use Rattle.shell_change.specs.Matching.{EachAt};
 ghost use Rattle.shell_change.specs.declared.change.NewVertex.{NewVertex as AnyNewVertex};
-ghost use Rattle.change_names.specs.Names.{loop_after, face_after, uses_after as all_after, UseIsOwn, NewEdgeIsOwn, SeamIsOwn, NamesOwnOf, NamesOwn};
+ghost use Rattle.change_names.specs.Names.{loop_after, face_after, uses_after as all_after, UseIsOwn, NewEdgeIsOwn, SeamIsOwn, NamesOwnOf};
 
 use crate::owning::{new_edge_is_own, new_vertex_is_own, seam_is_own, use_is_own};
-use edge_uses::{Rows, rows};
+use edge_uses::Rows;
 use iges_base::NoMemory;
 use shell_change::{Change, Fate, LoopNow, NewEdge, NewVertex, Seam, UseNow, item_at};
-use solid_data::Solid;
 use std::alloc::Global;
 
 fn push_uses(out: &mut Vec<UseNow>, uses: &[UseNow]) -> Result<(), NoMemory>
@@ -118,7 +116,8 @@ fn seams_are_own(rows: &Rows, seams: &[Seam]) -> bool
     true
 }
 
-/// The same as `names_own`, where the rows of the shell are given, and the uses of all faces that are kept.
+/// Whether each old edge and each old vertex that a change names is one of the shell: of these rows, with these uses of all faces
+/// that are kept.
 pub fn are_own(rows: &Rows, change: &Change, uses: &[UseNow]) -> bool
     requires { uses.now ≡ all_after change.now.faces }
     ensures { IsTrue result ↔ NamesOwnOf rows.now change.now }
@@ -136,14 +135,4 @@ pub fn are_own(rows: &Rows, change: &Change, uses: &[UseNow]) -> bool
     }
     let seams = change.seams.as_slice();
     seams_are_own(rows, seams)
-}
-
-/// Whether each old edge and each old vertex that a change names is one of the shell.
-pub fn names_own(alloc: Global, solid: &Solid, change: &Change) -> Result<bool, NoMemory>
-    requires { change.now.shell.0 < length solid.now.shells }
-    ensures { IfOk result (λ own. IsTrue own ↔ NamesOwn solid.now change.now) }
-{
-    let rows = rows(alloc, solid, change.shell)?;
-    let uses = uses_after(alloc, change.faces.as_slice())?;
-    Ok(are_own(&rows, change, uses.as_slice()))
 }
