@@ -103,7 +103,7 @@ fn memory_of(ends_process: bool) -> Memory {
 }
 
 // The file of the lines that came, or the reply where they are those of none.
-fn file_of(alloc: Global, feed: LineFeed, memory: Memory) -> Result<Result<File, Reply>, NoMemory>
+fn file_of(alloc: Global, feed: LineFeed) -> Result<Result<File, Reply>, NoMemory>
     ensures found { (bytes : List ℕ) → IsFed feed bytes → length bytes ≤ FILE_LIMIT
         → IfOk result (λ r. MatchResult r (IsFile bytes)
         (λ reply. OfNoFile bytes reply.answer reply.text)) }
@@ -111,12 +111,22 @@ fn file_of(alloc: Global, feed: LineFeed, memory: Memory) -> Result<Result<File,
         (λ reply. reply.answer ≡ Answer.BadFile)) }
 {
     match read_fed(alloc, feed) {
-        Ok(mut file) => {
-            file.set_memory(memory);
-            Ok(Ok(file))
-        }
+        Ok(file) => Ok(Ok(file)),
         Err(ReadFileFault::Bad(fault)) => Ok(Err(bad_file(alloc, fault)?)),
         Err(ReadFileFault::NoMemory) => Err(NoMemory),
+    }
+}
+
+// The same, where this becomes of the file's memory.
+fn with_memory(found: Result<File, Reply>, memory: Memory) -> Result<File, Reply>
+    ensures { result ≡ found }
+{
+    match found {
+        Ok(mut file) => {
+            file.set_memory(memory);
+            Ok(file)
+        }
+        Err(reply) => Err(reply),
     }
 }
 
@@ -136,7 +146,7 @@ pub fn file_in<F: Source>(alloc: Global, source: &mut F) -> Result<Result<File, 
 {
     let memory = memory_of(source.ends_process());
     match lines_in(alloc, source)? {
-        Ok(feed) => Ok(file_of(alloc, feed, memory)?),
+        Ok(feed) => Ok(with_memory(file_of(alloc, feed)?, memory)),
         Err(reply) => Ok(Err(reply)),
     }
 }
