@@ -1,13 +1,11 @@
 //! Whether a remedy that was found fits and passes.
 
-ghost use Rattle.std.specs.Prelude.{◌≡◌, ◌↔◌, ◌≤◌, ◌<◌, IsTrue, IfOk, length, slice_get};
+ghost use Rattle.std.specs.Prelude.{◌≡◌, ◌↔◌, ◌≤◌, ◌<◌, IsTrue, IfOk, length};
 ghost use Rattle.edge_uses.specs.Before.{AreBelow};
-ghost use Rattle.edge_uses.specs.ShellRows.{rows_of};
 ghost use Rattle.tried_remedies.specs.Tried.{IsTried, AreTried};
 
-use change_fits::fits_with;
+use change_fits::fits;
 use change_passes::passes_before;
-use edge_uses::{Rows, rows};
 use iges_base::{ItemList, NoMemory};
 use remedy_search::search;
 use shell_change::{Geometry, Known, Remedy};
@@ -21,57 +19,27 @@ fn is_of(remedy: &Remedy, shell: ShellAt) -> bool
     remedy.change.shell.0 == shell.0
 }
 
-// A shell, its rows, and the number that the vertices of the shells before it lie below.
-#[derive(Clone, Copy)]
-struct JudgedShell<'a> {
-    at: ShellAt,
-    rows: &'a Rows,
-    below: usize,
-}
-
 fn is_tried(
     alloc: Global,
     solid: &Solid,
     geometry: &Geometry,
-    shell: JudgedShell<'_>,
+    shell: ShellAt,
+    below: usize,
     remedy: &Remedy,
 ) -> Result<bool, NoMemory>
-    requires below { AreBelow solid.now shell.at.0 shell.below }
-    requires rows { shell.rows.now ≡ rows_of solid.now (slice_get solid.now.shells shell.at.0) }
+    requires { AreBelow solid.now shell.0 below }
     ensures { IfOk result (λ tried. IsTrue tried
-        → IsTried solid.now geometry.now shell.at remedy.now) }
+        → IsTried solid.now geometry.now shell remedy.now) }
 {
-    if !is_of(remedy, shell.at) {
+    if !is_of(remedy, shell) {
         return Ok(false);
     }
-    let fit = fits_with(alloc, solid, geometry, &remedy.change, shell.rows)?;
+    let fit = fits(alloc, solid, geometry, &remedy.change)?;
     if !fit {
         return Ok(false);
     }
-    let pass = passes_before(alloc, solid, &remedy.change, shell.below)?;
+    let pass = passes_before(alloc, solid, &remedy.change, below)?;
     Ok(pass)
-}
-
-// Those of some remedies of a shell that fit and pass.
-fn judged(
-    alloc: Global,
-    solid: &Solid,
-    geometry: &Geometry,
-    shell: JudgedShell<'_>,
-    found: Vec<Remedy>,
-) -> Result<ItemList<Remedy>, NoMemory>
-    requires below { AreBelow solid.now shell.at.0 shell.below }
-    requires rows { shell.rows.now ≡ rows_of solid.now (slice_get solid.now.shells shell.at.0) }
-    ensures { IfOk result (λ remedies. AreTried solid.now geometry.now shell.at remedies) }
-{
-    let mut tried = ItemList::new(alloc);
-    'found: for remedy in found {
-        let good = is_tried(alloc, solid, geometry, shell, &remedy)?;
-        if good {
-            tried.push(remedy)?;
-        }
-    }
-    Ok(tried)
 }
 
 /// The same as `tried_remedies`, where the number is given that the vertices of the shells before this one lie below: whoever
@@ -86,17 +54,15 @@ pub fn tried_before(
     requires { AreBelow solid.now shell.0 below }
     ensures { IfOk result (λ remedies. AreTried solid.now known.now.geometry shell remedies) }
 {
-    if shell.0 as usize >= solid.shell_count() {
-        return Ok(ItemList::new(alloc));
-    }
     let found = search(alloc, solid, known, shell, below)?;
-    let rows = rows(alloc, solid, shell)?;
-    let own = JudgedShell {
-        at: shell,
-        rows: &rows,
-        below,
-    };
-    judged(alloc, solid, &known.geometry, own, found)
+    let mut tried = ItemList::new(alloc);
+    'found: for remedy in found {
+        let good = is_tried(alloc, solid, &known.geometry, shell, below, &remedy)?;
+        if good {
+            tried.push(remedy)?;
+        }
+    }
+    Ok(tried)
 }
 
 /// The remedies of a shell that fit and pass, the cheapest first, at most six. What the search proposes and a judge refuses is
