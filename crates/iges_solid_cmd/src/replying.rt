@@ -1,6 +1,6 @@
 //! The reply of each command for a file.
 
-ghost use Rattle.iges_solid_cmd.specs.Due.{OfCertificate, OfContents, OfEntity, OfWhole};
+ghost use Rattle.iges_solid_cmd.specs.Due.{OfCertificate, OfContents, OfEntity, OfShow, OfSolids, OfWhole};
 ghost use Rattle.iges_solid_cmd.specs.Forms.{takes_certificate};
 ghost use Rattle.command_replies.specs.Outcome.{ReadsCertificate};
 ghost use Rattle.command_replies.specs.Replies.{CountAfterCall, IsReply, TakesWithin};
@@ -22,12 +22,30 @@ use open_commands::{certify_shell, verify_shell};
 use orient_commands::{orient_solid, verify_orientation};
 use std::alloc::Global;
 
+// The numbers of a file's solids; the file isn't needed any more.
+fn listed(alloc: Global, file: File) -> Result<Reply, NoMemory>
+    ensures { IfOk result (λ reply. OfSolids file reply.answer reply.text) }
+{
+    let reply = list_solids(alloc, &file);
+    file.memory().release(file);
+    reply
+}
+
+// What a solid of a file is made of; the file isn't needed any more.
+fn shown(alloc: Global, file: File, no: u32) -> Result<Reply, NoMemory>
+    ensures { IfOk result (λ reply. OfShow no file reply.answer reply.text) }
+{
+    let reply = show_solid(alloc, &file, no);
+    file.memory().release(file);
+    reply
+}
+
 // The reply to a command for all of a file.
 fn whole_reply(alloc: Global, command: WholeCommand, file: File) -> Result<Reply, NoMemory>
     ensures { IfOk result (λ reply. OfWhole command file reply.answer reply.text) }
 {
     match command {
-        WholeCommand::Solids => list_solids(alloc, file),
+        WholeCommand::Solids => listed(alloc, file),
         WholeCommand::CertifyAll => certify_solids(alloc, file),
     }
 }
@@ -42,7 +60,7 @@ fn entity_reply(
     ensures { IfOk result (λ reply. OfEntity command no file reply.answer reply.text) }
 {
     match command {
-        EntityCommand::Show => show_solid(alloc, file, no),
+        EntityCommand::Show => shown(alloc, file, no),
         EntityCommand::Certify => certify_solid(alloc, file, no),
         EntityCommand::Extract => extract_solid(alloc, file, no),
         EntityCommand::Open => certify_shell(alloc, file, no),

@@ -78,21 +78,16 @@ fn shell_list(alloc: Global, solid: &Solid) -> Result<Bytes, NoMemory>
 }
 
 /// What the shells of a solid are made of, or the first rule on its records that fails.
-pub fn show_solid(alloc: Global, file: File, no: u32) -> Result<Reply, NoMemory>
-    ensures { IfOk result (λ reply. OfShow no file reply.answer reply.text) }
+pub fn show_solid(alloc: Global, file: &File, no: u32) -> Result<Reply, NoMemory>
+    ensures { IfOk result (λ reply. OfShow no file.now reply.answer reply.text) }
 {
-    let memory = file.memory();
-    let walked = walk(alloc, &file, EntryNo(no));
-    memory.release(file);
-    let solid = match walked {
+    let solid = match walk(alloc, file, EntryNo(no)) {
         Ok(solid) => solid,
         Err(WalkFault::Fails(failing)) => return failed(alloc, failing),
         Err(WalkFault::NoMemory) => return Err(NoMemory),
     };
-    let text = shell_list(alloc, &solid);
-    memory.release(solid);
     Ok(Reply {
         answer: Answer::Done,
-        text: text?,
+        text: shell_list(alloc, &solid)?,
     })
 }

@@ -39,12 +39,11 @@ pub fn orient_walked(alloc: Global, solid: &Solid) -> Result<Reply, NoMemory>
 pub fn orient_solid(alloc: Global, file: File, no: u32) -> Result<Reply, NoMemory>
     ensures { IfOk result (λ reply. OfOrient no file reply.answer reply.text) }
 {
-    let walked = walk(alloc, &file, EntryNo(no));
-    file.memory().release(file);
-    let solid = match walked {
+    let solid = match walk(alloc, &file, EntryNo(no)) {
         Ok(solid) => solid,
         Err(WalkFault::Fails(failing)) => return failed(alloc, failing),
         Err(WalkFault::NoMemory) => return Err(NoMemory),
     };
+    file.memory().release(file);
     orient_walked(alloc, &solid)
 }

@@ -41,13 +41,12 @@ fn solid_reply(alloc: Global, file: File, no: EntryNo, text: &[u8]) -> Result<Re
     ensures { IfOk result (λ reply. OfOrientLines no.0
         (cut_lines text.now) file reply.answer reply.text) }
 {
-    let walked = walk(alloc, &file, no);
-    file.memory().release(file);
-    let solid = match walked {
+    let solid = match walk(alloc, &file, no) {
         Ok(solid) => solid,
         Err(WalkFault::Fails(failing)) => return failed(alloc, failing),
         Err(WalkFault::NoMemory) => return Err(NoMemory),
     };
+    file.memory().release(file);
     match count_shells(alloc, &solid) {
         Ok(()) => lines_reply(alloc, &solid, no, text),
         Err(OrientFault::Fails(failing)) => shell_failed(alloc, failing),

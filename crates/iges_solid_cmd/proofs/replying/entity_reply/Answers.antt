@@ -1,7 +1,7 @@
 use Rattle.iges_solid_cmd.proofs.replying.entity_reply.Goals as goal
 
 pub returns-in-Show : goal.returns-in-Show
-returns-in-Show c = rw c.in-Show.is c.show_solid.ensures
+returns-in-Show c = rw c.in-Show.is c.shown.ensures
 
 pub returns-in-Certify : goal.returns-in-Certify
 returns-in-Certify c = rw c.in-Certify.is c.certify_solid.ensures
