@@ -5,8 +5,8 @@ typedef struct {
 } Row;
 
 #define VERSION "1.0"
-#define SOURCES "7a1399812e9a335016610fc7da2a0d037294774cb49287b985a0afafcb6732a1"
-#define KIT "rattle-kit-13b logic dac8208d650f15bf"
+#define SOURCES "76740dec11bd97b64c21d12a5fb03ac8aeebf91ed67a61da8bee427776a35669"
+#define KIT "rattle-kit-13f logic dac8208d650f15bf"
 static const Row rows[] = {
     {"program", "igesolid", "all", "judges the solids of a file, and writes and checks certificates"},
     {"program", "igesolid-where", "rest", "reports where a solid fails"},

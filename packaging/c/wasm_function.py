@@ -127,7 +127,10 @@ class Function:
         own, size = found.groups()
         others = {f"SP = {own};", f"SP = {own} + {size}ull;"}
         demand(set(lines[1:]) <= others, f"{self.name}: the stack in another way: {set(lines[1:]) - others}")
-        demand(sum(line.startswith(f"{own} = ") for line in self.lines) == 1, f"{self.name}: the place of the stack changes")
+        last = max(at for at, line in enumerate(self.lines) if re.search(r"\bSP\b", line))
+        changes = [at for at, line in enumerate(self.lines) if line.startswith(f"{own} = ")]
+        # Behind the last line on the stack the local may serve for something else.
+        demand(all(at > last for at in changes[1:]), f"{self.name}: the place of the stack changes")
         return int(size)
 
     # The values that wait.
