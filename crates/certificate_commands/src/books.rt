@@ -159,7 +159,7 @@ fn part_outcome<C: Source>(
             Ok(()) => Ok(PartJudged::Last),
             Err(bad) => Ok(PartJudged::Decided(illegal(alloc, bad)?)),
         },
-        PartEnd::TooLarge => Ok(PartJudged::Decided(too_large(alloc))),
+        PartEnd::TooLarge => Ok(PartJudged::Decided(too_large())),
     }
 }
 
@@ -210,7 +210,7 @@ fn judge_part<C: Source>(
     let solid = match part_solid(alloc, walker, begun.no)? {
         Ok(solid) => solid,
         Err(reply) => {
-            let reply = decided_reply(alloc, cert, piece, begun.came, reply)?;
+            let reply = decided_reply(cert, piece, begun.came, reply)?;
             return Ok(PartJudged::Decided(reply));
         }
     };

@@ -12,7 +12,6 @@ ghost use Rattle.std.specs.Prelude.{◌≡◌, ◌-◌, ◌≤◌, List, ℕ, Op
 use cert_text::CERT_LIMIT;
 use command_replies::{Reply, Stop, too_large};
 use iges_io::{NextPiece, PIECE, Source, next_piece};
-use std::alloc::Global;
 
 // Reads the rest of a certificate, of which so many bytes have come: whether the certificate is no larger than it may be.
 fn read_rest<C: Source>(cert: &mut C, piece: &mut [u8], came: u64) -> Result<bool, Stop>
@@ -41,7 +40,6 @@ fn read_rest<C: Source>(cert: &mut C, piece: &mut [u8], came: u64) -> Result<boo
 /// The reply for a certificate of which so many bytes have come and decided this one, unless it is too large; the rest is
 /// read to its end.
 pub fn decided_reply<C: Source>(
-    alloc: Global,
     cert: &mut C,
     piece: &mut [u8],
     came: u64,
@@ -59,7 +57,7 @@ pub fn decided_reply<C: Source>(
         (C.faults cert.old) (C.faults cert.new) result }
 {
     if !read_rest(cert, piece, came)? {
-        return Ok(too_large(alloc));
+        return Ok(too_large());
     }
     Ok(reply)
 }

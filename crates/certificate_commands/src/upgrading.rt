@@ -36,7 +36,7 @@ fn upgraded_reply(alloc: Global, solid: &Solid, certificate: &[u8]) -> Result<Re
             answer: Answer::Done,
             text,
         }),
-        Err(UpgradeFault::TooLarge) => Ok(too_large(alloc)),
+        Err(UpgradeFault::TooLarge) => Ok(too_large()),
         Err(UpgradeFault::NoMemory) => Err(NoMemory),
     }
 }

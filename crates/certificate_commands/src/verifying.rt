@@ -46,7 +46,7 @@ fn lines_reply<C: Source>(
     // A fault is kept, and reported at the end: the certificate may still be too large.
     let _fault = checker.feed(&piece[opened.from..opened.to]);
     if !feed_rest(checker, cert, piece, opened.came)? {
-        return Ok(too_large(alloc));
+        return Ok(too_large());
     }
     Ok(end_reply(alloc, checker, opened.no)?)
 }
@@ -94,7 +94,7 @@ fn verify_alone<C: Source>(
 {
     let solid = match named_solid(alloc, file, opened.no)? {
         Ok(solid) => solid,
-        Err(reply) => return decided_reply(alloc, cert, piece, opened.came, reply),
+        Err(reply) => return decided_reply(cert, piece, opened.came, reply),
     };
     let reply = verify_lines(alloc, &solid, cert, piece, opened);
     drop(solid);
@@ -145,11 +145,11 @@ pub fn verify_certificate<C: Source>(alloc: Global, file: File, cert: &mut C) ->
     let mut room = buffer(alloc)?;
     let piece = room.as_mut_slice();
     match opening_in(cert, piece)? {
-        OpeningEnd::TooLarge => Ok(too_large(alloc)),
+        OpeningEnd::TooLarge => Ok(too_large()),
         OpeningEnd::Ended(bad) => Ok(illegal(alloc, bad)?),
         OpeningEnd::Bad(bad, came) => {
             let reply = illegal(alloc, bad)?;
-            decided_reply(alloc, cert, piece, came, reply)
+            decided_reply(cert, piece, came, reply)
         }
         OpeningEnd::Both(opened) => verify_opened(alloc, file, cert, piece, opened),
     }

@@ -40,12 +40,12 @@ impl From<NoMemory> for Stop {
 }
 
 /// The reply for more bytes than a limit.
-pub fn too_large(alloc: Global) -> Reply
+pub fn too_large() -> Reply
     ensures { (result.answer ≡ Answer.TooLarge) × (result.text ≡ []) }
 {
     Reply {
         answer: Answer::TooLarge,
-        text: Bytes::from_vec(Vec::new(alloc)),
+        text: Bytes::empty(),
     }
 }
 

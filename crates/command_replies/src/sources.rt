@@ -46,7 +46,7 @@ pub fn bytes_in<S: Source>(
 {
     match read_all(alloc, source, limit) {
         Ok(bytes) => Ok(Ok(bytes)),
-        Err(ReadAll::TooLarge) => Ok(Err(too_large(alloc))),
+        Err(ReadAll::TooLarge) => Ok(Err(too_large())),
         Err(ReadAll::ReadFault) => Err(Stop::ReadFault),
         Err(ReadAll::NoMemory) => Err(Stop::OutOfMemory),
     }
@@ -75,7 +75,7 @@ fn lines_in<S: Source>(alloc: Global, source: &mut S) -> Result<Result<LineFeed,
         let count = match next {
             NextPiece::Bytes(count) => count,
             NextPiece::End => return Ok(Ok(feed)),
-            NextPiece::TooLarge => return Ok(Err(too_large(alloc))),
+            NextPiece::TooLarge => return Ok(Err(too_large())),
         };
         feed.feed(&piece[..count])?;
         came += count as u64;

@@ -18,7 +18,7 @@ pub fn written(alloc: Global, file: File) -> Result<Reply, NoMemory>
             answer: Answer::Done,
             text,
         }),
-        Err(WriteFileFault::TooLarge) => Ok(too_large(alloc)),
+        Err(WriteFileFault::TooLarge) => Ok(too_large()),
         Err(WriteFileFault::NoMemory) => Err(NoMemory),
     }
 }

@@ -1,4 +1,5 @@
 pub mod Lists
+mod Places
 pub mod InLines
 pub mod Ended
 pub mod Tests

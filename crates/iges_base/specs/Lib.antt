@@ -1,5 +1,6 @@
 pub mod Ended
 pub mod First
+pub mod Held
 pub mod InLine
 pub mod FrontDigits
 pub mod Word

@@ -59,7 +59,7 @@ pub fn certify_solids(alloc: Global, file: File) -> Result<Reply, NoMemory>
         Ok(parts) => parts,
         Err(BookFault::NoSolid) => return no_solid(alloc),
         Err(BookFault::Fails { solid, failing }) => return solid_failed(alloc, solid, failing),
-        Err(BookFault::TooMany { .. }) => return Ok(too_large(alloc)),
+        Err(BookFault::TooMany { .. }) => return Ok(too_large()),
         Err(BookFault::NoMemory) => return Err(NoMemory),
     };
     // Where memory is given back, the text needs the room that the file takes.

@@ -8,12 +8,12 @@ ghost use Rattle.iges_write.specs.Filling.{fill};
 ghost use Rattle.iges_write.specs.Text.{count_field};
 ghost use Rattle.iges_write.specs.Parts.{parts, single_parts, value_parts, word_parts};
 ghost use Rattle.iges_write.specs.Sheet.{Steps, add, append_text, begin, end_line, make_room, next_delimiter, put_lines, put_part, put_parts, record_tail, with_tail};
-ghost use Rattle.std.specs.Prelude.{◌≡◌, ◌+◌, ◌<◌, ◌≤◌, ◌^◌, [], ◌∷◌, ◌++◌, length, map, IsTrue, OnOk, decimal};
+ghost use Rattle.std.specs.Prelude.{◌≡◌, ◌+◌, ◌<◌, ◌≤◌, ◌^◌, [], ◌∷◌, ◌++◌, length, map, IfOk, IsTrue, OnOk, decimal};
 
 use crate::column::{count_field, next_field};
 use crate::fault::WriteFileFault;
 use crate::line_text::LineText;
-use iges_base::Bytes;
+use iges_base::{Bytes, NoMemory};
 use iges_fields::{Delimiters, Value};
 use itoa::{Buffer, write_digits};
 use std::alloc::Global;
@@ -471,12 +471,12 @@ impl Page {
         Ok(())
     }
 
-    /// The finished lines. It takes no memory.
-    pub fn into_bytes(self) -> Bytes
-        ensures is { result ≡ self.text }
+    /// The finished lines. It errs only where memory runs out.
+    pub fn into_bytes(self, alloc: Global) -> Result<Bytes, NoMemory>
+        ensures is { IfOk result (λ bytes. bytes ≡ self.text) }
         ensures within { length self.text ≤ self.limit }
     {
-        Bytes::from_vec(self.text)
+        Bytes::from_vec(alloc, self.text)
     }
 }
 

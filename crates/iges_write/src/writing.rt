@@ -106,12 +106,12 @@ fn put_end(front: &mut Page, params: &Page, counts: &Counts) -> Result<(), Write
 }
 
 // The whole text.
-fn joined(mut pages: Pages) -> Result<Bytes, WriteFileFault>
+fn joined(alloc: Global, mut pages: Pages) -> Result<Bytes, WriteFileFault>
     ensures { (limit : ℕ) (f : Contents) → ArePages limit f pages.front pages.params pages.counts
         → Writes limit result (text_of f) }
 {
     put_end(&mut pages.front, &pages.params, &pages.counts)?;
-    Ok(pages.front.into_bytes())
+    Ok(pages.front.into_bytes(alloc)?)
 }
 
 // The canonical text, where it has at most `limit` bytes.
@@ -121,7 +121,7 @@ fn write(alloc: Global, file: &File, limit: u64) -> Result<Bytes, WriteFileFault
     ensures writable { OnOk result (IsWritable file.now) }
 {
     let pages = pages_of(alloc, file, limit)?;
-    joined(pages)
+    joined(alloc, pages)
 }
 
 // The same of a file that isn't needed any more. Its memory serves for the whole text.
@@ -132,7 +132,7 @@ fn write_taken(alloc: Global, file: File, limit: u64) -> Result<Bytes, WriteFile
 {
     let pages = pages_of(alloc, &file, limit);
     drop(file);
-    joined(pages?)
+    joined(alloc, pages?)
 }
 
 /// The canonical text of a file (its sections and lines are those of IGES 5.3, 2.2.4), which reads as this file. It

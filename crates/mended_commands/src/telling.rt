@@ -54,7 +54,7 @@ fn told(alloc: Global, file: &File, text: Bytes) -> Result<Reply, NoMemory>
             answer: Answer::Done,
             text,
         }),
-        Err(WriteFileFault::TooLarge) => Ok(too_large(alloc)),
+        Err(WriteFileFault::TooLarge) => Ok(too_large()),
         Err(WriteFileFault::NoMemory) => Err(NoMemory),
     }
 }

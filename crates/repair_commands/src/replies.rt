@@ -35,7 +35,7 @@ fn laid(alloc: Global, bytes: &[u8]) -> Result<Result<Bytes, Reply>, NoMemory>
     match relaid(alloc, bytes) {
         Ok(text) => {
             if text.as_slice().len() as u64 > FILE_LIMIT {
-                return Ok(Err(too_large(alloc)));
+                return Ok(Err(too_large()));
             }
             Ok(Ok(text))
         }

@@ -11,12 +11,12 @@ use std::alloc::Global;
 use where_text::{EntryNumbers, put_face, put_vertex};
 
 // Rows without words up to a length.
-fn make_room(alloc: Global, words: &mut Vec<Bytes>, count: usize) -> Result<(), NoMemory>
+fn make_room(words: &mut Vec<Bytes>, count: usize) -> Result<(), NoMemory>
     ensures words { IfOk result (λ _. (told : ℕ → List ℕ) → AreWords told words.old.items → AreWords told words.new.items) }
     ensures room { OnOk result (count ≤ length words.new.items) }
 {
     'rows: while words.len() < count {
-        words.push(Bytes::from_vec(Vec::new(alloc)))?;
+        words.push(Bytes::empty())?;
     }
     Ok(())
 }
@@ -26,7 +26,7 @@ fn keep(alloc: Global, words: &mut Vec<Bytes>, n: u32, text: Bytes) -> Result<()
     ensures { IfOk result (λ _. (told : ℕ → List ℕ) → text ≡ told n → AreWords told words.old.items
         → AreWords told words.new.items) }
 {
-    make_room(alloc, words, n as usize + 1)?;
+    make_room(words, n as usize + 1)?;
     words[n as usize] = text;
     Ok(())
 }
