@@ -25,5 +25,5 @@ pub use numbers::{names_entry, push_names};
 pub use own::Own;
 pub use place::number_of;
 pub use record::{Record, record_of};
-pub use reference_numbers::{Shape, refs, shape_of};
+pub use reference_numbers::{RefScratch, Shape, put_refs, refs, shape_of, shape_with};
 pub use referring::references;

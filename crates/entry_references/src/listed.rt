@@ -10,7 +10,7 @@ use crate::own::Own;
 use crate::own_kinds::own_of_kind;
 use crate::own_table::own_in;
 use brep_lists::EntityKind;
-use iges_base::NoMemory;
+use iges_base::{ItemList, NoMemory};
 use iges_directory::Entry;
 use iges_fields::Values;
 use std::alloc::Global;
@@ -37,13 +37,19 @@ pub fn type_of(entry: &Entry) -> Option<ListedType>
     }
 }
 
-/// The own values of a record of a type; None where the record doesn't fit it.
-pub fn own_of(alloc: Global, listed: ListedType, values: &Values) -> Result<Option<Own>, NoMemory>
-    requires { length values.now ≤ FILE_LIMIT }
+/// The own values of a record of a type; None where the record doesn't fit it. The places are put into the empty list.
+pub fn own_of(
+    alloc: Global,
+    spare: ItemList<usize>,
+    listed: ListedType,
+    values: &Values,
+) -> Result<Option<Own>, NoMemory>
+    requires few { length values.now ≤ FILE_LIMIT }
+    requires empty { spare ≡ [] }
     ensures { IfOk result (λ own. own ≡ own_by_type listed values.now) }
 {
     match listed {
-        ListedType::Solid(kind) => own_of_kind(alloc, kind, values),
-        ListedType::Other(layout) => own_in(alloc, layout, values),
+        ListedType::Solid(kind) => own_of_kind(alloc, spare, kind, values),
+        ListedType::Other(layout) => own_in(alloc, spare, layout, values),
     }
 }

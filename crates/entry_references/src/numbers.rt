@@ -8,7 +8,7 @@ ghost use Rattle.iges_params.specs.Limits.{FitsLimits};
 ghost use Rattle.iges_params.specs.Named.{named};
 ghost use Rattle.std.specs.List.{list_all};
 ghost use Rattle.std.specs.Option.{option_to_list};
-ghost use Rattle.std.specs.Prelude.{◌≡◌, ◌+◌, ◌++◌, ◌<◌, ◌^◌, [], None, IfOk, MatchOption, OnErr, OnOk, drop, filter, filter_map, length, pos, take};
+ghost use Rattle.std.specs.Prelude.{◌≡◌, ◌+◌, ◌++◌, ◌<◌, ◌^◌, [], None, MatchOption, OnErr, OnOk, drop, filter, filter_map, length, pos, take};
 
 use crate::group::Group;
 use crate::own::Own;
@@ -17,7 +17,6 @@ use iges_base::{ItemList, NoMemory};
 use iges_directory::Entry;
 use iges_fields::Values;
 use iges_params::File;
-use std::alloc::Global;
 
 /// Whether an entry has the number.
 pub fn names_entry(file: &File, number: i64) -> bool
@@ -64,16 +63,16 @@ fn push_some(numbers: &mut ItemList<i64>, number: Option<i64>) -> Result<(), NoM
     }
 }
 
-// The pointers among the own values.
-fn own_pointers(alloc: Global, own: &Own, values: &Values) -> Result<ItemList<i64>, NoMemory>
-    ensures { IfOk result (λ numbers. numbers
+// Puts the pointers among the own values in place of what is there.
+fn put_pointers(numbers: &mut ItemList<i64>, own: &Own, values: &Values) -> Result<(), NoMemory>
+    ensures { OnOk result (numbers.new
         ≡ filter_map (λ k. number_of (value_at values.now k)) own.now.pointers) }
 {
-    let mut numbers = ItemList::new(alloc);
+    numbers.truncate(0);
     'places: for place in own.pointers.as_slice() {
-        push_some(&mut numbers, number_in(values, *place))?;
+        push_some(numbers, number_in(values, *place))?;
     }
-    Ok(numbers)
+    Ok(())
 }
 
 // The transformation matrix of an entry, where there is one.
@@ -97,22 +96,22 @@ fn colour_of(entry: &Entry) -> Option<i64>
     Some(-entry.colour)
 }
 
-/// The numbers of an entry that are followed: the pointers among its own values, its matrix and its colour.
-pub fn followed(
-    alloc: Global,
+/// Puts the numbers of an entry that are followed in place of what is there: the pointers among its own values, its matrix and
+/// its colour.
+pub fn put_followed(
+    numbers: &mut ItemList<i64>,
     entry: &Entry,
     own: &Own,
     values: &Values,
-) -> Result<ItemList<i64>, NoMemory>
+) -> Result<(), NoMemory>
     requires { IsBounded entry.now }
-    ensures { IfOk result (λ numbers. numbers
+    ensures { OnOk result (numbers.new
         ≡ filter_map (λ k. number_of (value_at values.now k)) own.now.pointers
         ++ matrix_of entry.now ++ colour_of entry.now) }
 {
-    let mut numbers = own_pointers(alloc, own, values)?;
-    push_some(&mut numbers, matrix_of(entry))?;
-    push_some(&mut numbers, colour_of(entry))?;
-    Ok(numbers)
+    put_pointers(numbers, own, values)?;
+    push_some(numbers, matrix_of(entry))?;
+    push_some(numbers, colour_of(entry))
 }
 
 // The number, where it names a name.

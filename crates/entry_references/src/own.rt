@@ -31,15 +31,25 @@ impl Model for Own {
 }
 
 impl Own {
-    /// So many own values without a pointer.
-    pub fn plain(alloc: Global, count: usize) -> Own
+    /// So many own values without a pointer; the empty list keeps its room.
+    pub fn plain(alloc: Global, count: usize, spare: ItemList<usize>) -> Own
+        requires { spare ≡ [] }
         ensures { result ≡ record { count = count; pointers = []; cut = [] } }
     {
         Own {
             count,
-            pointers: ItemList::new(alloc),
+            pointers: spare,
             cut: ItemList::new(alloc),
         }
+    }
+
+    /// The room of the places that were followed, in an empty list.
+    pub fn into_spare(self) -> ItemList<usize>
+        ensures { result ≡ [] }
+    {
+        let mut spare = self.pointers;
+        spare.truncate(0);
+        spare
     }
 
     /// So many own values with pointers in these places.
@@ -74,23 +84,29 @@ impl Own {
     }
 }
 
-/// A list of these places, from 1.
-pub fn places(alloc: Global, listed: &[usize]) -> Result<ItemList<usize>, NoMemory>
+/// These places, from 1, in an empty list, whose room serves for them.
+pub fn places(spare: ItemList<usize>, listed: &[usize]) -> Result<ItemList<usize>, NoMemory>
+    requires { spare ≡ [] }
     ensures { IfOk result (λ list. list ≡ listed.now) }
 {
-    let mut list = ItemList::new(alloc);
+    let mut list = spare;
     'listed: for place in listed {
         list.push(*place)?;
     }
     Ok(list)
 }
 
-/// So many places from the first on, one after the other.
-pub fn places_from(alloc: Global, first: usize, count: usize) -> Result<ItemList<usize>, NoMemory>
-    requires { first + count < 2 ^ 64 }
+/// So many places from the first on, one after the other, in an empty list.
+pub fn places_from(
+    spare: ItemList<usize>,
+    first: usize,
+    count: usize,
+) -> Result<ItemList<usize>, NoMemory>
+    requires few { first + count < 2 ^ 64 }
+    requires empty { spare ≡ [] }
     ensures { IfOk result (λ list. list ≡ range_with_len first count) }
 {
-    let mut list = ItemList::with_room(alloc, count)?;
+    let mut list = spare;
     'count: for i in 0..count {
         list.push(first + i)?;
     }

@@ -5,7 +5,7 @@ ghost use Rattle.entry_references.specs.PointForms.{form_number};
 ghost use Rattle.entry_references.specs.Rows.{layout_of_row};
 ghost use Rattle.entry_references.specs.declared.layout.Layout.TheVariants.{CompositeCurve, CopiousData, SplineCurve, Point, RationalCurve, RationalSurface};
 ghost use Rattle.iges_base.specs.declared.TheConstants.{FILE_LIMIT};
-ghost use Rattle.std.specs.Prelude.{◌≡◌, ◌+◌, ◌*◌, ◌≤◌, ◌==◌, IfOk, length, if◌then◌else◌};
+ghost use Rattle.std.specs.Prelude.{◌≡◌, ◌+◌, ◌*◌, ◌≤◌, ◌==◌, [], IfOk, length, if◌then◌else◌};
 
 use crate::layout::Layout;
 use crate::own::{Own, places, places_from};
@@ -17,25 +17,32 @@ use std::alloc::Global;
 // A row with so many values (IGES 5.3, chapter 4; the section of each type is in the table).
 fn with_fixed(
     alloc: Global,
+    spare: ItemList<usize>,
     values: &Values,
     count: usize,
     pointers: &[usize],
 ) -> Result<Option<Own>, NoMemory>
+    requires { spare ≡ [] }
     ensures { IfOk result (λ own. own ≡ own_in (fixed count pointers.now) values.now) }
 {
-    let own = Own::with_pointers(alloc, count, places(alloc, pointers)?);
+    let own = Own::with_pointers(alloc, count, places(spare, pointers)?);
     Ok(own.checked(values))
 }
 
 // Composite curve (type 102; IGES 5.3, 4.4): N, and N curves.
-fn of_composite_curve(alloc: Global, values: &Values) -> Result<Option<Own>, NoMemory>
-    requires { length values.now ≤ FILE_LIMIT }
+fn of_composite_curve(
+    alloc: Global,
+    spare: ItemList<usize>,
+    values: &Values,
+) -> Result<Option<Own>, NoMemory>
+    requires few { length values.now ≤ FILE_LIMIT }
+    requires empty { spare ≡ [] }
     ensures { IfOk result (λ own. own ≡ own_in (layout_of_row CompositeCurve) values.now) }
 {
     let Some(curves) = count_in(values, 1) else {
         return Ok(None);
     };
-    let own = Own::with_pointers(alloc, 1 + curves, places_from(alloc, 2, curves)?);
+    let own = Own::with_pointers(alloc, 1 + curves, places_from(spare, 2, curves)?);
     Ok(own.checked(values))
 }
 
@@ -54,33 +61,36 @@ fn point_values(form: PointForm, points: usize) -> usize
 }
 
 // Copious data (type 106; IGES 5.3, 4.6): IP, N, and N points by IP.
-fn of_copious_data(alloc: Global, values: &Values) -> Option<Own>
-    requires { length values.now ≤ FILE_LIMIT }
+fn of_copious_data(alloc: Global, spare: ItemList<usize>, values: &Values) -> Option<Own>
+    requires few { length values.now ≤ FILE_LIMIT }
+    requires empty { spare ≡ [] }
     ensures { result ≡ own_in (layout_of_row CopiousData) values.now }
 {
     let form = form_in(values, 1)?;
     let points = count_in(values, 2)?;
-    Some(Own::plain(alloc, 2 + point_values(form, points)))
+    Some(Own::plain(alloc, 2 + point_values(form, points), spare))
 }
 
 // Parametric spline curve (type 112; IGES 5.3, 4.14): 4 values, the last of which is N; N + 1 break points; 12
 // coefficients for each of N segments; 12 values at the end.
-fn of_spline_curve(alloc: Global, values: &Values) -> Option<Own>
-    requires { length values.now ≤ FILE_LIMIT }
+fn of_spline_curve(alloc: Global, spare: ItemList<usize>, values: &Values) -> Option<Own>
+    requires few { length values.now ≤ FILE_LIMIT }
+    requires empty { spare ≡ [] }
     ensures { result ≡ own_in (layout_of_row SplineCurve) values.now }
 {
     let segments = count_in(values, 4)?;
-    Some(Own::plain(alloc, 4 + (segments + 1) + 12 * segments + 12))
+    Some(Own::plain(alloc, 4 + (segments + 1) + 12 * segments + 12, spare))
 }
 
 // Point (type 116; IGES 5.3, 4.16): 3 coordinates, and a display symbol, which is cut.
-fn of_point(alloc: Global, values: &Values) -> Result<Option<Own>, NoMemory>
+fn of_point(alloc: Global, spare: ItemList<usize>, values: &Values) -> Result<Option<Own>, NoMemory>
+    requires { spare ≡ [] }
     ensures { IfOk result (λ own. own ≡ own_in (layout_of_row Point) values.now) }
 {
-    let cut = places(alloc, &[4])?;
+    let cut = places(ItemList::new(alloc), &[4])?;
     let own = Own {
         count: 4,
-        pointers: ItemList::new(alloc),
+        pointers: spare,
         cut,
     };
     Ok(own.checked(values))
@@ -88,13 +98,14 @@ fn of_point(alloc: Global, values: &Values) -> Result<Option<Own>, NoMemory>
 
 // Rational B-spline curve (type 126; IGES 5.3, 4.23): K, M and 4 properties; K + M + 2 knots; K + 1 weights, and as
 // many points of 3 values; the range of 2 values, and the normal of 3.
-fn of_rational_curve(alloc: Global, values: &Values) -> Option<Own>
-    requires { length values.now ≤ FILE_LIMIT }
+fn of_rational_curve(alloc: Global, spare: ItemList<usize>, values: &Values) -> Option<Own>
+    requires few { length values.now ≤ FILE_LIMIT }
+    requires empty { spare ≡ [] }
     ensures { result ≡ own_in (layout_of_row RationalCurve) values.now }
 {
     let upper = count_in(values, 1)?;
     let degree = count_in(values, 2)?;
-    Some(Own::plain(alloc, 6 + (upper + degree + 2) + 4 * (upper + 1) + 5))
+    Some(Own::plain(alloc, 6 + (upper + degree + 2) + 4 * (upper + 1) + 5, spare))
 }
 
 // How many own values a rational B-spline surface (type 128) has, by its upper indices and its degrees.
@@ -112,8 +123,9 @@ fn surface_values(uppers: (usize, usize), degrees: (usize, usize)) -> usize
 
 // Rational B-spline surface (type 128; IGES 5.3, 4.24): K1, K2, M1, M2 and 5 properties; the knots of both directions;
 // (K1 + 1)(K2 + 1) weights, and as many points of 3 values; the ranges of 2 values each.
-fn of_rational_surface(alloc: Global, values: &Values) -> Option<Own>
-    requires { length values.now ≤ FILE_LIMIT }
+fn of_rational_surface(alloc: Global, spare: ItemList<usize>, values: &Values) -> Option<Own>
+    requires few { length values.now ≤ FILE_LIMIT }
+    requires empty { spare ≡ [] }
     ensures { result ≡ own_in (layout_of_row RationalSurface) values.now }
 {
     let first = count_in(values, 1)?;
@@ -123,22 +135,29 @@ fn of_rational_surface(alloc: Global, values: &Values) -> Option<Own>
     Some(Own::plain(
         alloc,
         surface_values((first, second), (first_degree, second_degree)),
+        spare,
     ))
 }
 
 /// The own values by a layout (IGES 5.3, chapter 4); None where the record doesn't fit it. Each count is at
-/// most the number of values, so that no product passes 64 bits.
-pub fn own_in(alloc: Global, layout: Layout, values: &Values) -> Result<Option<Own>, NoMemory>
-    requires { length values.now ≤ FILE_LIMIT }
+/// most the number of values, so that no product passes 64 bits. The places are put into the empty list.
+pub fn own_in(
+    alloc: Global,
+    spare: ItemList<usize>,
+    layout: Layout,
+    values: &Values,
+) -> Result<Option<Own>, NoMemory>
+    requires few { length values.now ≤ FILE_LIMIT }
+    requires empty { spare ≡ [] }
     ensures { IfOk result (λ own. own ≡ own_in (layout_of_row layout) values.now) }
 {
     match layout {
-        Layout::Fixed(count, pointers) => with_fixed(alloc, values, count, pointers),
-        Layout::CompositeCurve => of_composite_curve(alloc, values),
-        Layout::CopiousData => Ok(of_copious_data(alloc, values)),
-        Layout::SplineCurve => Ok(of_spline_curve(alloc, values)),
-        Layout::Point => of_point(alloc, values),
-        Layout::RationalCurve => Ok(of_rational_curve(alloc, values)),
-        Layout::RationalSurface => Ok(of_rational_surface(alloc, values)),
+        Layout::Fixed(count, pointers) => with_fixed(alloc, spare, values, count, pointers),
+        Layout::CompositeCurve => of_composite_curve(alloc, spare, values),
+        Layout::CopiousData => Ok(of_copious_data(alloc, spare, values)),
+        Layout::SplineCurve => Ok(of_spline_curve(alloc, spare, values)),
+        Layout::Point => of_point(alloc, spare, values),
+        Layout::RationalCurve => Ok(of_rational_curve(alloc, spare, values)),
+        Layout::RationalSurface => Ok(of_rational_surface(alloc, spare, values)),
     }
 }

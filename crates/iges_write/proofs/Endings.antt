@@ -9,7 +9,9 @@ use Rattle.std.proofs.lemmas.Int.Digits.{digits_value-lt}
 use Rattle.std.proofs.lemmas.List.{drop-append-le}
 use Rattle.iges_base.specs.Word.{spaces}
 use Rattle.iges_write.specs.Filled.{padded}
-use Rattle.iges_write.specs.Sheet.{Sheet, end_line, ended, whole_line}
+use Rattle.iges_write.specs.declared.fault.WriteFileFault.{WriteFileFault}
+use Rattle.iges_write.specs.declared.fault.WriteFileFault.TheVariants as fault
+use Rattle.iges_write.specs.Sheet.{Fails, Sheet, end_line, ended, whole_line}
 use Rattle.iges_write.specs.Text.{count_field, right}
 use Rattle.iges_write.proofs.Columns.{length-right, right-is}
 
@@ -107,6 +109,11 @@ module _ (s : Sheet) (line ending : List ℕ) (e : ending ≡ count_field s.lett
 
   pub too_large : s.limit - length s.text < length line → s.limit < length (end_line s).text
   too_large large = omega (arith, large, ap length ended_is, length-append s.text (ended s))
+
+  -- why the line isn't put behind the text
+  pub line_fails : (f : WriteFileFault) → (f ≡ fault.TooLarge → s.limit - length s.text < length line) → Fails f (end_line s)
+  line_fails fault.TooLarge large = too_large (large refl)
+  line_fails fault.NoMemory large = tt
 
   pub line_done : (text none : List ℕ) (number : ℕ) → text ≡ s.text ++ line → none ≡ [] → number ≡ s.number + 1 → record {
     text = text;

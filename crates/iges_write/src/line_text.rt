@@ -3,8 +3,9 @@
 ghost use Rattle.iges_base.specs.Word.{spaces};
 ghost use Rattle.iges_write.specs.Filled.{padded};
 ghost use Rattle.iges_write.specs.Sheet.{tail_bytes};
-ghost use Rattle.std.specs.Prelude.{◌≡◌, ◌+◌, ◌<◌, ◌≤◌, [], ◌∷◌, ◌++◌, length};
+ghost use Rattle.std.specs.Prelude.{◌≡◌, ◌+◌, ◌<◌, ◌≤◌, [], ◌∷◌, ◌++◌, OnErr, OnOk, length};
 
+use std::alloc::AllocError;
 use std::marker::Model;
 
 /// The bytes of a line as far as it is made, with its end at most. The room behind them holds spaces, so that a line is
@@ -108,8 +109,12 @@ impl LineText {
         ensures long { length self.new ≡ length self.old + length word.now }
     {
         let count = word.len();
-        if count < 2 || count > 16 {
+        if count < 2 || count > 32 {
             self.push(word);
+            return;
+        }
+        if count > 16 {
+            self.push_halves(word, 16);
             return;
         }
         if count >= 8 {
@@ -147,21 +152,29 @@ impl LineText {
         }
     }
 
-    /// The line at its end: with spaces up to its width, the tail, the section's letter and the number, and LF.
+    /// Ends the line: spaces up to its width, the tail, the section's letter and the number, and LF.
     #[inline(always)]
-    pub fn ended(&self, width: usize, tail: Option<[u8; 8]>, ending: [u8; 8]) -> LineText
-        requires held { length self.now ≤ width }
+    pub fn end(&mut self, width: usize, tail: Option<[u8; 8]>, ending: [u8; 8])
+        requires held { length self.old ≤ width }
         requires narrow { width ≤ 72 }
-        ensures { result ≡ ((padded width self.now ++ tail_bytes tail) ++ ending) ++ 10 ∷ [] }
+        ensures { self.new ≡ ((padded width self.old ++ tail_bytes tail) ++ ending) ++ 10 ∷ [] }
     {
-        let mut line = LineText {
-            bytes: self.bytes,
-            len: self.len,
-        };
-        line.pad(width);
-        line.push_tail(tail);
-        line.push(&ending);
-        line.push(b"\n");
-        line
+        self.pad(width);
+        self.push_tail(tail);
+        self.push(&ending);
+        self.push(b"\n");
+    }
+
+    /// Appends the bytes to a text. Where memory runs out, the text is as it was. Nearly each line that is ended has 81 bytes,
+    /// which are copied at a fixed length.
+    #[inline(always)]
+    pub fn put_into(&self, text: &mut Vec<u8>) -> Result<(), AllocError>
+        ensures ok { OnOk result (text.new.items ≡ text.old.items ++ self.now) }
+        ensures err { OnErr result (text.new.items ≡ text.old.items) }
+    {
+        if self.len == 81 {
+            return text.extend_from_slice(&self.bytes[..81]);
+        }
+        text.extend_from_slice(&self.bytes[..self.len])
     }
 }

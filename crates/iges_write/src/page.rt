@@ -8,7 +8,7 @@ ghost use Rattle.iges_write.specs.Filling.{fill};
 ghost use Rattle.iges_write.specs.Text.{count_field};
 ghost use Rattle.iges_write.specs.Parts.{parts, single_parts, value_parts, word_parts};
 ghost use Rattle.iges_write.specs.Sheet.{Steps, add, append_text, begin, end_line, make_room, next_delimiter, put_lines, put_part, put_parts, record_tail, with_tail};
-ghost use Rattle.std.specs.Prelude.{◌≡◌, ◌+◌, ◌<◌, ◌≤◌, ◌^◌, [], ◌∷◌, ◌++◌, length, map, IfOk, IsTrue, OnOk, decimal};
+ghost use Rattle.std.specs.Prelude.{◌≡◌, ◌+◌, ◌<◌, ◌≤◌, ◌^◌, [], ◌∷◌, ◌++◌, ◌-◌, length, map, IfErr, IfOk, IsTrue, OnErr, OnOk, decimal};
 
 use crate::column::{count_field, next_field};
 use crate::fault::WriteFileFault;
@@ -84,12 +84,10 @@ impl Page {
         ensures { Steps result self.new (end_line self.old) }
     {
         let next = next_field(self.ending, self.letter, self.number);
-        let whole = self.line.ended(self.width, self.tail, self.ending);
-        if whole.len() as u64 > self.limit - self.text.len() as u64 {
-            return Err(WriteFileFault::TooLarge);
-        }
-        self.text.extend_from_slice(whole.as_slice())?;
+        self.line.end(self.width, self.tail, self.ending);
+        let put = put_ended(&mut self.text, &self.line, self.limit);
         self.line.clear();
+        put?;
         self.ending = next;
         self.number += 1;
         Ok(())
@@ -158,6 +156,7 @@ impl Page {
     }
 
     // A word and the delimiter after it, which no line holds.
+    #[inline(never)]
     fn put_long_word(&mut self, word: &[u8], end: u8) -> Result<(), WriteFileFault>
         requires { self.old.width ≤ length word.now }
         ensures { Steps result self.new (put_parts self.old (word_parts self.old.width (word.now
@@ -170,6 +169,7 @@ impl Page {
     }
 
     // A word and the delimiter after it, which a line holds.
+    #[inline(always)]
     fn put_short_word(&mut self, word: &[u8], end: u8) -> Result<(), WriteFileFault>
         requires { length word.now < self.old.width }
         ensures { Steps result self.new (put_parts self.old (word_parts self.old.width (word.now
@@ -322,6 +322,19 @@ impl Page {
         }
     }
 
+    // A real and the delimiter after it: a word, without the call.
+    #[inline(always)]
+    fn put_real(&mut self, word: &[u8], end: u8) -> Result<(), WriteFileFault>
+        ensures { Steps result self.new (put_parts self.old (word_parts self.old.width (word.now
+            ++ end ∷ []))) }
+    {
+        if word.len() < self.width {
+            self.put_short_word(word, end)
+        } else {
+            self.put_long_word(word, end)
+        }
+    }
+
     // A value and the delimiter after it.
     #[inline(always)]
     fn put_value(&mut self, value: &Value, delimiter: u8) -> Result<(), WriteFileFault>
@@ -331,7 +344,7 @@ impl Page {
         match value {
             Value::Default => self.put_word(b"", delimiter),
             Value::Int(n) => self.put_integer(n, delimiter),
-            Value::Real(word) => self.put_word(word.as_slice(), delimiter),
+            Value::Real(word) => self.put_real(word.as_slice(), delimiter),
             Value::Text(text) => self.put_text(text.as_slice(), delimiter),
         }
     }
@@ -371,6 +384,21 @@ impl Page {
     {
         self.add(columns);
         self.end_line()
+    }
+
+    /// The same of a line in an array, which is ended there.
+    #[inline(always)]
+    pub fn put_whole(&mut self, line: &mut LineText) -> Result<(), WriteFileFault>
+        requires long { length line.old ≡ self.old.width }
+        requires empty { self.old.line ≡ [] }
+        ensures { Steps result self.new (put_lines self.old (line.old ∷ [])) }
+    {
+        let next = next_field(self.ending, self.letter, self.number);
+        line.end(self.width, self.tail, self.ending);
+        put_ended(&mut self.text, line, self.limit)?;
+        self.ending = next;
+        self.number += 1;
+        Ok(())
     }
 
     // The type number and the values of a record.
@@ -478,6 +506,21 @@ impl Page {
     {
         Bytes::from_vec(alloc, self.text)
     }
+}
+
+// Appends an ended line to the text, where this stays within the limit.
+#[inline(always)]
+fn put_ended(text: &mut Vec<u8>, line: &LineText, limit: u64) -> Result<(), WriteFileFault>
+    requires { length text.old.items ≤ limit }
+    ensures ok { OnOk result ((text.new.items ≡ text.old.items ++ line.now) × (length line.now ≤ limit - length text.old.items)) }
+    ensures err { OnErr result (text.new.items ≡ text.old.items) }
+    ensures large { IfErr result (λ fault. fault ≡ WriteFileFault.TooLarge → limit - length text.old.items < length line.now) }
+{
+    if line.len() as u64 > limit - text.len() as u64 {
+        return Err(WriteFileFault::TooLarge);
+    }
+    line.put_into(text)?;
+    Ok(())
 }
 
 // A digit as a byte.

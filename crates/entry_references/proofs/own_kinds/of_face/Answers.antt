@@ -8,13 +8,13 @@ returns-in_default c = no_record face c.args.values.now c.in_default.ensures.non
 
 pub push_groups-requires-clause-few : goal.push_groups-requires-clause-few
 push_groups-requires-clause-few c =
-    let few : length c.args.values.now ≤ 164000000 = c.requires in
+    let few : length c.args.values.now ≤ 164000000 = c.requires.few in
     let room = face_room c.args.values.now c.in-Some.record c.len-loops.result c.in-Some.ensures.some few c.len-loops.ensures in
     omega (arith, room)
 
 pub overflow_add-loops : goal.overflow_add-loops
 overflow_add-loops c =
-    let few : length c.args.values.now ≤ 164000000 = c.requires in
+    let few : length c.args.values.now ≤ 164000000 = c.requires.few in
     let room = face_room c.args.values.now c.in-Some.record c.len-loops.result c.in-Some.ensures.some few c.len-loops.ensures in
     omega (arith, room)
 

@@ -8,11 +8,11 @@ returns-in_default c = no_record «loop» c.args.values.now c.in_default.ensures
 
 pub push_tuples-requires : goal.push_tuples-requires
 push_tuples-requires c =
-    let few : length c.args.values.now ≤ 164000000 = c.requires in
+    let few : length c.args.values.now ≤ 164000000 = c.requires.few in
     omega (arith, loop_room c.args.values.now c.in-Some.record c.in-Some.ensures.some few)
 
 pub returns : goal.returns
 returns c =
     ap (λ o. Some o) c.with_pointers.ensures
-    ∙ loop_own c.args.values.now c.in-Some.record c.in_ok-end.end c.in_ok-pointers.pointers c.push_tuples.new.places c.in-Some.ensures.some c.in-Some.ensures.read
-    c.in_ok-end.ensures.end c.in_ok-pointers.ensures c.in_ok-end.ensures.places
+    ∙ loop_own c.args.values.now c.in-Some.record c.in_ok-end.end c.args.spare c.push_tuples.new.places c.in-Some.ensures.some c.in-Some.ensures.read
+    c.in_ok-end.ensures.end c.requires.empty c.in_ok-end.ensures.places

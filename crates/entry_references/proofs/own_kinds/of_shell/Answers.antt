@@ -8,23 +8,23 @@ returns-in_default c = no_record shell c.args.values.now c.in_default.ensures.no
 
 pub push_groups-requires-clause-few : goal.push_groups-requires-clause-few
 push_groups-requires-clause-few c =
-    let few : length c.args.values.now ≤ 164000000 = c.requires in
+    let few : length c.args.values.now ≤ 164000000 = c.requires.few in
     let room = shell_room c.args.values.now c.in-Some.record c.len-faces.result c.in-Some.ensures.some few c.len-faces.ensures in
     omega (arith, room)
 
 pub overflow_mul-faces : goal.overflow_mul-faces
 overflow_mul-faces c =
-    let few : length c.args.values.now ≤ 164000000 = c.requires in
+    let few : length c.args.values.now ≤ 164000000 = c.requires.few in
     let room = shell_room c.args.values.now c.in-Some.record c.len-faces.result c.in-Some.ensures.some few c.len-faces.ensures in
     omega (arith, room)
 
 pub overflow_add-faces : goal.overflow_add-faces
 overflow_add-faces c =
-    let few : length c.args.values.now ≤ 164000000 = c.requires in
+    let few : length c.args.values.now ≤ 164000000 = c.requires.few in
     let room = shell_room c.args.values.now c.in-Some.record c.len-faces.result c.in-Some.ensures.some few c.len-faces.ensures in
     omega (arith, room)
 
 pub returns : goal.returns
 returns c =
-    ap (λ o. Some o) c.with_pointers.ensures ∙ shell_own c.args.values.now c.in-Some.record c.len-faces.result c.in_ok-pointers.pointers c.push_groups.new.places
-    c.in-Some.ensures.some c.in-Some.ensures.read c.len-faces.ensures c.in_ok-pointers.ensures c.in_ok-push_groups.ensures
+    ap (λ o. Some o) c.with_pointers.ensures ∙ shell_own c.args.values.now c.in-Some.record c.len-faces.result c.args.spare c.push_groups.new.places
+    c.in-Some.ensures.some c.in-Some.ensures.read c.len-faces.ensures c.requires.empty c.in_ok-push_groups.ensures

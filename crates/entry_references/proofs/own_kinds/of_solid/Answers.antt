@@ -8,25 +8,25 @@ returns-in_default c = no_record solid c.args.values.now c.in_default.ensures.no
 
 pub overflow_sub-voids : goal.overflow_sub-voids
 overflow_sub-voids c =
-    let few : length c.args.values.now ≤ 164000000 = c.requires in
+    let few : length c.args.values.now ≤ 164000000 = c.requires.few in
     let room = solid_room c.args.values.now c.in-Some.record c.len-voids.result c.in-Some.ensures.some few c.len-voids.ensures in
     omega (arith, room.0, room.1)
 
 pub push_groups-requires-clause-few : goal.push_groups-requires-clause-few
 push_groups-requires-clause-few c =
-    let few : length c.args.values.now ≤ 164000000 = c.requires in
+    let few : length c.args.values.now ≤ 164000000 = c.requires.few in
     let room = solid_room c.args.values.now c.in-Some.record c.len-voids.result c.in-Some.ensures.some few c.len-voids.ensures in
     omega (arith, room.0, room.1)
 
 pub overflow_mul-voids : goal.overflow_mul-voids
 overflow_mul-voids c =
-    let few : length c.args.values.now ≤ 164000000 = c.requires in
+    let few : length c.args.values.now ≤ 164000000 = c.requires.few in
     let room = solid_room c.args.values.now c.in-Some.record c.len-voids.result c.in-Some.ensures.some few c.len-voids.ensures in
     omega (arith, room.0, room.1)
 
 pub overflow_add-voids : goal.overflow_add-voids
 overflow_add-voids c =
-    let few : length c.args.values.now ≤ 164000000 = c.requires in
+    let few : length c.args.values.now ≤ 164000000 = c.requires.few in
     let room = solid_room c.args.values.now c.in-Some.record c.len-voids.result c.in-Some.ensures.some few c.len-voids.ensures in
     omega (arith, room.0, room.1)
 

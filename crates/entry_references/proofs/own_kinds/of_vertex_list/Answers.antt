@@ -8,13 +8,13 @@ returns-in_default c = no_record vertices c.args.values.now c.in_default.ensures
 
 pub overflow_mul-len : goal.overflow_mul-len
 overflow_mul-len c =
-    let few : length c.args.values.now ≤ 164000000 = c.requires in
+    let few : length c.args.values.now ≤ 164000000 = c.requires.few in
     let room = vertices_room c.args.values.now c.in-Some.list c.len.result c.in-Some.ensures.some few c.len.ensures in
     omega (arith, room)
 
 pub overflow_add-len : goal.overflow_add-len
 overflow_add-len c =
-    let few : length c.args.values.now ≤ 164000000 = c.requires in
+    let few : length c.args.values.now ≤ 164000000 = c.requires.few in
     let room = vertices_room c.args.values.now c.in-Some.list c.len.result c.in-Some.ensures.some few c.len.ensures in
     omega (arith, room)
 

@@ -2,7 +2,7 @@ use Rattle.std.proofs.Common.{ap, ◌∙◌, refl}
 use Rattle.entry_references.specs.Layout.{Own, value_at}
 use Rattle.entry_references.specs.Refs.{number_of}
 use Rattle.entry_references.proofs.NumberLists.{next_number}
-use Rattle.entry_references.proofs.numbers.own_pointers.Goals as goal
+use Rattle.entry_references.proofs.numbers.put_pointers.Goals as goal
 
 pub places-preserved : goal.places-preserved
 places-preserved c =

@@ -1,0 +1,7 @@
+use Rattle.std.proofs.Common.{ap, refl, sym}
+use Rattle.iges_write.specs.Text.{right}
+use Rattle.iges_write.proofs.ShortNumbers.{two_digits}
+use Rattle.iges_write.proofs.column.two_field.Goals as goal
+
+pub returns : goal.returns
+returns c = ap (right 8) (sym (two_digits c.args.n _ _ c.requires.digits.0 c.requires.digits.1 refl refl))
