@@ -26,6 +26,9 @@ use std::alloc::Global;
 /// The bytes of a line, LF among them.
 const LINE_SIZE: usize = 81;
 
+/// So many entries are few.
+const FEW_ENTRIES: usize = 10_000;
+
 // The start section and the global section.
 fn put_front(page: &mut Page, file: &File) -> Result<(), WriteFileFault>
     ensures steps { Steps result page.new (with_front page.old file.now) }
@@ -39,6 +42,14 @@ fn put_front(page: &mut Page, file: &File) -> Result<(), WriteFileFault>
     page.put_global(global.values.as_slice(), &global.delims)
 }
 
+// For how many lines of each of so many entries room is taken: of few entries also for the records, which come behind the
+// directory, so that it isn't copied then. A long directory is moved without a copy.
+fn lines_of(entries: usize) -> usize
+    ensures { result ≤ 4 }
+{
+    if entries < FEW_ENTRIES { 4 } else { 2 }
+}
+
 // The directory section, and on a page beside it the parameter section. Each entry has two lines, and each record one at
 // least.
 fn put_records(page: &mut Page, params: &mut Page, file: &File) -> Result<(), WriteFileFault>
@@ -47,7 +58,7 @@ fn put_records(page: &mut Page, params: &mut Page, file: &File) -> Result<(), Wr
         params.new (params_sheet page.old.limit file.now) }
     ensures held { OnOk result (AllByRecursion IsHeld file.now.entries) }
 {
-    page.reserve(file.entry_count() * 2 * LINE_SIZE);
+    page.reserve(file.entry_count() * lines_of(file.entry_count()) * LINE_SIZE);
     params.reserve(file.entry_count() * LINE_SIZE);
     page.begin(b'D', 72);
     put_entries(page, params, file)

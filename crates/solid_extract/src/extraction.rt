@@ -16,8 +16,8 @@ use crate::fault::ExtractFault;
 use crate::new_values::new_values;
 use crate::reaching::reach;
 use crate::renaming::Renaming;
-use entry_references::{ExtractReason, record_of, shape_of};
-use iges_base::{EntryNo, NoMemory};
+use entry_references::{ExtractReason, record_of, shape_with};
+use iges_base::{EntryNo, ItemList, NoMemory};
 use iges_params::{File, begun, copied_values};
 use std::alloc::Global;
 
@@ -28,15 +28,22 @@ pub struct Extraction {
     pub no: EntryNo,
 }
 
+// Lists whose room serves for one entry after the other: marks of values, and places of pointers.
+#[derive(Drop)]
+struct Scratch {
+    marks: Vec<bool>,
+    places: ItemList<usize>,
+}
+
 // Puts the entry that a number names, as it is kept, with copied values. It has no fault, so that its shape is given unless
-// memory runs out. `marks` is a scratch buffer.
+// memory runs out.
 fn push_kept(
     new: &mut File,
     alloc: Global,
     file: &File,
     renaming: &Renaming,
     no: EntryNo,
-    marks: &mut Vec<bool>,
+    scratch: &mut Scratch,
 ) -> Result<(), NoMemory>
     requires faultless { IsFaultless file.now no.0 }
     requires entries { length new.old.entries < ENTRY_LIMIT }
@@ -48,11 +55,12 @@ fn push_kept(
     }) }
 {
     let record = record_of(file, no).unwrap();
-    let Ok(shape) = shape_of(alloc, record.entry, record.values) else {
+    let Ok(shape) = shape_with(&mut scratch.places, alloc, record.entry, record.values) else {
         return Err(NoMemory);
     };
     let copies = copied_values(alloc, record.values)?;
-    let values = new_values(alloc, file, renaming, copies, &shape, marks)?;
+    let values = new_values(alloc, file, renaming, copies, &shape, &mut scratch.marks)?;
+    scratch.places = shape.own.into_spare();
     new.push(renaming.entry(record.entry), values)
 }
 
@@ -63,7 +71,7 @@ fn push_taken(
     file: &mut File,
     renaming: &Renaming,
     no: EntryNo,
-    marks: &mut Vec<bool>,
+    scratch: &mut Scratch,
 ) -> Result<(), NoMemory>
     requires named { IsSome (named file.old (pos no.0)) }
     requires entries { length new.old.entries < ENTRY_LIMIT }
@@ -76,12 +84,13 @@ fn push_taken(
     ensures taken { OnOk result (IsWithout file.old no.0 file.new) }
 {
     let record = record_of(file, no).unwrap();
-    let Ok(shape) = shape_of(alloc, record.entry, record.values) else {
+    let Ok(shape) = shape_with(&mut scratch.places, alloc, record.entry, record.values) else {
         return Err(NoMemory);
     };
     let entry = renaming.entry(record.entry);
     let taken = file.take_values(alloc, (no.0 / 2) as usize);
-    let values = new_values(alloc, file, renaming, taken, &shape, marks)?;
+    let values = new_values(alloc, file, renaming, taken, &shape, &mut scratch.marks)?;
+    scratch.places = shape.own.into_spare();
     new.push(entry, values)
 }
 
@@ -97,10 +106,13 @@ fn put_kept(new: &mut File, alloc: Global, file: &File, renaming: &Renaming) -> 
 {
     let kept = renaming.kept();
     new.reserve(kept.len());
-    let mut marks = Vec::new(alloc);
+    let mut scratch = Scratch {
+        marks: Vec::new(alloc),
+        places: ItemList::new(alloc),
+    };
     'entries: for i in 0..kept.len() {
         let no = kept.get(i).unwrap();
-        push_kept(new, alloc, file, renaming, *no, &mut marks)?;
+        push_kept(new, alloc, file, renaming, *no, &mut scratch)?;
     }
     Ok(())
 }
@@ -142,10 +154,13 @@ fn put_taken(
 {
     let kept = renaming.kept();
     new.reserve(kept.len());
-    let mut marks = Vec::new(alloc);
+    let mut scratch = Scratch {
+        marks: Vec::new(alloc),
+        places: ItemList::new(alloc),
+    };
     'entries: for i in 0..kept.len() {
         let no = kept.get(i).unwrap();
-        push_taken(new, alloc, file, renaming, *no, &mut marks)?;
+        push_taken(new, alloc, file, renaming, *no, &mut scratch)?;
     }
     Ok(())
 }

@@ -5,7 +5,9 @@ ghost use Rattle.solid_extract.specs.Flooding.{IsFlooded, IsToldAs, fault_at, le
 ghost use Rattle.std.specs.Prelude.{◌≡◌, IfOk, IsSome, OnOk, length, pos};
 
 use crate::fault::Refusal;
-use entry_references::{EntrySet, ExtractReason, RefFault, add_numbers, record_of, refs};
+use entry_references::{
+    EntrySet, ExtractReason, RefFault, RefScratch, add_numbers, put_refs, record_of,
+};
 use iges_base::{EntryNo, NoMemory};
 use iges_params::File;
 use std::alloc::Global;
@@ -35,6 +37,7 @@ fn visit(
     file: &File,
     reached: &mut EntrySet,
     no: EntryNo,
+    scratch: &mut RefScratch,
 ) -> Result<Option<ExtractReason>, NoMemory>
     requires { reached.old.size ≡ length file.now.entries }
     ensures reached { OnOk result (reached.new
@@ -44,9 +47,9 @@ fn visit(
     let Some(record) = record_of(file, no) else {
         return Ok(None);
     };
-    match refs(alloc, file, record.entry, record.values) {
-        Ok(numbers) => {
-            add_numbers(reached, file, &numbers)?;
+    match put_refs(scratch, alloc, file, record.entry, record.values) {
+        Ok(()) => {
+            add_numbers(reached, file, &scratch.numbers)?;
             Ok(None)
         }
         Err(fault) => reason_of(fault),
@@ -81,8 +84,9 @@ pub fn reach(alloc: Global, file: &File, no: EntryNo) -> Result<ReachedEntries, 
     reached.add(no)?;
     let mut refusal = None;
     let mut next = 0;
+    let mut scratch = RefScratch::new(alloc);
     'entries: while let Some(entity) = reached.get(next) {
-        let fault = visit(alloc, file, &mut reached, entity)?;
+        let fault = visit(alloc, file, &mut reached, entity, &mut scratch)?;
         refusal = least_of(refusal, entity, fault);
         next += 1;
     }
