@@ -1,5 +1,6 @@
 pub mod Lists
 mod Places
+mod ShortFronts
 pub mod InLines
 pub mod Ended
 pub mod Tests

@@ -5,4 +5,5 @@ pub mod InLine
 pub mod FrontDigits
 pub mod Word
 pub mod Reals
+pub mod ShortTexts
 pub mod RealParts

@@ -15,6 +15,7 @@ use iges_base::{ItemList, NoMemory};
 use iges_fields::{Value, Values};
 use iges_params::File;
 use std::alloc::Global;
+use std::mem;
 
 // Marks a place, from 1, where the values have it.
 #[inline(always)]
@@ -69,7 +70,8 @@ fn renew(values: &mut Values, renaming: &Renaming, i: usize, is_pointer: bool, i
 {
     let value = values.get(i).unwrap();
     if let Some(number) = integer_for(renaming, value, is_pointer, is_cut) {
-        values.set(i, Value::Int(number));
+        // The old value is an integer too, which has no memory to give back.
+        mem::forget(values.replace(i, Value::Int(number)));
     }
 }
 

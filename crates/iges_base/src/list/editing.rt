@@ -1,10 +1,11 @@
 //! Replacing an item of a list, dropping those at its end, and taking all of them.
 
-ghost use Rattle.std.specs.Prelude.{◌≡◌, ◌<◌, [], IfOk, OnOk, length, set, take};
+ghost use Rattle.std.specs.Prelude.{◌≡◌, ◌<◌, [], IfOk, OnOk, Some, length, set, slice_get, take};
 
 use crate::list::ItemList;
 use crate::no_memory::NoMemory;
 use std::alloc::Global;
+use std::mem;
 
 // The items in memory of their own, which is as large as they need.
 fn moved<T: Drop>(alloc: Global, items: &mut Vec<T>) -> Result<Vec<T>, NoMemory>
@@ -23,6 +24,16 @@ impl<T: Drop> ItemList<T> {
         ensures { self.new ≡ set self.old i item }
     {
         self.items[i] = item;
+    }
+
+    /// Puts an item in the place of the i-th, counted from 0, and gives that.
+    #[inline(always)]
+    pub fn replace(&mut self, i: usize, item: T) -> T
+        requires { i < length self.old }
+        ensures list { self.new ≡ set self.old i item }
+        ensures old { slice_get self.old i ≡ Some result }
+    {
+        mem::replace(&mut self.items[i], item)
     }
 
     /// Drops all items after the first so many.

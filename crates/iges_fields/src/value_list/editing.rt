@@ -1,7 +1,7 @@
 //! Replacing a value of a list, dropping those at its end, and taking all of them.
 
 ghost use Rattle.iges_fields.specs.InLine.{stays_in_line};
-ghost use Rattle.std.specs.Prelude.{◌≡◌, ◌<◌, [], IfOk, IsTrue, length, set, take};
+ghost use Rattle.std.specs.Prelude.{◌≡◌, ◌<◌, [], IfOk, IsTrue, Some, length, set, slice_get, take};
 
 use crate::value::Value;
 use crate::value_list::Values;
@@ -17,6 +17,17 @@ impl Values {
         ensures { self.new ≡ set self.old i value }
     {
         self.values.set(i, value);
+    }
+
+    /// Puts a value in the place of the i-th, counted from 0, and gives that.
+    #[inline(always)]
+    pub fn replace(&mut self, i: usize, value: Value) -> Value
+        requires within { i < length self.old }
+        requires in_line { IsTrue (stays_in_line value) }
+        ensures values { self.new ≡ set self.old i value }
+        ensures old { slice_get self.old i ≡ Some result }
+    {
+        self.values.replace(i, value)
     }
 
     /// Drops all values after the first so many.
