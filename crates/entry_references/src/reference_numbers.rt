@@ -47,15 +47,6 @@ impl RefScratch {
     }
 }
 
-// The room of a list, in an empty one.
-fn room_of(list: &mut ItemList<usize>, alloc: Global) -> ItemList<usize>
-    ensures { result ≡ [] }
-{
-    let mut room = mem::replace(list, ItemList::new(alloc));
-    room.truncate(0);
-    room
-}
-
 /// The same as `shape_of`; the room of a list serves for the places, until `Own::into_spare` gives it back.
 pub fn shape_with(
     places: &mut ItemList<usize>,
@@ -70,7 +61,9 @@ pub fn shape_with(
     let Some(listed) = type_of(entry) else {
         return Err(RefFault::Unlisted);
     };
-    let Some(own) = own_of(alloc, room_of(places, alloc), listed, values)? else {
+    let mut spare = mem::replace(places, ItemList::new(alloc));
+    spare.truncate(0);
+    let Some(own) = own_of(alloc, spare, listed, values)? else {
         return Err(RefFault::Layout);
     };
     match second_group(&own, values) {

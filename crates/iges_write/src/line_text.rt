@@ -101,6 +101,24 @@ impl LineText {
         self.len = end;
     }
 
+    // The same of a word of eight bytes at least, and most often of sixteen at most.
+    #[inline(always)]
+    fn push_longer(&mut self, word: &[u8])
+        requires room { length self.old + length word.now ≤ 96 }
+        requires many { 8 ≤ length word.now }
+        ensures is { self.new ≡ self.old ++ word.now }
+        ensures long { length self.new ≡ length self.old + length word.now }
+    {
+        let count = word.len();
+        if count <= 16 {
+            self.push_halves(word, 8);
+        } else if count <= 32 {
+            self.push_halves(word, 16);
+        } else {
+            self.push(word);
+        }
+    }
+
     /// The same as `push`, of a word that most often is short.
     #[inline(always)]
     pub fn push_word(&mut self, word: &[u8])
@@ -109,23 +127,15 @@ impl LineText {
         ensures long { length self.new ≡ length self.old + length word.now }
     {
         let count = word.len();
-        if count < 2 || count > 32 {
-            self.push(word);
-            return;
-        }
-        if count > 16 {
-            self.push_halves(word, 16);
-            return;
-        }
         if count >= 8 {
-            self.push_halves(word, 8);
-            return;
-        }
-        if count >= 4 {
+            self.push_longer(word);
+        } else if count >= 4 {
             self.push_halves(word, 4);
-            return;
+        } else if count >= 2 {
+            self.push_halves(word, 2);
+        } else {
+            self.push(word);
         }
-        self.push_halves(word, 2);
     }
 
     /// Fills a shorter line up with spaces.

@@ -42,12 +42,13 @@ fn put_front(page: &mut Page, file: &File) -> Result<(), WriteFileFault>
     page.put_global(global.values.as_slice(), &global.delims)
 }
 
-// For how many lines of each of so many entries room is taken: of few entries also for the records, which come behind the
-// directory, so that it isn't copied then. A long directory is moved without a copy.
-fn lines_of(entries: usize) -> usize
+// For how many lines of each of so many entries room is taken: of few for four, so that the directory isn't copied when the records
+// come behind it, nor they as they grow. What is longer is moved without a copy.
+fn lines_for(entries: usize, lines: usize) -> usize
+    requires { lines ≤ 4 }
     ensures { result ≤ 4 }
 {
-    if entries < FEW_ENTRIES { 4 } else { 2 }
+    if entries < FEW_ENTRIES { 4 } else { lines }
 }
 
 // The directory section, and on a page beside it the parameter section. Each entry has two lines, and each record one at
@@ -58,8 +59,9 @@ fn put_records(page: &mut Page, params: &mut Page, file: &File) -> Result<(), Wr
         params.new (params_sheet page.old.limit file.now) }
     ensures held { OnOk result (AllByRecursion IsHeld file.now.entries) }
 {
-    page.reserve(file.entry_count() * lines_of(file.entry_count()) * LINE_SIZE);
-    params.reserve(file.entry_count() * LINE_SIZE);
+    let entries = file.entry_count();
+    page.reserve(entries * lines_for(entries, 2) * LINE_SIZE);
+    params.reserve(entries * lines_for(entries, 1) * LINE_SIZE);
     page.begin(b'D', 72);
     put_entries(page, params, file)
 }
