@@ -30,7 +30,7 @@ pub use mantissa::{Mantissa, mantissa_of};
 pub use memory::Memory;
 pub use no_memory::NoMemory;
 pub use out::{Out, put_number, write_number};
-pub use short_text::{SHORT, ShortText};
+pub use short_text::ShortText;
 
 /// The most bytes that a file may have, read or written: 2,000,000 lines of 82 bytes.
 pub const FILE_LIMIT: u64 = 164_000_000;

@@ -2,17 +2,18 @@
 
 ghost use Rattle.iges_base.specs.ShortTexts.{IsKept, text_bytes};
 ghost use Rattle.iges_base.specs.declared.short_text.TheConstants.{FULL, MIDDLE, SHORT};
-ghost use Rattle.std.specs.Prelude.{◌≡◌, ◌≤◌, IfOk, IsTrue, length, take};
+ghost use Rattle.std.specs.Prelude.{◌≡◌, ◌≤◌, IfOk, IfSome, length, take};
 
 use crate::no_memory::NoMemory;
 use std::alloc::Global;
 use std::marker::Model;
 
-/// The most bytes that `ShortText::of_front` takes.
-pub const SHORT: usize = 14;
+// The most bytes of a text that is kept with its length, of one that takes no memory of its own, and of one that takes one
+// small block.
+const SHORT: usize = 14;
 
-// The bytes of a text that fills all the room, and the most bytes of one that takes one small block.
 const FULL: usize = 15;
+
 const MIDDLE: usize = 23;
 
 // A text with its length, in the least block that the C library gives.
@@ -57,22 +58,6 @@ fn short_kept(text: &[u8]) -> Kept
     bytes[..text.len()].copy_from_slice(text);
     Kept::Short {
         len: text.len() as u8,
-        bytes,
-    }
-}
-
-// The same of the first so many bytes of a text, which are copied with those behind them.
-#[inline(always)]
-fn front_kept(text: &[u8], len: usize) -> Kept
-    requires few { len ≤ SHORT }
-    requires within { SHORT ≤ length text.now }
-    ensures is { text_bytes result ≡ take len text.now }
-    ensures room { IsKept result }
-{
-    let mut bytes = [0u8; SHORT];
-    bytes.copy_from_slice(&text[..SHORT]);
-    Kept::Short {
-        len: len as u8,
         bytes,
     }
 }
@@ -126,24 +111,23 @@ impl ShortText {
         })
     }
 
-    /// Whether `of_front` takes the first so many bytes of the text.
+    /// A copy of the first so many bytes of a text, by a few instructions; None where the call `of` is needed.
     #[inline(always)]
-    pub fn is_front(text: &[u8], len: usize) -> bool
-        ensures { IsTrue result → (len ≤ SHORT) × (SHORT ≤ length text.now) }
+    pub fn of_front(text: &[u8], len: usize) -> Option<ShortText>
+        ensures { IfSome result (λ s. s ≡ take len text.now) }
     {
-        len <= SHORT && text.len() >= SHORT
-    }
-
-    /// A copy of the first so many bytes of a text, as a few instructions: those behind them are read too.
-    #[inline(always)]
-    pub fn of_front(text: &[u8], len: usize) -> ShortText
-        requires few { len ≤ SHORT }
-        requires within { SHORT ≤ length text.now }
-        ensures { result ≡ take len text.now }
-    {
-        ShortText {
-            text: front_kept(text, len),
+        if len > SHORT {
+            return None;
         }
+        let Some((bytes, _)) = text.split_first_chunk::<SHORT>() else {
+            return None;
+        };
+        Some(ShortText {
+            text: Kept::Short {
+                len: len as u8,
+                bytes: *bytes,
+            },
+        })
     }
 
     /// The bytes in their order.
