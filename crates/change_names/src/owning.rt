@@ -1,6 +1,6 @@
 //! Whether one item of a change names old edges and vertices of the shell alone.
 
-ghost use Rattle.std.specs.Prelude.{◌≡◌, ◌↔◌, IsTrue, Contains};
+ghost use Rattle.std.specs.Prelude.{◌≡◌, ◌↔◌, IsTrue, Contains, Some, slice_get};
 ghost use Rattle.std.specs.List.Sorted.{IsStrictlyIncreasing};
 ghost use Rattle.change_names.specs.Names.{EdgeIsOwn, VertexIsOwn, UseIsOwn, NewEdgeIsOwn, SeamIsOwn};
 
@@ -8,11 +8,32 @@ use edge_uses::Rows;
 use shell_change::{EdgeName, NewEdge, NewVertex, Seam, UseNow, VertexName};
 use solid_data::{EdgeId, VertexId, place_of};
 
+// Whether a number stands at this place of a list.
+fn stands_at(numbers: &[u32], place: u32, n: u32) -> bool
+    ensures { IsTrue result → slice_get numbers.now place ≡ Some n }
+{
+    match numbers.get(place as usize) {
+        None => false,
+        Some(own) => *own == n,
+    }
+}
+
+// Where a number of a list stands that leaves out none between its first one and this one.
+fn near_place(numbers: &[u32], n: u32) -> u32 {
+    match numbers.first() {
+        None => 0,
+        Some(first) => n.saturating_sub(*first),
+    }
+}
+
 /// Whether a number is in a list that rises.
 pub fn is_among(numbers: &[u32], n: u32) -> bool
     requires { IsStrictlyIncreasing numbers.now }
     ensures { IsTrue result ↔ Contains numbers.now n }
 {
+    if stands_at(numbers, near_place(numbers, n), n) {
+        return true;
+    }
     match place_of(numbers, n) {
         Some(_) => true,
         None => false,

@@ -1,11 +1,11 @@
 //! What may still be done to a shell once it is sewn and faces are removed.
 
 use crate::found::{Found, add_trial};
-use shell_trial::{Facts, Memory, Table, Trial, copy_of, table_of};
+use shell_trial::{Facts, Key, Memory, Table, Trial, copy_of, table_after, table_of};
 use trial_seams::Sewn;
 use trial_steps::{
-    By, can_split_edges, fans_of, fill, is_whole, part, split_edges, split_vertices, turn,
-    turn_uses,
+    By, can_split_edges, fans_of, fill, is_whole, part, rows_to_split, split_edges, split_vertices,
+    turn, turn_uses,
 };
 
 // Whether each loop joins, and the rows of each edge with two run opposite; with the rows, if something was turned for that.
@@ -60,6 +60,15 @@ fn straighten(memory: &mut Memory, facts: &Facts, trial: &mut Trial, table: &Tab
     }
 }
 
+// What a trial costs at least in the end: a face on the first rim costs 3, and no step gives an edge of one row another.
+fn least_cost(trial: &Trial, table: &Table) -> u32 {
+    if table.free {
+        trial.cost.saturating_add(3)
+    } else {
+        trial.cost
+    }
+}
+
 // Parts a shell, if it isn't parted yet, splits its vertices and fills its rims; if it passes, it is a remedy. None of this changes
 // the rows of an edge.
 fn finish(
@@ -70,13 +79,13 @@ fn finish(
     table: &Table,
     found: &mut Found,
 ) {
-    if !is_whole(table) || found.is_too_dear(trial.cost) {
+    if !is_whole(table) || found.is_too_dear(least_cost(trial, table)) {
         return;
     }
     if trial.piece_count < 2 {
         let _parted = part(memory, facts, trial, table, By::All);
     }
-    if found.is_too_dear(trial.cost) {
+    if found.is_too_dear(least_cost(trial, table)) {
         return;
     }
     let fans = fans_of(memory, table);
@@ -85,31 +94,61 @@ fn finish(
     add_trial(memory, facts, sewn, trial, found);
 }
 
-// Makes crowded edges edges of two rows, in one of three ways. The rows then, if that way does something.
+// In which of three ways crowded edges become edges of two rows.
+#[derive(Clone, Copy)]
+enum Thinning<'a> {
+    Cut,
+    // The rows of edges with four rows or more, and by how many places those against are further on.
+    Split(&'a [Key], u32),
+}
+
+const SPLIT_COST: u32 = 4;
+
+// What a way costs at least.
+fn cost_of(way: Thinning<'_>) -> u32 {
+    match way {
+        Thinning::Cut => 2,
+        Thinning::Split(_, _) => SPLIT_COST,
+    }
+}
+
+// Makes crowded edges edges of two rows. The rows then, if the way does something.
 fn thin(
     memory: &mut Memory,
     facts: &Facts,
     trial: &mut Trial,
     table: &Table,
-    way: u32,
+    way: Thinning<'_>,
 ) -> Option<Table> {
-    if way == 0 {
-        if !part(memory, facts, trial, table, By::Mates) {
-            return None;
+    match way {
+        Thinning::Cut => {
+            if !part(memory, facts, trial, table, By::Mates) {
+                return None;
+            }
         }
-        return Some(table_of(memory, facts, trial));
+        Thinning::Split(rows, further) => split_edges(memory, trial, table, rows, further),
     }
-    split_edges(memory, facts, trial, table, way.saturating_sub(1));
-    let now = table_of(memory, facts, trial);
-    if now.same_way && turn(memory, facts, trial, &now) {
-        return Some(table_of(memory, facts, trial));
-    }
-    Some(now)
+    Some(table_after(memory, facts, trial, table))
 }
 
-// What a way costs at least.
-fn least_cost(way: u32) -> u32 {
-    if way == 0 { 2 } else { 4 }
+// Turns what runs the wrong way since edges were split.
+fn turn_split(
+    memory: &mut Memory,
+    facts: &Facts,
+    trial: &mut Trial,
+    table: Table,
+    way: Thinning<'_>,
+) -> Table {
+    let split = matches!(way, Thinning::Split(_, _));
+    if split && table.same_way && turn(memory, facts, trial, &table) {
+        return table_of(memory, facts, trial);
+    }
+    table
+}
+
+fn is_way_too_dear(trial: &Trial, way: (Thinning<'_>, &Table), found: &Found) -> bool {
+    let (way, table) = way;
+    found.is_too_dear(cost_of(way).saturating_add(least_cost(trial, table)))
 }
 
 fn try_way(
@@ -117,12 +156,67 @@ fn try_way(
     facts: &Facts,
     sewn: &Sewn,
     trial: &mut Trial,
-    way: (u32, &Table),
+    way: (Thinning<'_>, &Table),
     found: &mut Found,
 ) {
+    if is_way_too_dear(trial, way, found) {
+        return;
+    }
     let (way, table) = way;
     if let Some(thinned) = thin(memory, facts, trial, table, way) {
-        finish(memory, facts, sewn, trial, &thinned, found);
+        let rows = turn_split(memory, facts, trial, thinned, way);
+        finish(memory, facts, sewn, trial, &rows, found);
+    }
+}
+
+// The same, of a copy.
+fn try_way_apart(
+    memory: &mut Memory,
+    facts: &Facts,
+    sewn: &Sewn,
+    trial: &Trial,
+    way: (Thinning<'_>, &Table),
+    found: &mut Found,
+) {
+    if !is_way_too_dear(trial, way, found) {
+        let mut other = copy_of(memory, trial);
+        try_way(memory, facts, sewn, &mut other, way, found);
+    }
+}
+
+fn try_splits(
+    memory: &mut Memory,
+    facts: &Facts,
+    sewn: &Sewn,
+    trial: &mut Trial,
+    table: &Table,
+    found: &mut Found,
+) {
+    if found.is_too_dear(SPLIT_COST.saturating_add(least_cost(trial, table))) {
+        return;
+    }
+    let rows = rows_to_split(memory, facts, table);
+    let first = (Thinning::Split(&rows, 0), table);
+    try_way_apart(memory, facts, sewn, trial, first, found);
+    let second = (Thinning::Split(&rows, 1), table);
+    try_way(memory, facts, sewn, trial, second, found)
+}
+
+// Cuts a shell, or splits its crowded edges.
+fn try_crowded(
+    memory: &mut Memory,
+    facts: &Facts,
+    sewn: &Sewn,
+    trial: &mut Trial,
+    table: &Table,
+    found: &mut Found,
+) {
+    let cut = (Thinning::Cut, table);
+    if can_split_edges(table) {
+        try_way_apart(memory, facts, sewn, trial, cut, found);
+        try_splits(memory, facts, sewn, trial, table, found)
+    } else {
+        try_way(memory, facts, sewn, trial, cut, found)
     }
 }
 
@@ -135,17 +229,10 @@ fn try_straight(
     table: &Table,
     found: &mut Found,
 ) {
-    if !table.crowded {
-        return finish(memory, facts, sewn, trial, table, found);
+    if table.crowded {
+        return try_crowded(memory, facts, sewn, trial, table, found);
     }
-    let ways = if can_split_edges(table) { 3 } else { 1 };
-    'ways: for way in 0..ways {
-        let cost = trial.cost.saturating_add(least_cost(way));
-        if !found.is_too_dear(cost) {
-            let mut other = copy_of(memory, trial);
-            try_way(memory, facts, sewn, &mut other, (way, table), found);
-        }
-    }
+    finish(memory, facts, sewn, trial, table, found)
 }
 
 /// Tries what may still be done to a shell, of which these are the rows, and adds the remedies that there are.

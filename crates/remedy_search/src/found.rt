@@ -1,10 +1,10 @@
 //! The remedies that were found, the cheapest first.
 
-use shell_change::Remedy;
-use shell_trial::{Facts, Memory, Trial, at, is_set, set, short};
+use shell_change::{Change, Remedy};
+use shell_trial::{Facts, Memory, Trial, is_set, set, short, taken};
 use solid_data::ShellAt;
-use trial_changes::{Seams, change_of, is_alike, removed_alike, seams_of};
-use trial_seams::Sewn;
+use trial_changes::{Seams, are_alike, change_of, is_alike, removed_alike, seams_of};
+use trial_seams::{Sewn, unsewn};
 
 // So many remedies are told.
 const MOST_TOLD: usize = 6;
@@ -12,13 +12,28 @@ const MOST_TOLD: usize = 6;
 // So many trials a shell has.
 const MOST_TRIALS: u32 = 24;
 
+// What a remedy does. Where nothing was sewn its change is told at the end, if others don't come before it.
+#[derive(Drop)]
+enum Way {
+    Told(Change),
+    Tried(Trial),
+}
+
+/// A remedy that was found.
+#[derive(Drop)]
+pub(crate) struct Proposal {
+    way: Way,
+    cost: u32,
+    sure: bool,
+    // How it splits crowded edges.
+    split: u32,
+}
+
 /// The remedies of a shell that were found.
 #[derive(Drop)]
 pub(crate) struct Found {
-    pub(crate) shell: ShellAt,
-    pub(crate) remedies: Vec<Remedy>,
-    // Of each how it splits crowded edges.
-    splits: Vec<u32>,
+    shell: ShellAt,
+    pub(crate) remedies: Vec<Proposal>,
     trials: u32,
     // Whether the shell passes as it is, but for vertices of earlier shells.
     closed: bool,
@@ -29,7 +44,6 @@ impl Found {
         Found {
             shell,
             remedies: memory.list(),
-            splits: memory.list(),
             trials: 0,
             closed: false,
         }
@@ -59,11 +73,22 @@ fn shares_some(facts: &Facts) -> bool {
     false
 }
 
+// Whether a remedy does the same as a trial with these seams.
+fn is_same(facts: &Facts, trial: &Trial, seams: &Seams, other: &Proposal) -> bool {
+    if other.split != trial.split {
+        return false;
+    }
+    match &other.way {
+        Way::Told(change) => is_alike(facts, trial, seams, change),
+        Way::Tried(tried) => are_alike(facts, trial, seams, tried),
+    }
+}
+
 // The place of a remedy that does the same as a trial with these seams, and its cost; None if there is none.
-fn same_at(found: &Found, facts: &Facts, trial: &Trial, seams: &Seams) -> Option<(u32, u32)> {
-    let mut i = 0u32;
+fn same_at(found: &Found, facts: &Facts, trial: &Trial, seams: &Seams) -> Option<(usize, u32)> {
+    let mut i = 0usize;
     'remedies: for other in found.remedies.as_slice() {
-        if at(&found.splits, i) == trial.split && is_alike(facts, trial, seams, &other.change) {
+        if is_same(facts, trial, seams, other) {
             return Some((i, other.cost));
         }
         i = i.saturating_add(1);
@@ -72,7 +97,7 @@ fn same_at(found: &Found, facts: &Facts, trial: &Trial, seams: &Seams) -> Option
 }
 
 // The place before the first remedy that costs more.
-fn place_for(remedies: &[Remedy], cost: u32) -> usize {
+fn place_for(remedies: &[Proposal], cost: u32) -> usize {
     let mut place = 0usize;
     'remedies: for other in remedies {
         if other.cost > cost {
@@ -83,31 +108,45 @@ fn place_for(remedies: &[Remedy], cost: u32) -> usize {
     place
 }
 
-fn leave_out(found: &mut Found, i: u32) {
-    let i = i as usize;
-    if i < found.remedies.len() && i < found.splits.len() {
+fn leave_out(found: &mut Found, i: usize) {
+    if i < found.remedies.len() {
         let _remedy = found.remedies.remove(i);
-        let _split = found.splits.remove(i);
     }
 }
 
-fn insert<T: Drop>(memory: &mut Memory, list: &mut Vec<T>, place: usize, item: T) {
-    if place <= list.len() && list.insert(place, item).is_err() {
+fn add(memory: &mut Memory, found: &mut Found, remedy: Proposal) {
+    let place = place_for(&found.remedies, remedy.cost);
+    if place <= found.remedies.len() && found.remedies.insert(place, remedy).is_err() {
         memory.run_out();
     }
+    found.remedies.truncate(MOST_TOLD);
 }
 
-fn add(memory: &mut Memory, found: &mut Found, remedy: Remedy, split: u32) {
-    let place = place_for(&found.remedies, remedy.cost);
-    insert(memory, &mut found.remedies, place, remedy);
-    insert(memory, &mut found.splits, place, split);
-    found.remedies.truncate(MOST_TOLD);
-    found.splits.truncate(MOST_TOLD);
+// What a trial does; None if it would take too many moves. Nothing is left of a trial that is kept.
+fn way_of(
+    memory: &mut Memory,
+    facts: &Facts,
+    sewn: &Sewn,
+    trial: &mut Trial,
+    seams: Seams,
+    shell: ShellAt,
+) -> Option<Way> {
+    if sewn.links.is_empty() {
+        return Some(Way::Tried(taken(memory, trial)));
+    }
+    let change = change_of(memory, facts, sewn, trial, seams, shell)?;
+    Some(Way::Told(change))
 }
 
 // Puts a trial among the remedies, unless one that does the same costs no more; one that costs more goes.
-fn add_unlike(memory: &mut Memory, facts: &Facts, sewn: &Sewn, trial: &Trial, found: &mut Found) {
-    let cost = trial.cost.max(1);
+fn add_unlike(
+    memory: &mut Memory,
+    facts: &Facts,
+    sewn: &Sewn,
+    trial: &mut Trial,
+    found: &mut Found,
+) {
+    let (cost, sure, split) = (trial.cost.max(1), trial.sure, trial.split);
     let seams = seams_of(memory, facts, trial, sewn);
     let same = same_at(found, facts, trial, &seams);
     if let Some((_, other)) = same {
@@ -115,18 +154,19 @@ fn add_unlike(memory: &mut Memory, facts: &Facts, sewn: &Sewn, trial: &Trial, fo
             return;
         }
     }
-    let Some(change) = change_of(memory, facts, sewn, trial, seams, found.shell) else {
+    let Some(way) = way_of(memory, facts, sewn, trial, seams, found.shell) else {
         return;
     };
     if let Some((i, _)) = same {
         leave_out(found, i);
     }
-    let remedy = Remedy {
-        change,
+    let remedy = Proposal {
+        way,
         cost,
-        sure: trial.sure,
+        sure,
+        split,
     };
-    add(memory, found, remedy, trial.split);
+    add(memory, found, remedy);
 }
 
 /// Puts a trial after which the shell passes among the remedies.
@@ -134,7 +174,7 @@ pub(crate) fn add_trial(
     memory: &mut Memory,
     facts: &Facts,
     sewn: &Sewn,
-    trial: &Trial,
+    trial: &mut Trial,
     found: &mut Found,
 ) {
     if trial.cost == 0 {
@@ -146,6 +186,36 @@ pub(crate) fn add_trial(
     if !found.is_too_dear(trial.cost.max(1)) {
         add_unlike(memory, facts, sewn, trial, found);
     }
+}
+
+fn told_change(
+    memory: &mut Memory,
+    facts: &Facts,
+    sewn: &Sewn,
+    way: Way,
+    shell: ShellAt,
+) -> Option<Change> {
+    match way {
+        Way::Told(change) => Some(change),
+        Way::Tried(trial) => {
+            let seams = seams_of(memory, facts, &trial, sewn);
+            change_of(memory, facts, sewn, &trial, seams, shell)
+        }
+    }
+}
+
+/// The remedies that were found, with their changes.
+pub(crate) fn told(memory: &mut Memory, facts: &Facts, found: Found) -> Vec<Remedy> {
+    let sewn = unsewn(memory, facts);
+    let shell = found.shell;
+    let mut out = memory.list();
+    'remedies: for proposal in found.remedies {
+        let (cost, sure) = (proposal.cost, proposal.sure);
+        if let Some(change) = told_change(memory, facts, &sewn, proposal.way, shell) {
+            memory.add(&mut out, Remedy { change, cost, sure });
+        }
+    }
+    out
 }
 
 // Whether another remedy of the same cost removes other faces.

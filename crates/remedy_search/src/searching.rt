@@ -1,10 +1,13 @@
 //! The search for remedies of a shell.
 
 use crate::ending::try_ways;
-use crate::found::{Found, settle};
+use crate::found::{Found, settle, told};
+use edge_uses::Rows;
 use iges_base::NoMemory;
 use shell_change::{Known, Remedy};
-use shell_trial::{Facts, Memory, Table, Trial, copy_of, facts_of, first_trial, table_of};
+use shell_trial::{
+    Facts, Memory, Table, Trial, copy_of, facts_of, first_trial, table_after, table_of,
+};
 use solid_data::{ShellAt, Solid};
 use std::alloc::Global;
 use trial_removals::{Removal, copies, like_faces, removals, remove};
@@ -38,10 +41,11 @@ fn try_removal(
     memory: &mut Memory,
     facts: &Facts,
     sewn: &Sewn,
-    trial: &Trial,
+    trial: (&Trial, &Table),
     removal: &Removal,
     found: &mut Found,
 ) {
+    let (trial, table) = trial;
     found.count_trial();
     if found.is_too_dear(trial.cost.saturating_add(removal.cost)) {
         return;
@@ -49,7 +53,7 @@ fn try_removal(
     let mut other = copy_of(memory, trial);
     remove(&mut other, removal);
     other.sure = false;
-    let rows = table_of(memory, facts, &other);
+    let rows = table_after(memory, facts, &other, table);
     try_ways(memory, facts, sewn, &mut other, &rows, found);
 }
 
@@ -71,7 +75,7 @@ fn try_removals(
         if found.is_over() {
             break 'removals;
         }
-        try_removal(memory, facts, sewn, trial, &removals[i], found);
+        try_removal(memory, facts, sewn, (trial, table), &removals[i], found);
     }
 }
 
@@ -103,10 +107,21 @@ fn is_among(seen: &[SeamCounts], counts: SeamCounts) -> bool {
     false
 }
 
+// How many levels may differ: without a free edge there are no seams, but gaps may be joined.
+fn level_count(table: &Table) -> u32 {
+    if table.free {
+        5
+    } else if table.gaps.is_empty() {
+        1
+    } else {
+        2
+    }
+}
+
 // Tries a shell unsewn, and sewn at each level that sews other numbers than those before.
 fn try_levels(memory: &mut Memory, facts: &Facts, trial: &Trial, table: &Table, found: &mut Found) {
     let mut seen = memory.list();
-    'levels: for level in 0..5 {
+    'levels: for level in 0..level_count(table) {
         if found.is_over() {
             break 'levels;
         }
@@ -134,7 +149,7 @@ fn try_all(memory: &mut Memory, facts: &Facts, like: &[u32], found: &mut Found) 
         }
         let mut other = copy_of(memory, &trial);
         remove(&mut other, &copies[i]);
-        let rows = table_of(memory, facts, &other);
+        let rows = table_after(memory, facts, &other, &table);
         try_levels(memory, facts, &other, &rows, found);
     }
 }
@@ -144,28 +159,32 @@ fn remedies_of(
     solid: &Solid,
     known: &Known,
     shell: ShellAt,
+    rows: &Rows,
     below: usize,
 ) -> Vec<Remedy> {
+    let Some(facts) = facts_of(memory, solid, known, shell, rows, below) else {
+        return memory.list();
+    };
     let mut found = Found::new(memory, shell);
-    if let Some(facts) = facts_of(memory, solid, known, shell, below) {
-        let like = like_faces(memory, &facts);
-        try_all(memory, &facts, &like, &mut found);
-        settle(memory, &mut found.remedies, &like);
-    }
-    found.remedies
+    let like = like_faces(memory, &facts);
+    try_all(memory, &facts, &like, &mut found);
+    let mut remedies = told(memory, &facts, found);
+    settle(memory, &mut remedies, &like);
+    remedies
 }
 
 /// The remedies of a shell that were found, at most six, the first one first. They are only proposed: whether a change fits and
-/// passes is judged apart. The vertices of the shells before this one lie below a number.
+/// passes is judged apart. The rows of the shell are given, and the vertices of the shells before this one lie below a number.
 pub fn search(
     alloc: Global,
     solid: &Solid,
     known: &Known,
     shell: ShellAt,
+    rows: &Rows,
     below: usize,
 ) -> Result<Vec<Remedy>, NoMemory> {
     let mut memory = Memory::new(alloc);
-    let remedies = remedies_of(&mut memory, solid, known, shell, below);
+    let remedies = remedies_of(&mut memory, solid, known, shell, rows, below);
     if memory.has_run_out() {
         return Err(NoMemory);
     }

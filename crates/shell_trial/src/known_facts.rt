@@ -5,7 +5,7 @@ use crate::classes::{Key, classes_of};
 use crate::facts::{EdgeFact, Facts};
 use crate::memory::Memory;
 use crate::reading::{Numbers, Read, read_edges, read_faces, read_vertices};
-use edge_uses::rows;
+use edge_uses::Rows;
 use shell_change::{CurveKnown, Known};
 use solid_data::{ShellAt, Solid};
 
@@ -126,25 +126,24 @@ fn facts_with(
     }
 }
 
-/// What is known of a shell; None if the solid hasn't got it. The vertices of earlier shells lie below a number.
+/// What is known of a shell, of which these are the rows; None if the solid hasn't got it. The vertices of earlier shells lie below
+/// a number.
 pub fn facts_of(
     memory: &mut Memory,
     solid: &Solid,
     known: &Known,
     shell: ShellAt,
+    rows: &Rows,
     below: usize,
 ) -> Option<Facts> {
     if shell.0 as usize >= solid.shell_count() {
         return None;
     }
     let first = faces_before(solid, shell);
-    let Ok(rows) = rows(memory.alloc(), solid, shell) else {
-        memory.run_out();
-        return None;
-    };
     let numbers = Numbers {
         edges: rows.edge_slice(),
         vertices: rows.vertex_slice(),
+        uses: rows.len(),
     };
     let Some(own) = solid.shell(shell) else {
         return None;

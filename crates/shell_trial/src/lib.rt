@@ -22,7 +22,7 @@ pub use known_facts::facts_of;
 pub use like_lists::{Entry, list_classes};
 pub use memory::Memory;
 pub use sets::{Found, Sets};
-pub use table::{Gap, Row, Table, mate, start_of, table_of};
+pub use table::{Gap, Row, Table, mate, start_of, table_after, table_of};
 pub use trial::{
-    Rim, RimRow, Trial, TrialEdge, TrialUse, TrialVertex, VertexKind, copy_of, first_trial,
+    Rim, RimRow, Trial, TrialEdge, TrialUse, TrialVertex, VertexKind, copy_of, first_trial, taken,
 };

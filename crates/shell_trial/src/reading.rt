@@ -22,10 +22,17 @@ pub struct Read {
 pub struct Numbers<'a> {
     pub edges: &'a [u32],
     pub vertices: &'a [u32],
+    /// How many uses of edges there are.
+    pub uses: usize,
 }
 
 /// The place of a number in a list that rises; `NONE` where it isn't there.
 pub fn rank(numbers: &[u32], n: u32) -> u32 {
+    // Most shells have numbers without a break.
+    let near = n.saturating_sub(item_at(numbers, 0, NONE));
+    if item_at(numbers, near, NONE) == n {
+        return near;
+    }
     match numbers.binary_search(&n) {
         Ok(i) => short(i),
         Err(_) => NONE,
@@ -96,14 +103,14 @@ pub fn read_faces(
     shell: &Shell,
     first: u32,
 ) -> Read {
-    let mut read = Read {
-        faces: memory.list(),
-        loops: memory.list(),
-        uses: memory.list(),
-        loop_of: memory.list(),
-        face_of: memory.list(),
-    };
     let faces = shell.faces.as_slice();
+    let mut read = Read {
+        faces: memory.room(faces.len()),
+        loops: memory.room(faces.len()),
+        uses: memory.room(numbers.uses),
+        loop_of: memory.room(numbers.uses),
+        face_of: memory.room(numbers.uses),
+    };
     let surfaces = known.surfaces.as_slice();
     'faces: for i in 0..faces.len() {
         let surface = item_at(surfaces, first.saturating_add(short(i)), NONE);

@@ -40,6 +40,8 @@ pub struct Table {
     pub same_way: bool,
     /// Whether some edge has more than two rows.
     pub crowded: bool,
+    /// Whether some edge has one row.
+    pub free: bool,
 }
 
 const NO_ROW: Row = Row {
@@ -195,28 +197,75 @@ fn run_alike(table: &Table, edge: u32) -> bool {
 fn look_over(table: &mut Table) {
     let mut same_way = false;
     let mut crowded = false;
+    let mut free = false;
     'edges: for edge in 0..short(table.count.len()) {
         let count = table.rows_on(edge);
         same_way = same_way || count == 2 && run_alike(table, edge);
         crowded = crowded || count > 2;
+        free = free || count == 1;
     }
     table.same_way = same_way;
     table.crowded = crowded;
+    table.free = free;
 }
 
-/// The rows of a trial.
-pub fn table_of(memory: &mut Memory, facts: &Facts, trial: &Trial) -> Table {
+fn table_with(memory: &mut Memory, trial: &Trial, rows: Vec<Row>) -> Table {
     let edges = short(trial.edges.len());
-    let mut table = Table {
-        rows: memory.many(short(trial.uses.len()), NO_ROW),
+    Table {
+        rows,
         first: memory.filled(edges, NONE),
         count: memory.filled(edges, 0),
         gaps: memory.list(),
         same_way: false,
         crowded: false,
-    };
-    let mut lasts = memory.filled(edges, NONE);
+        free: false,
+    }
+}
+
+/// The rows of a trial.
+pub fn table_of(memory: &mut Memory, facts: &Facts, trial: &Trial) -> Table {
+    let rows = memory.many(short(trial.uses.len()), NO_ROW);
+    let mut table = table_with(memory, trial, rows);
+    let mut lasts = memory.filled(short(trial.edges.len()), NONE);
     add_loops(memory, facts, trial, &mut table, &mut lasts);
+    look_over(&mut table);
+    table
+}
+
+// Lets the rows of faces that are kept name the edges that they have now, and leaves out the others.
+fn keep_rows(facts: &Facts, trial: &Trial, table: &mut Table, lasts: &mut [u32]) {
+    'rows: for i in 0..table.rows.len() {
+        let i = short(i);
+        let row = table.row(i);
+        if row.edge != NONE {
+            if at(&trial.pieces, at(&facts.face_of, i)) == NONE {
+                put_item(&mut table.rows, i, NO_ROW);
+            } else {
+                let edge = trial.item(i).item;
+                let same = NONE;
+                add_row(table, lasts, i, Row { edge, same, ..row });
+            }
+        }
+    }
+}
+
+fn keep_gaps(memory: &mut Memory, facts: &Facts, trial: &Trial, table: &mut Table, gaps: &[Gap]) {
+    'gaps: for i in 0..gaps.len() {
+        let gap = gaps[i];
+        if at(&trial.pieces, facts.walk(gap.at_loop).face) != NONE {
+            memory.add(&mut table.gaps, gap);
+        }
+    }
+}
+
+/// The rows of a trial, by those that it had before faces were removed, or before uses came to name other edges between the same
+/// vertices: each row that is left runs as before, and is followed by the same one.
+pub fn table_after(memory: &mut Memory, facts: &Facts, trial: &Trial, before: &Table) -> Table {
+    let rows = memory.copied(&before.rows);
+    let mut table = table_with(memory, trial, rows);
+    let mut lasts = memory.filled(short(trial.edges.len()), NONE);
+    keep_rows(facts, trial, &mut table, &mut lasts);
+    keep_gaps(memory, facts, trial, &mut table, &before.gaps);
     look_over(&mut table);
     table
 }

@@ -3,6 +3,7 @@
 use crate::cells::{NONE, item_at, put_item, short};
 use crate::facts::{EdgeFact, FaceFact, Facts};
 use crate::memory::Memory;
+use std::mem::replace;
 
 /// A use of an edge or of a vertex.
 #[derive(Clone, Copy)]
@@ -176,6 +177,29 @@ fn first_flags(memory: &mut Memory, faces: &[FaceFact]) -> Vec<bool> {
         memory.add(&mut out, faces[i].flag);
     }
     out
+}
+
+/// A shell of nothing.
+fn no_trial(memory: &Memory) -> Trial {
+    Trial {
+        uses: memory.list(),
+        reversed: memory.list(),
+        flags: memory.list(),
+        pieces: memory.list(),
+        piece_count: 0,
+        edges: memory.list(),
+        vertices: memory.list(),
+        rims: memory.list(),
+        rim_rows: memory.list(),
+        cost: 0,
+        sure: false,
+        split: 0,
+    }
+}
+
+/// Moves a trial out of its place, where nothing is left of it.
+pub fn taken(memory: &Memory, trial: &mut Trial) -> Trial {
+    replace(trial, no_trial(memory))
 }
 
 /// A shell before anything is changed.

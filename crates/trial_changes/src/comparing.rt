@@ -60,6 +60,38 @@ pub fn is_alike(facts: &Facts, trial: &Trial, seams: &Seams, change: &Change) ->
         && are_fates(facts, trial, change.faces.as_slice())
 }
 
+fn loops_are_alike(facts: &Facts, a: &Trial, b: &Trial, number: u32) -> bool {
+    let face = facts.face(number);
+    'loops: for i in 0..face.loops {
+        let i = face.first_loop.saturating_add(i);
+        if is_reversed(facts, a, i) != is_reversed(facts, b, i) {
+            return false;
+        }
+    }
+    true
+}
+
+fn have_one_fate(facts: &Facts, a: &Trial, b: &Trial, number: u32) -> bool {
+    let piece = at(&a.pieces, number);
+    if piece == NONE || piece != at(&b.pieces, number) {
+        return piece == at(&b.pieces, number);
+    }
+    is_set(&a.flags, number) == is_set(&b.flags, number) && loops_are_alike(facts, a, b, number)
+}
+
+/// The same of two trials of a shell, of which the other one sewed nothing.
+pub fn are_alike(facts: &Facts, trial: &Trial, seams: &Seams, other: &Trial) -> bool {
+    if trial.rims.len() != other.rims.len() || !seams_are_alike(seams.list.as_slice(), &[]) {
+        return false;
+    }
+    'faces: for i in 0..facts.faces.len() {
+        if !have_one_fate(facts, trial, other, short(i)) {
+            return false;
+        }
+    }
+    true
+}
+
 // For each face that is removed the first one that is like it, by rising number.
 fn removed(memory: &mut Memory, change: &Change, like: &[u32]) -> Vec<u32> {
     let faces = change.faces.as_slice();

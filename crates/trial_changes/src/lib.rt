@@ -10,5 +10,5 @@ mod telling;
 mod views;
 
 pub use changing::change_of;
-pub use comparing::{is_alike, removed_alike};
+pub use comparing::{are_alike, is_alike, removed_alike};
 pub use seaming::{Seams, seams_of};

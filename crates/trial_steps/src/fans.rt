@@ -59,17 +59,21 @@ fn follow(turns: &[u32], first: u32, marked: &mut [bool]) -> u32 {
     last
 }
 
-fn paths_of(
-    memory: &mut Memory,
-    table: &Table,
-    turns: &[u32],
-    after: &[bool],
-    marked: &mut [bool],
-) -> Vec<Path> {
+// Whether each edge has two rows that are mates.
+fn is_closed(table: &Table) -> bool {
+    !table.free && !table.crowded && !table.same_way
+}
+
+// Where each edge has two mates there is none.
+fn paths_of(memory: &mut Memory, table: &Table, turns: &[u32], marked: &mut [bool]) -> Vec<Path> {
     let mut paths = memory.list();
+    if is_closed(table) {
+        return paths;
+    }
+    let after = turned_to(memory, turns);
     'rows: for i in 0..table.rows.len() {
         let first = short(i);
-        if !is_set(after, first) && table.row(first).edge != NONE {
+        if !is_set(&after, first) && table.row(first).edge != NONE {
             let last = follow(turns, first, marked);
             memory.add(&mut paths, Path { first, last });
         }
@@ -92,9 +96,8 @@ fn cycles_of(memory: &mut Memory, table: &Table, turns: &[u32], marked: &mut [bo
 /// The paths and the cycles of turns.
 pub fn fans_of(memory: &mut Memory, table: &Table) -> Fans {
     let turns = turns_of(memory, table);
-    let after = turned_to(memory, &turns);
     let mut marked = memory.unset(short(table.rows.len()));
-    let paths = paths_of(memory, table, &turns, &after, &mut marked);
+    let paths = paths_of(memory, table, &turns, &mut marked);
     let cycles = cycles_of(memory, table, &turns, &mut marked);
     Fans {
         paths,

@@ -15,7 +15,7 @@ pub use fans::{Fans, Path, fans_of};
 pub use filling::{fill, is_whole};
 pub use parting::{By, part, sets_of};
 pub use separating::separate;
-pub use splitting_edges::{can_split_edges, split_edges};
+pub use splitting_edges::{can_split_edges, rows_to_split, split_edges};
 pub use splitting_vertices::split_vertices;
 pub use turning::turn;
 pub use turning_uses::turn_uses;

@@ -94,17 +94,22 @@ fn pair_rows(memory: &mut Memory, trial: &mut Trial, table: &Table, rows: &[Key]
     }
 }
 
-/// Splits each edge with four rows or more into edges with two. That can be where each has as many rows along as against.
+/// The rows of edges with four rows or more, in the order in which they are paired.
+pub fn rows_to_split(memory: &mut Memory, facts: &Facts, table: &Table) -> Vec<Key> {
+    let mut patches = sets_of(memory, facts, table, By::Pairs);
+    crowded_rows(memory, facts, table, &mut patches)
+}
+
+/// Splits each edge with four rows or more into edges with two; these are their rows. That can be where each has as many rows along
+/// as against.
 pub fn split_edges(
     memory: &mut Memory,
-    facts: &Facts,
     trial: &mut Trial,
     table: &Table,
+    rows: &[Key],
     further: u32,
 ) {
-    let mut patches = sets_of(memory, facts, table, By::Pairs);
-    let rows = crowded_rows(memory, facts, table, &mut patches);
-    pair_rows(memory, trial, table, &rows, further);
+    pair_rows(memory, trial, table, rows, further);
     trial.pay(4);
     trial.split = further.saturating_add(1);
 }
