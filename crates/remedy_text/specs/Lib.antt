@@ -4,3 +4,4 @@ pub mod Bodies
 pub mod Lines
 pub mod Steps
 pub mod Remedies
+pub mod Viewed

@@ -2,12 +2,10 @@
 
 ghost use Rattle.std.specs.Prelude.{◌≡◌, ◌<◌, ◌^◌, ◌++◌, ◌∷◌, [], OnOk, flat_map, map, option_copied};
 ghost use Rattle.std.specs.List.{enumerate_from};
-ghost use Rattle.where_text.specs.Listing.{shown};
 ghost use Rattle.remedy_text.specs.declared.sentences.Step.TheVariants as step;
-ghost use Rattle.remedy_text.specs.Bodies.{bodies as are_bodies};
-ghost use Rattle.remedy_text.specs.Lines.{body_item, edge_name_words, renewed_words, rim_edge_words, rim_item};
-ghost use Rattle.remedy_text.specs.Steps.{body_steps, first_face, numbered_step_text};
-ghost use Rattle.remedy_text.specs.Told.{faces_of as all_faces, told_if};
+ghost use Rattle.remedy_text.specs.Steps.{first_face};
+ghost use Rattle.remedy_text.specs.Told.{told_if};
+ghost use Rattle.remedy_text.specs.Viewed.{bodies as are_bodies, body_item, body_steps, edge_name_words, numbered_step_text, renewed_words, rim_edge_words, rim_item, shown};
 
 use crate::bodies::{Body, bodies};
 use crate::sentences::Step;
@@ -29,7 +27,7 @@ fn put_body(
     body: Body,
 ) -> Result<(), NoMemory>
     requires { i < 2 ^ 62 }
-    ensures text { OnOk result (out.new ≡ out.old ++ body_item view.now.file.now (i, body)) }
+    ensures text { OnOk result (out.new ≡ out.old ++ body_item view.now (i, body)) }
     ensures named { OnOk result (named.new ≡ named.old ++ body.first ∷ []) }
 {
     put_count(out, "body", i + 1)?;
@@ -46,7 +44,7 @@ fn put_each_body(
     bodies: &[Body],
 ) -> Result<(), NoMemory>
     ensures text { OnOk result (out.new
-        ≡ out.old ++ flat_map (body_item view.now.file.now) (enumerate_from 0 bodies.now)) }
+        ≡ out.old ++ flat_map (body_item view.now) (enumerate_from 0 bodies.now)) }
     ensures named { OnOk result (named.new ≡ named.old ++ map first_face bodies.now) }
 {
     'bodies: for i in 0..bodies.len() {
@@ -62,9 +60,9 @@ fn put_bodies(
     bodies: &[Body],
 ) -> Result<(), NoMemory>
     ensures text { OnOk result (out.new ≡ out.old
-        ++ numbered_step_text step.Part view.now.listing (body_item view.now.file.now) bodies.now) }
+        ++ numbered_step_text step.Part view.now (body_item view.now) bodies.now) }
     ensures named { OnOk result (named.new
-        ≡ named.old ++ map first_face (shown view.now.listing bodies.now)) }
+        ≡ named.old ++ map first_face (shown view.now bodies.now)) }
 {
     put_step_head(out, Step::Part, bodies.len())?;
     put_each_body(out, named, view, shown_members(view.listing, bodies))?;
@@ -73,7 +71,7 @@ fn put_bodies(
 
 fn put_like(out: &mut Out, view: &RemedyView<'_>, edge: Option<&NewEdge>) -> Result<(), NoMemory>
     ensures { OnOk result (out.new ≡ out.old
-        ++ told_if (renewed_words view.now.solid.now) (option_copied edge.entry)) }
+        ++ told_if (renewed_words view.now) (option_copied edge.entry)) }
 {
     match edge {
         Some(edge) => put_edge(out, view, edge.like),
@@ -87,8 +85,7 @@ fn put_name(
     edges: &ItemList<NewEdge>,
     edge: EdgeName,
 ) -> Result<(), NoMemory>
-    ensures { OnOk result (out.new ≡ out.old
-        ++ edge_name_words view.now.solid.now edges.now edge) }
+    ensures { OnOk result (out.new ≡ out.old ++ edge_name_words view.now edges.now edge) }
 {
     match edge {
         EdgeName::Old(edge) => put_edge(out, view, edge),
@@ -104,7 +101,7 @@ fn put_first(
     first: Option<&RimEdge>,
 ) -> Result<(), NoMemory>
     ensures { OnOk result (out.new ≡ out.old
-        ++ told_if (rim_edge_words view.now.solid.now edges.now) (option_copied first.entry)) }
+        ++ told_if (rim_edge_words view.now edges.now) (option_copied first.entry)) }
 {
     match first {
         Some(first) => put_name(out, view, edges, first.edge),
@@ -122,7 +119,7 @@ fn put_rim(
     rim: &Rim,
 ) -> Result<(), NoMemory>
     requires { i < 2 ^ 62 }
-    ensures { OnOk result (out.new ≡ out.old ++ rim_item view.now.solid.now edges.now (i, rim.now)) }
+    ensures { OnOk result (out.new ≡ out.old ++ rim_item view.now edges.now (i, rim.now)) }
 {
     put_count(out, "rim", i + 1)?;
     put_count(out, " edges", rim.edges.len())?;
@@ -137,7 +134,7 @@ fn put_each_rim(
     rims: &[Rim],
 ) -> Result<(), NoMemory>
     ensures { OnOk result (out.new ≡ out.old
-        ++ flat_map (rim_item view.now.solid.now edges.now) (enumerate_from 0 rims.now)) }
+        ++ flat_map (rim_item view.now edges.now) (enumerate_from 0 rims.now)) }
 {
     'rims: for i in 0..rims.len() {
         put_rim(out, view, edges, i, &rims[i])?;
@@ -152,7 +149,7 @@ fn put_rims(
     rims: &[Rim],
 ) -> Result<(), NoMemory>
     ensures { OnOk result (out.new ≡ out.old
-        ++ numbered_step_text step.Fill view.now.listing (rim_item view.now.solid.now edges.now) rims.now) }
+        ++ numbered_step_text step.Fill view.now (rim_item view.now edges.now) rims.now) }
 {
     put_step_head(out, Step::Fill, rims.len())?;
     put_each_rim(out, view, edges, shown_members(view.listing, rims))?;
@@ -167,11 +164,9 @@ pub(crate) fn put_body_steps(
     view: &RemedyView<'_>,
     change: &Change,
 ) -> Result<(), NoMemory>
-    ensures text { OnOk result (out.new ≡ out.old
-        ++ body_steps view.now.listing view.now.file.now view.now.solid.now change.now) }
+    ensures text { OnOk result (out.new ≡ out.old ++ body_steps view.now change.now) }
     ensures named { OnOk result (named.new ≡ named.old
-        ++ map first_face (shown view.now.listing
-        (are_bodies (all_faces view.now.solid.now change.now.shell.0) change.now.faces))) }
+        ++ map first_face (shown view.now (are_bodies view.now change.now))) }
 {
     let faces = faces_of(view.solid, change.shell);
     let bodies = bodies(alloc, faces, &change.faces)?;

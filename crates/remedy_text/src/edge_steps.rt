@@ -2,9 +2,9 @@
 
 ghost use Rattle.std.specs.Prelude.{◌≡◌, ◌++◌, OnOk, flat_map, option_copied};
 ghost use Rattle.remedy_text.specs.declared.sentences.Step.TheVariants as step;
-ghost use Rattle.remedy_text.specs.Lines.{copy_item, copy_words, end_words, how_word as word_of, renew_item, seam_item};
-ghost use Rattle.remedy_text.specs.Steps.{edge_steps, step_text};
+ghost use Rattle.remedy_text.specs.Lines.{how_word as word_of};
 ghost use Rattle.remedy_text.specs.Told.{told_if};
+ghost use Rattle.remedy_text.specs.Viewed.{copy_item, copy_words, edge_steps, end_words, renew_item, seam_item, step_text};
 
 use crate::sentences::Step;
 use crate::view::RemedyView;
@@ -25,7 +25,7 @@ fn how_word(how: Told) -> &'static str
 
 #[tactic(auto, unfolding(crate::specs::Lines::seam_item))]
 fn put_seam(out: &mut Out, view: &RemedyView<'_>, seam: Seam) -> Result<(), NoMemory>
-    ensures { OnOk result (out.new ≡ out.old ++ seam_item view.now.solid.now seam) }
+    ensures { OnOk result (out.new ≡ out.old ++ seam_item view.now seam) }
 {
     out.put(b"seam")?;
     put_word(out, how_word(seam.told))?;
@@ -35,7 +35,7 @@ fn put_seam(out: &mut Out, view: &RemedyView<'_>, seam: Seam) -> Result<(), NoMe
 }
 
 fn put_each_seam(out: &mut Out, view: &RemedyView<'_>, seams: &[Seam]) -> Result<(), NoMemory>
-    ensures { OnOk result (out.new ≡ out.old ++ flat_map (seam_item view.now.solid.now) seams.now) }
+    ensures { OnOk result (out.new ≡ out.old ++ flat_map (seam_item view.now) seams.now) }
 {
     'seams: for i in 0..seams.len() {
         put_seam(out, view, seams[i])?;
@@ -45,7 +45,7 @@ fn put_each_seam(out: &mut Out, view: &RemedyView<'_>, seams: &[Seam]) -> Result
 
 fn put_seams(out: &mut Out, view: &RemedyView<'_>, seams: &[Seam]) -> Result<(), NoMemory>
     ensures { OnOk result (out.new ≡ out.old
-        ++ step_text step.Sew view.now.listing (seam_item view.now.solid.now) seams.now) }
+        ++ step_text step.Sew view.now (seam_item view.now) seams.now) }
 {
     put_step_head(out, Step::Sew, seams.len())?;
     put_each_seam(out, view, shown_members(view.listing, seams))?;
@@ -54,7 +54,7 @@ fn put_seams(out: &mut Out, view: &RemedyView<'_>, seams: &[Seam]) -> Result<(),
 
 #[tactic(auto, unfolding(crate::specs::Lines::copy_item))]
 fn put_copy(out: &mut Out, view: &RemedyView<'_>, vertex: NewVertex) -> Result<(), NoMemory>
-    ensures { OnOk result (out.new ≡ out.old ++ copy_item view.now.file.now view.now.solid.now vertex) }
+    ensures { OnOk result (out.new ≡ out.old ++ copy_item view.now vertex) }
 {
     out.put(b"copy vertex")?;
     put_vertex(out, view, vertex.like)?;
@@ -66,8 +66,7 @@ fn put_each_copy(
     view: &RemedyView<'_>,
     vertices: &[NewVertex],
 ) -> Result<(), NoMemory>
-    ensures { OnOk result (out.new
-        ≡ out.old ++ flat_map (copy_item view.now.file.now view.now.solid.now) vertices.now) }
+    ensures { OnOk result (out.new ≡ out.old ++ flat_map (copy_item view.now) vertices.now) }
 {
     'vertices: for i in 0..vertices.len() {
         put_copy(out, view, vertices[i])?;
@@ -77,7 +76,7 @@ fn put_each_copy(
 
 fn put_copies(out: &mut Out, view: &RemedyView<'_>, vertices: &[NewVertex]) -> Result<(), NoMemory>
     ensures { OnOk result (out.new ≡ out.old
-        ++ step_text step.Copy view.now.listing (copy_item view.now.file.now view.now.solid.now) vertices.now) }
+        ++ step_text step.Copy view.now (copy_item view.now) vertices.now) }
 {
     put_step_head(out, Step::Copy, vertices.len())?;
     put_each_copy(out, view, shown_members(view.listing, vertices))?;
@@ -90,7 +89,7 @@ fn put_like(
     vertex: Option<&NewVertex>,
 ) -> Result<(), NoMemory>
     ensures { OnOk result (out.new ≡ out.old
-        ++ told_if (copy_words view.now.file.now view.now.solid.now) (option_copied vertex.entry)) }
+        ++ told_if (copy_words view.now) (option_copied vertex.entry)) }
 {
     match vertex {
         Some(vertex) => put_vertex(out, view, vertex.like),
@@ -105,8 +104,7 @@ fn put_end(
     vertices: &ItemList<NewVertex>,
     end: VertexName,
 ) -> Result<(), NoMemory>
-    ensures { OnOk result (out.new ≡ out.old
-        ++ end_words view.now.file.now view.now.solid.now vertices.now end) }
+    ensures { OnOk result (out.new ≡ out.old ++ end_words view.now vertices.now end) }
 {
     match end {
         VertexName::Old(vertex) => put_vertex(out, view, vertex),
@@ -121,8 +119,7 @@ fn put_renewed(
     vertices: &ItemList<NewVertex>,
     edge: NewEdge,
 ) -> Result<(), NoMemory>
-    ensures { OnOk result (out.new ≡ out.old
-        ++ renew_item view.now.file.now view.now.solid.now vertices.now edge) }
+    ensures { OnOk result (out.new ≡ out.old ++ renew_item view.now vertices.now edge) }
 {
     out.put(b"renew")?;
     put_edge(out, view, edge.like)?;
@@ -140,7 +137,7 @@ fn put_each_renewed(
     edges: &[NewEdge],
 ) -> Result<(), NoMemory>
     ensures { OnOk result (out.new ≡ out.old
-        ++ flat_map (renew_item view.now.file.now view.now.solid.now vertices.now) edges.now) }
+        ++ flat_map (renew_item view.now vertices.now) edges.now) }
 {
     'edges: for i in 0..edges.len() {
         put_renewed(out, view, vertices, edges[i])?;
@@ -155,7 +152,7 @@ fn put_all_renewed(
     edges: &[NewEdge],
 ) -> Result<(), NoMemory>
     ensures { OnOk result (out.new ≡ out.old
-        ++ step_text step.Renew view.now.listing (renew_item view.now.file.now view.now.solid.now vertices.now) edges.now) }
+        ++ step_text step.Renew view.now (renew_item view.now vertices.now) edges.now) }
 {
     put_step_head(out, Step::Renew, edges.len())?;
     put_each_renewed(out, view, vertices, shown_members(view.listing, edges))?;
@@ -168,8 +165,7 @@ pub(crate) fn put_edge_steps(
     view: &RemedyView<'_>,
     change: &Change,
 ) -> Result<(), NoMemory>
-    ensures { OnOk result (out.new ≡ out.old
-        ++ edge_steps view.now.listing view.now.file.now view.now.solid.now change.now) }
+    ensures { OnOk result (out.new ≡ out.old ++ edge_steps view.now change.now) }
 {
     put_seams(out, view, change.seams.as_slice())?;
     put_copies(out, view, change.vertices.as_slice())?;

@@ -1,10 +1,7 @@
 //! The steps of faces.
 
 ghost use Rattle.std.specs.Prelude.{◌≡◌, ◌++◌, ◌∷◌, [], OnOk, flat_map};
-ghost use Rattle.where_text.specs.Listing.{shown};
-ghost use Rattle.remedy_text.specs.Lines.{face_item};
-ghost use Rattle.remedy_text.specs.Steps.{face_steps, step_text};
-ghost use Rattle.remedy_text.specs.Told.{faces_of as all_faces, removed as are_removed, turned as are_turned};
+ghost use Rattle.remedy_text.specs.Viewed.{face_item, face_steps, removed as are_removed, shown, step_text, turned as are_turned};
 
 use crate::sentences::Step;
 use crate::told::{faces_of, removed, turned};
@@ -23,7 +20,7 @@ fn put_face_item(
     word: &str,
     face: EntryNo,
 ) -> Result<(), NoMemory>
-    ensures text { OnOk result (out.new ≡ out.old ++ face_item word.now view.now.file.now face) }
+    ensures text { OnOk result (out.new ≡ out.old ++ face_item word.now view.now face) }
     ensures named { OnOk result (named.new ≡ named.old ++ face ∷ []) }
 {
     out.put(word.as_bytes())?;
@@ -39,7 +36,7 @@ fn put_face_items(
     faces: &[EntryNo],
 ) -> Result<(), NoMemory>
     ensures text { OnOk result (out.new
-        ≡ out.old ++ flat_map (face_item word.now view.now.file.now) faces.now) }
+        ≡ out.old ++ flat_map (face_item word.now view.now) faces.now) }
     ensures named { OnOk result (named.new ≡ named.old ++ faces.now) }
 {
     'faces: for i in 0..faces.len() {
@@ -58,8 +55,8 @@ fn put_faces(
     faces: &[EntryNo],
 ) -> Result<(), NoMemory>
     ensures text { OnOk result (out.new ≡ out.old
-        ++ step_text step view.now.listing (face_item word.now view.now.file.now) faces.now) }
-    ensures named { OnOk result (named.new ≡ named.old ++ shown view.now.listing faces.now) }
+        ++ step_text step view.now (face_item word.now view.now) faces.now) }
+    ensures named { OnOk result (named.new ≡ named.old ++ shown view.now faces.now) }
 {
     put_step_head(out, step, faces.len())?;
     put_face_items(out, named, view, word, shown_members(view.listing, faces))?;
@@ -74,11 +71,10 @@ pub(crate) fn put_face_steps(
     view: &RemedyView<'_>,
     change: &Change,
 ) -> Result<(), NoMemory>
-    ensures text { OnOk result (out.new ≡ out.old
-        ++ face_steps view.now.listing view.now.file.now view.now.solid.now change.now) }
+    ensures text { OnOk result (out.new ≡ out.old ++ face_steps view.now change.now) }
     ensures named { OnOk result (named.new ≡ named.old
-        ++ shown view.now.listing (are_removed (all_faces view.now.solid.now change.now.shell.0) change.now.faces)
-        ++ shown view.now.listing (are_turned (all_faces view.now.solid.now change.now.shell.0) change.now.faces)) }
+        ++ shown view.now (are_removed view.now change.now)
+        ++ shown view.now (are_turned view.now change.now)) }
 {
     let faces = faces_of(view.solid, change.shell);
     let removed = removed(alloc, faces, &change.faces)?;

@@ -1,11 +1,10 @@
 //! The steps of loops and their uses.
 
 ghost use Rattle.std.specs.Prelude.{◌≡◌, ◌++◌, ◌∷◌, [], OnOk, flat_map, map};
-ghost use Rattle.where_text.specs.Listing.{shown};
 ghost use Rattle.remedy_text.specs.declared.sentences.Step.TheVariants as step;
-ghost use Rattle.remedy_text.specs.Lines.{flag_item, flag_number as number_of, loop_item};
-ghost use Rattle.remedy_text.specs.Steps.{loop_face, loop_steps, step_text};
-ghost use Rattle.remedy_text.specs.Told.{faces_of as all_faces, reversed as are_reversed};
+ghost use Rattle.remedy_text.specs.Lines.{flag_item, flag_number as number_of};
+ghost use Rattle.remedy_text.specs.Steps.{loop_face, step_text as listed_step_text};
+ghost use Rattle.remedy_text.specs.Viewed.{loop_item, loop_steps, reversed as are_reversed, shown, step_text};
 
 use crate::loops::reversed;
 use crate::sentences::Step;
@@ -25,7 +24,7 @@ fn put_loop_item(
     view: &RemedyView<'_>,
     item: FaceLoop,
 ) -> Result<(), NoMemory>
-    ensures text { OnOk result (out.new ≡ out.old ++ loop_item view.now.file.now item) }
+    ensures text { OnOk result (out.new ≡ out.old ++ loop_item view.now item) }
     ensures named { OnOk result (named.new ≡ named.old ++ item.face ∷ []) }
 {
     put_count(out, "reverse loop", item.walk.0 as usize)?;
@@ -40,7 +39,7 @@ fn put_loop_items(
     view: &RemedyView<'_>,
     loops: &[FaceLoop],
 ) -> Result<(), NoMemory>
-    ensures text { OnOk result (out.new ≡ out.old ++ flat_map (loop_item view.now.file.now) loops.now) }
+    ensures text { OnOk result (out.new ≡ out.old ++ flat_map (loop_item view.now) loops.now) }
     ensures named { OnOk result (named.new ≡ named.old ++ map loop_face loops.now) }
 {
     'loops: for i in 0..loops.len() {
@@ -56,8 +55,8 @@ fn put_reversed(
     loops: &[FaceLoop],
 ) -> Result<(), NoMemory>
     ensures text { OnOk result (out.new ≡ out.old
-        ++ step_text step.Reverse view.now.listing (loop_item view.now.file.now) loops.now) }
-    ensures named { OnOk result (named.new ≡ named.old ++ map loop_face (shown view.now.listing loops.now)) }
+        ++ step_text step.Reverse view.now (loop_item view.now) loops.now) }
+    ensures named { OnOk result (named.new ≡ named.old ++ map loop_face (shown view.now loops.now)) }
 {
     put_step_head(out, Step::Reverse, loops.len())?;
     put_loop_items(out, named, view, shown_members(view.listing, loops))?;
@@ -90,7 +89,7 @@ fn put_flag_items(out: &mut Out, items: &[TupleFlag]) -> Result<(), NoMemory>
 }
 
 fn put_flags(out: &mut Out, listing: Listing, items: &[TupleFlag]) -> Result<(), NoMemory>
-    ensures { OnOk result (out.new ≡ out.old ++ step_text step.Flags listing flag_item items.now) }
+    ensures { OnOk result (out.new ≡ out.old ++ listed_step_text step.Flags listing flag_item items.now) }
 {
     put_step_head(out, Step::Flags, items.len())?;
     put_flag_items(out, shown_members(listing, items))?;
@@ -105,11 +104,9 @@ pub(crate) fn put_loop_steps(
     view: &RemedyView<'_>,
     change: &Change,
 ) -> Result<(), NoMemory>
-    ensures text { OnOk result (out.new ≡ out.old
-        ++ loop_steps view.now.listing view.now.file.now view.now.solid.now change.now) }
+    ensures text { OnOk result (out.new ≡ out.old ++ loop_steps view.now change.now) }
     ensures named { OnOk result (named.new ≡ named.old
-        ++ map loop_face (shown view.now.listing
-        (are_reversed (all_faces view.now.solid.now change.now.shell.0) change.now.faces))) }
+        ++ map loop_face (shown view.now (are_reversed view.now change.now))) }
 {
     let faces = faces_of(view.solid, change.shell);
     let reversed = reversed(alloc, faces, &change.faces)?;

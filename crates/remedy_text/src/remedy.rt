@@ -1,8 +1,8 @@
 //! The paragraphs on the remedies of a shell.
 
 ghost use Rattle.std.specs.Prelude.{◌≡◌, ◌++◌, OnOk};
-ghost use Rattle.remedy_text.specs.Remedies.{explanation, more_remedies, remedy_head, remedy_text, stuck_text};
-ghost use Rattle.remedy_text.specs.Steps.{steps_named, steps_text};
+ghost use Rattle.remedy_text.specs.Remedies.{explanation, more_remedies, remedy_head, stuck_text};
+ghost use Rattle.remedy_text.specs.Viewed.{remedy_text, steps_named, steps_text};
 
 use crate::body_steps::put_body_steps;
 use crate::edge_steps::put_edge_steps;
@@ -54,10 +54,8 @@ fn put_steps(
     view: &RemedyView<'_>,
     change: &Change,
 ) -> Result<(), NoMemory>
-    ensures text { OnOk result (out.new ≡ out.old
-        ++ steps_text view.now.listing view.now.file.now view.now.solid.now change.now) }
-    ensures named { OnOk result (named.new ≡ named.old
-        ++ steps_named view.now.listing view.now.solid.now change.now) }
+    ensures text { OnOk result (out.new ≡ out.old ++ steps_text view.now change.now) }
+    ensures named { OnOk result (named.new ≡ named.old ++ steps_named view.now change.now) }
 {
     put_face_steps(alloc, out, named, view, change)?;
     put_loop_steps(alloc, out, named, view, change)?;
@@ -74,10 +72,8 @@ pub fn put_remedy(
     heading: Heading,
     change: &Change,
 ) -> Result<(), NoMemory>
-    ensures text { OnOk result (out.new ≡ out.old
-        ++ remedy_text view.now.listing view.now.file.now view.now.solid.now heading change.now) }
-    ensures named { OnOk result (named.new ≡ named.old
-        ++ steps_named view.now.listing view.now.solid.now change.now) }
+    ensures text { OnOk result (out.new ≡ out.old ++ remedy_text view.now heading change.now) }
+    ensures named { OnOk result (named.new ≡ named.old ++ steps_named view.now change.now) }
 {
     put_remedy_head(out, heading, change.shell)?;
     put_steps(alloc, out, named, view, change)

@@ -1,9 +1,8 @@
 //! Words that lines share, and the head of a step.
 
 ghost use Rattle.std.specs.Prelude.{◌≡◌, ◌++◌, ◌∷◌, [], OnOk};
-ghost use Rattle.spelled_solid.specs.Words.{vertex_named};
-ghost use Rattle.where_text.specs.Places.{face_words};
-ghost use Rattle.remedy_text.specs.Lines.{edge_words, number_words, step_head};
+ghost use Rattle.remedy_text.specs.Lines.{number_words, step_head};
+ghost use Rattle.remedy_text.specs.Viewed.{edge_words, face_words, vertex_named};
 
 use crate::sentences::{Step, put_step_sentence, step_words};
 use crate::view::RemedyView;
@@ -39,7 +38,7 @@ pub(crate) fn put_face(
     view: &RemedyView<'_>,
     face: EntryNo,
 ) -> Result<(), NoMemory>
-    ensures text { OnOk result (out.new ≡ out.old ++ face_words view.now.file.now face) }
+    ensures text { OnOk result (out.new ≡ out.old ++ face_words view.now face) }
     ensures named { OnOk result (named.new ≡ named.old ++ face ∷ []) }
 {
     view.spelled.put_face(out, named, face)
@@ -51,15 +50,14 @@ pub(crate) fn put_vertex(
     view: &RemedyView<'_>,
     vertex: VertexId,
 ) -> Result<(), NoMemory>
-    ensures { OnOk result (out.new
-        ≡ out.old ++ vertex_named view.now.file.now view.now.solid.now vertex.0) }
+    ensures { OnOk result (out.new ≡ out.old ++ vertex_named view.now vertex.0) }
 {
     view.spelled.put_vertex(out, vertex)
 }
 
 /// An edge: its list, and its index there.
 pub(crate) fn put_edge(out: &mut Out, view: &RemedyView<'_>, edge: EdgeId) -> Result<(), NoMemory>
-    ensures { OnOk result (out.new ≡ out.old ++ edge_words view.now.solid.now edge) }
+    ensures { OnOk result (out.new ≡ out.old ++ edge_words view.now edge) }
 {
     let key = view.solid.edge_key(edge);
     out.put(b" edge")?;

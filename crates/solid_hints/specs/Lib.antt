@@ -1,3 +1,4 @@
 pub mod AllFaults
 pub mod Flags
 pub mod ShellHints
+pub mod Viewed

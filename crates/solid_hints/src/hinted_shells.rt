@@ -1,9 +1,9 @@
 //! The hints on the failing shells of a solid.
 
 ghost use Rattle.iges_base.specs.declared.entry_no.EntryNo.{EntryNo as AnyEntryNo};
-ghost use Rattle.solid_geometry.specs.Known.{IsGeometryOf};
 ghost use Rattle.std.specs.Prelude.{◌≡◌, ◌++◌, IfOk, List, flat_map, ℕ};
-ghost use Rattle.solid_hints.specs.ShellHints.{AreRemediesOf, IsHint, ShellRemedies, named_at, remedies_at};
+ghost use Rattle.solid_hints.specs.ShellHints.{ShellRemedies};
+ghost use Rattle.solid_hints.specs.Viewed.{AreRemediesOf, IsGeometryOf, IsHint, file_solid, named_at, remedies_at};
 
 use crate::flags::{pair_fails, put_flags, tells_flags, unset_flags};
 use crate::remedies::{TriedSolid, put_each_tried};
@@ -36,11 +36,11 @@ fn put_below(
     known: &Known,
     shells: &[u32],
 ) -> Result<(), NoMemory>
-    requires { IsGeometryOf view.now.file.now view.now.solid.now known.now.geometry }
+    requires { IsGeometryOf view.now known.now.geometry }
     ensures { IfOk result (λ _. (told : List ShellRemedies)
-        × AreRemediesOf view.now.file.now view.now.solid.now shells.now told
-        × (out.new ≡ out.old ++ flat_map (remedies_at view.now.listing view.now.file.now view.now.solid.now) told)
-        × (named.new ≡ named.old ++ flat_map (named_at view.now.listing view.now.solid.now) told)) }
+        × AreRemediesOf view.now shells.now told
+        × (out.new ≡ out.old ++ flat_map (remedies_at view.now) told)
+        × (named.new ≡ named.old ++ flat_map (named_at view.now) told)) }
 {
     let belows = belows(alloc, view.solid)?;
     let tried = TriedSolid {
@@ -62,9 +62,9 @@ fn put_known(
     shells: &[u32],
 ) -> Result<(), NoMemory>
     ensures { IfOk result (λ _. (told : List ShellRemedies)
-        × AreRemediesOf view.now.file.now view.now.solid.now shells.now told
-        × (out.new ≡ out.old ++ flat_map (remedies_at view.now.listing view.now.file.now view.now.solid.now) told)
-        × (named.new ≡ named.old ++ flat_map (named_at view.now.listing view.now.solid.now) told)) }
+        × AreRemediesOf view.now shells.now told
+        × (out.new ≡ out.old ++ flat_map (remedies_at view.now) told)
+        × (named.new ≡ named.old ++ flat_map (named_at view.now) told)) }
 {
     if shells.is_empty() {
         return Ok(());
@@ -86,9 +86,9 @@ pub fn put_hint(
     spelled: &SpelledSolid<'_>,
     shells: &[u32],
 ) -> Result<(), NoMemory>
-    requires { spelled.now ≡ record { file = view.now.file.now; solid = view.now.solid.now } }
+    requires { spelled.now ≡ file_solid view.now }
     ensures { IfOk result (λ _. (told : List ShellRemedies) × (hint : List ℕ) × (faces : List AnyEntryNo)
-        × IsHint view.now.listing view.now.file.now view.now.solid.now view.now.all.now shells.now told hint faces
+        × IsHint view.now shells.now told hint faces
         × (out.new ≡ out.old ++ hint) × (named.new ≡ named.old ++ faces)) }
 {
     let unset = unset_flags(view.solid);

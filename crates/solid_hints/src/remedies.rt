@@ -2,9 +2,8 @@
 
 ghost use Rattle.edge_uses.specs.Before.{AreBelow};
 ghost use Rattle.shell_change.specs.declared.change.Remedy.{Remedy as AnyRemedy};
-ghost use Rattle.solid_geometry.specs.Known.{IsGeometryOf};
-ghost use Rattle.solid_hints.specs.ShellHints.{AreRemediesOf, IsRemedy, ShellRemedies, faces_named, named_at, remedies_at, remedies_text, remedy_at, written as are_written, written_count as most_written};
-ghost use Rattle.solid_hints.specs.AllFaults.{EachBelow};
+ghost use Rattle.solid_hints.specs.ShellHints.{ShellRemedies, written as are_written, written_count as most_written};
+ghost use Rattle.solid_hints.specs.Viewed.{AreRemediesOf, HasBelows, IsKnown, IsRemedy, faces_named, named_at, remedies_at, remedies_text, remedy_at, written_of};
 ghost use Rattle.tried_remedies.specs.Tried.{AreTried};
 ghost use Rattle.std.specs.List.{enumerate_from};
 ghost use Rattle.std.specs.Prelude.{◌≡◌, ◌≤◌, ◌+◌, ◌==◌, ◌++◌, All, IfOk, IfSome, List, OnOk, flat_map, length, slice_get, ℕ};
@@ -60,9 +59,8 @@ fn put_numbered(
 ) -> Result<(), NoMemory>
     ensures text { (place : ℕ) → heading ≡ record { number = place + 1; explained = place == 0 }
         → OnOk result (out.new ≡ out.old
-        ++ remedy_at view.now.listing view.now.file.now view.now.solid.now (place, remedy.now)) }
-    ensures named { OnOk result (named.new ≡ named.old
-        ++ faces_named view.now.listing view.now.solid.now remedy.now) }
+        ++ remedy_at view.now (place, remedy.now)) }
+    ensures named { OnOk result (named.new ≡ named.old ++ faces_named view.now remedy.now) }
 {
     put_remedy(alloc, out, named, view, heading, &remedy.change)
 }
@@ -75,9 +73,9 @@ fn put_each(
     remedies: &[Remedy],
 ) -> Result<(), NoMemory>
     ensures text { OnOk result (out.new ≡ out.old
-        ++ flat_map (remedy_at view.now.listing view.now.file.now view.now.solid.now) (enumerate_from 0 remedies.now)) }
+        ++ flat_map (remedy_at view.now) (enumerate_from 0 remedies.now)) }
     ensures named { OnOk result (named.new ≡ named.old
-        ++ flat_map (faces_named view.now.listing view.now.solid.now) remedies.now) }
+        ++ flat_map (faces_named view.now) remedies.now) }
 {
     'remedies: for i in 0..remedies.len() {
         let heading = Heading {
@@ -98,10 +96,9 @@ fn put_remedies(
     shell: ShellAt,
     remedies: &[Remedy],
 ) -> Result<(), NoMemory>
-    ensures text { OnOk result (out.new ≡ out.old
-        ++ remedies_text view.now.listing view.now.file.now view.now.solid.now shell.0 remedies.now) }
+    ensures text { OnOk result (out.new ≡ out.old ++ remedies_text view.now shell.0 remedies.now) }
     ensures named { OnOk result (named.new ≡ named.old
-        ++ flat_map (faces_named view.now.listing view.now.solid.now) (are_written view.now.listing remedies.now)) }
+        ++ flat_map (faces_named view.now) (written_of view.now remedies.now)) }
 {
     if remedies.is_empty() {
         return put_stuck(out, shell);
@@ -142,13 +139,13 @@ fn put_tried(
     view: &TriedSolid<'_>,
     k: u32,
 ) -> Result<(), NoMemory>
-    requires known { IsGeometryOf view.now.on.now.file.now view.now.on.now.solid.now view.now.known.now.geometry }
-    requires belows { EachBelow view.now.on.now.solid.now view.now.belows.now }
+    requires known { IsKnown view.now }
+    requires belows { HasBelows view.now }
     ensures { IfOk result (λ _. (rs : List AnyRemedy)
-        × All (IsRemedy view.now.on.now.file.now view.now.on.now.solid.now k) rs
-        × (out.new ≡ out.old ++ remedies_text view.now.on.now.listing view.now.on.now.file.now view.now.on.now.solid.now k rs)
+        × All (IsRemedy view.now.on.now k) rs
+        × (out.new ≡ out.old ++ remedies_text view.now.on.now k rs)
         × (named.new ≡ named.old
-        ++ flat_map (faces_named view.now.on.now.listing view.now.on.now.solid.now) (are_written view.now.on.now.listing rs))) }
+        ++ flat_map (faces_named view.now.on.now) (written_of view.now.on.now rs))) }
 {
     let below = below_at(view.belows, k);
     let remedies = remedies_of(alloc, view.on.solid, view.known, k, below)?;
@@ -166,12 +163,12 @@ pub fn put_each_tried(
     view: &TriedSolid<'_>,
     shells: &[u32],
 ) -> Result<(), NoMemory>
-    requires known { IsGeometryOf view.now.on.now.file.now view.now.on.now.solid.now view.now.known.now.geometry }
-    requires belows { EachBelow view.now.on.now.solid.now view.now.belows.now }
+    requires known { IsKnown view.now }
+    requires belows { HasBelows view.now }
     ensures { IfOk result (λ _. (told : List ShellRemedies)
-        × AreRemediesOf view.now.on.now.file.now view.now.on.now.solid.now shells.now told
-        × (out.new ≡ out.old ++ flat_map (remedies_at view.now.on.now.listing view.now.on.now.file.now view.now.on.now.solid.now) told)
-        × (named.new ≡ named.old ++ flat_map (named_at view.now.on.now.listing view.now.on.now.solid.now) told)) }
+        × AreRemediesOf view.now.on.now shells.now told
+        × (out.new ≡ out.old ++ flat_map (remedies_at view.now.on.now) told)
+        × (named.new ≡ named.old ++ flat_map (named_at view.now.on.now) told)) }
 {
     'shells: for i in 0..shells.len() {
         put_tried(alloc, out, named, view, shells[i])?;

@@ -4,3 +4,4 @@ pub mod Pair
 pub mod Reach
 pub mod Link
 pub mod Apart
+pub mod Viewed

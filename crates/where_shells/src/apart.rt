@@ -1,11 +1,9 @@
 //! The paragraph on vertices that a shell shares with shells before it.
 
-ghost use Rattle.std.specs.Prelude.{◌≡◌, ◌<◌, ◌≤◌, ◌+◌, ◌-◌, ◌++◌, ◌∷◌, [], ℕ, All, length, map, flat_map, take, slice_get, OnOk};
-ghost use Rattle.edge_uses.specs.ShellRows.{rows_of};
+ghost use Rattle.std.specs.Prelude.{◌≡◌, ◌≤◌, ◌+◌, ◌-◌, ◌++◌, ◌∷◌, [], ℕ, All, length, map, flat_map, take, OnOk};
 ghost use Rattle.iges_base.specs.declared.entry_no.EntryNo.{EntryNo as AnyEntryNo};
-ghost use Rattle.solid_faults.specs.Edges.{shared_of};
-ghost use Rattle.shell_facts.specs.FaceTable.{touches_of};
-ghost use Rattle.where_shells.specs.Apart.{apart_lines, apart_named, apart_text, face_count, in_shell_line, shared_lines, shared_named, shared_text};
+ghost use Rattle.where_shells.specs.Apart.{face_count};
+ghost use Rattle.where_shells.specs.Viewed.{HasFaces, IsVertex, apart_lines, apart_named, apart_text, in_shell_line, shared_lines, shared_named, shared_of, shared_text};
 
 use crate::lines::{put_count, put_face, put_head, put_vertex_line};
 use crate::view::{Page, ShellView};
@@ -20,7 +18,7 @@ const FACE_LIMIT: usize = 5;
 // A line for a face, given with the number of its shell from 0.
 #[tactic(auto, unfolding(crate::specs::Apart::in_shell_line))]
 fn put_in_shell(page: &mut Page, view: &ShellView<'_>, face: (u32, EntryNo)) -> Result<(), NoMemory>
-    ensures text { OnOk result (page.new.out ≡ page.old.out ++ in_shell_line view.now.file.now face) }
+    ensures text { OnOk result (page.new.out ≡ page.old.out ++ in_shell_line view.now face) }
     ensures named { OnOk result (page.new.named ≡ page.old.named ++ face.1 ∷ []) }
 {
     put_count(&mut page.out, "  in shell", face.0 as usize + 1)?;
@@ -38,7 +36,7 @@ fn put_in_shells(
 ) -> Result<(), NoMemory>
     requires { count ≤ length faces.now }
     ensures text { OnOk result (page.new.out
-        ≡ page.old.out ++ flat_map (in_shell_line view.now.file.now) (take count faces.now)) }
+        ≡ page.old.out ++ flat_map (in_shell_line view.now) (take count faces.now)) }
     ensures named { OnOk result (page.new.named
         ≡ page.old.named ++ map (λ (x : ℕ × AnyEntryNo). x.1) (take count faces.now)) }
 {
@@ -64,7 +62,7 @@ fn put_shared_lines(
     faces: &FacesUpTo,
 ) -> Result<(), NoMemory>
     ensures text { OnOk result (page.new.out ≡ page.old.out
-        ++ shared_lines view.now.file.now view.now.solid.now vertex faces.now) }
+        ++ shared_lines view.now vertex faces.now) }
     ensures named { OnOk result (page.new.named ≡ page.old.named
         ++ map (λ (x : ℕ × AnyEntryNo). x.1) (take (face_count (length faces.now)) faces.now)) }
 {
@@ -75,24 +73,22 @@ fn put_shared_lines(
 }
 
 fn put_shared(page: &mut Page, view: &ShellView<'_>, vertex: u32) -> Result<(), NoMemory>
-    requires faces { view.now.faces.now ≡ touches_of view.now.solid.now }
-    requires inside { vertex < length view.now.solid.now.vertices }
-    ensures text { OnOk result (page.new.out ≡ page.old.out
-        ++ shared_text view.now.file.now view.now.solid.now view.now.at.0 vertex) }
-    ensures named { OnOk result (page.new.named ≡ page.old.named
-        ++ shared_named view.now.solid.now view.now.at.0 vertex) }
+    requires faces { HasFaces view.now }
+    requires inside { IsVertex view.now vertex }
+    ensures text { OnOk result (page.new.out ≡ page.old.out ++ shared_text view.now vertex) }
+    ensures named { OnOk result (page.new.named ≡ page.old.named ++ shared_named view.now vertex) }
 {
     let faces = view.faces.up_to(view.at, VertexId(vertex));
     put_shared_lines(page, view, vertex, &faces)
 }
 
 fn put_each_shared(page: &mut Page, view: &ShellView<'_>, shared: &[u32]) -> Result<(), NoMemory>
-    requires faces { view.now.faces.now ≡ touches_of view.now.solid.now }
-    requires inside { All (λ v. v < length view.now.solid.now.vertices) shared.now }
+    requires faces { HasFaces view.now }
+    requires inside { All (IsVertex view.now) shared.now }
     ensures text { OnOk result (page.new.out ≡ page.old.out
-        ++ flat_map (shared_text view.now.file.now view.now.solid.now view.now.at.0) shared.now) }
+        ++ flat_map (shared_text view.now) shared.now) }
     ensures named { OnOk result (page.new.named ≡ page.old.named
-        ++ flat_map (shared_named view.now.solid.now view.now.at.0) shared.now) }
+        ++ flat_map (shared_named view.now) shared.now) }
 {
     'vertices: for i in 0..shared.len() {
         put_shared(page, view, shared[i])?;
@@ -102,12 +98,11 @@ fn put_each_shared(page: &mut Page, view: &ShellView<'_>, shared: &[u32]) -> Res
 
 #[tactic(auto, unfolding(crate::specs::Apart::apart_lines))]
 fn put_apart_lines(page: &mut Page, view: &ShellView<'_>, shared: &[u32]) -> Result<(), NoMemory>
-    requires faces { view.now.faces.now ≡ touches_of view.now.solid.now }
-    requires inside { All (λ v. v < length view.now.solid.now.vertices) shared.now }
-    ensures text { OnOk result (page.new.out ≡ page.old.out
-        ++ apart_lines view.now.listing view.now.file.now view.now.solid.now view.now.at.0 shared.now) }
+    requires faces { HasFaces view.now }
+    requires inside { All (IsVertex view.now) shared.now }
+    ensures text { OnOk result (page.new.out ≡ page.old.out ++ apart_lines view.now shared.now) }
     ensures named { OnOk result (page.new.named ≡ page.old.named
-        ++ apart_named view.now.listing view.now.solid.now view.now.at.0 shared.now) }
+        ++ apart_named view.now shared.now) }
 {
     let count = view.listing.count(shared.len());
     put_head(&mut page.out, Rule::Shared, view.at, shared.len())?;
@@ -117,13 +112,11 @@ fn put_apart_lines(page: &mut Page, view: &ShellView<'_>, shared: &[u32]) -> Res
 
 /// Appends the paragraph on the vertices that a shell shares with shells before it; nothing where there are none.
 pub fn put_apart(page: &mut Page, view: &ShellView<'_>, shared: &[u32]) -> Result<(), NoMemory>
-    requires faces { view.now.faces.now ≡ touches_of view.now.solid.now }
-    requires shared { shared.now ≡ shared_of view.now.solid.now view.now.at.0
-        (rows_of view.now.solid.now (slice_get view.now.solid.now.shells view.now.at.0)) }
-    ensures text { OnOk result (page.new.out ≡ page.old.out
-        ++ apart_text view.now.listing view.now.file.now view.now.solid.now view.now.at.0 shared.now) }
+    requires faces { HasFaces view.now }
+    requires shared { shared.now ≡ shared_of view.now }
+    ensures text { OnOk result (page.new.out ≡ page.old.out ++ apart_text view.now shared.now) }
     ensures named { OnOk result (page.new.named ≡ page.old.named
-        ++ apart_named view.now.listing view.now.solid.now view.now.at.0 shared.now) }
+        ++ apart_named view.now shared.now) }
 {
     if shared.is_empty() {
         return Ok(());

@@ -2,10 +2,10 @@
 
 ghost use Rattle.edge_uses.specs.Joins.{end_of, start_of};
 ghost use Rattle.solid_data.specs.SolidData.{edge_name, vertex_name};
-ghost use Rattle.std.specs.Prelude.{◌≡◌, ◌<◌, ◌-◌, ◌++◌, ◌∷◌, [], OnOk, Some, flat_map, length, map, option_copied, slice_get, take};
-ghost use Rattle.where_shells.specs.Join.{face_number, gap_face, gap_head, gap_text, join_lines, join_named, join_text, loop_at, loop_facts, loop_in, meeting_facts, tuple_after, tuple_fact, use_words, uses_in};
+ghost use Rattle.std.specs.Prelude.{◌≡◌, ◌<◌, ◌-◌, ◌++◌, ◌∷◌, [], OnOk, Some, flat_map, map, option_copied, slice_get, take};
+ghost use Rattle.where_shells.specs.Join.{face_number, gap_face, gap_head, loop_at, loop_in, tuple_after, uses_in};
 ghost use Rattle.where_shells.specs.Lines.{faces_in};
-ghost use Rattle.where_text.specs.Listing.{shown};
+ghost use Rattle.where_shells.specs.Viewed.{HasShell, gap_text, join_lines, join_named, join_text, loop_facts, meeting_facts, shown_gaps, tuple_fact, use_words};
 
 use crate::lines::{
     put_count, put_curve_words, put_edge_words, put_face_line, put_head, put_vertex_line,
@@ -18,7 +18,7 @@ use solid_faults::Gap;
 use where_text::{put_more_items, put_number};
 
 fn put_use_words(out: &mut Out, view: &ShellView<'_>, item: LoopUse) -> Result<(), NoMemory>
-    ensures { OnOk result (out.new ≡ out.old ++ use_words view.now.file.now view.now.solid.now item) }
+    ensures { OnOk result (out.new ≡ out.old ++ use_words view.now item) }
 {
     match item {
         LoopUse::EdgeUse { edge, along } => {
@@ -46,8 +46,7 @@ fn put_tuple_fact(
     tuple: usize,
     item: LoopUse,
 ) -> Result<(), NoMemory>
-    ensures { OnOk result (out.new ≡ out.old
-        ++ tuple_fact word.now view.now.file.now view.now.solid.now tuple item) }
+    ensures { OnOk result (out.new ≡ out.old ++ tuple_fact word.now view.now tuple item) }
 {
     out.put(word.as_bytes())?;
     put_count(out, " tuple", tuple)?;
@@ -66,7 +65,7 @@ fn put_meeting_facts(
     other: Option<&LoopUse>,
 ) -> Result<(), NoMemory>
     ensures { OnOk result (out.new ≡ out.old
-        ++ meeting_facts view.now.file.now view.now.solid.now tuple next (option_copied this.entry)
+        ++ meeting_facts view.now tuple next (option_copied this.entry)
         (option_copied other.entry)) }
 {
     let Some(this) = this else {
@@ -95,7 +94,7 @@ fn put_loop_facts(
     tuple: usize,
     uses: &[LoopUse],
 ) -> Result<(), NoMemory>
-    ensures { OnOk result (out.new ≡ out.old ++ loop_facts view.now.file.now view.now.solid.now tuple uses.now) }
+    ensures { OnOk result (out.new ≡ out.old ++ loop_facts view.now tuple uses.now) }
 {
     let next = tuple_after(uses.len(), tuple);
     let this = uses.get(tuple.saturating_sub(1));
@@ -127,7 +126,7 @@ fn put_loop_at(
     walk: Option<&Loop>,
 ) -> Result<(), NoMemory>
     ensures { OnOk result (out.new ≡ out.old
-        ++ loop_facts view.now.file.now view.now.solid.now tuple (uses_in (option_copied walk.entry))) }
+        ++ loop_facts view.now tuple (uses_in (option_copied walk.entry))) }
 {
     match walk {
         Some(walk) => put_loop_facts(out, view, tuple, walk.uses.as_slice()),
@@ -158,8 +157,7 @@ fn put_gap(
     faces: &[FaceUse],
     gap: Gap,
 ) -> Result<(), NoMemory>
-    ensures text { OnOk result (page.new.out
-        ≡ page.old.out ++ gap_text view.now.file.now view.now.solid.now faces.now gap) }
+    ensures text { OnOk result (page.new.out ≡ page.old.out ++ gap_text view.now faces.now gap) }
     ensures named { OnOk result (page.new.named ≡ page.old.named ++ gap_face faces.now gap ∷ []) }
 {
     put_gap_head(&mut page.out, gap)?;
@@ -175,7 +173,7 @@ fn put_gaps(
     gaps: &[Gap],
 ) -> Result<(), NoMemory>
     ensures text { OnOk result (page.new.out ≡ page.old.out
-        ++ flat_map (gap_text view.now.file.now view.now.solid.now faces.now) gaps.now) }
+        ++ flat_map (gap_text view.now faces.now) gaps.now) }
     ensures named { OnOk result (page.new.named
         ≡ page.old.named ++ map (gap_face faces.now) gaps.now) }
 {
@@ -193,9 +191,9 @@ fn put_join_lines(
     gaps: &[Gap],
 ) -> Result<(), NoMemory>
     ensures text { OnOk result (page.new.out ≡ page.old.out
-        ++ join_lines view.now.gaps view.now.file.now view.now.solid.now view.now.at.0 faces.now gaps.now) }
+        ++ join_lines view.now faces.now gaps.now) }
     ensures named { OnOk result (page.new.named
-        ≡ page.old.named ++ map (gap_face faces.now) (shown view.now.gaps gaps.now)) }
+        ≡ page.old.named ++ map (gap_face faces.now) (shown_gaps view.now gaps.now)) }
 {
     let count = view.gaps.count(gaps.len());
     put_head(&mut page.out, Rule::Unjoined, view.at, gaps.len())?;
@@ -207,11 +205,9 @@ fn put_join_lines(
 /// face, the two tuples, and where one ends and the other starts; nothing where there is no gap. The faces join the
 /// numbers that facts name.
 pub fn put_join(page: &mut Page, view: &ShellView<'_>, gaps: &[Gap]) -> Result<(), NoMemory>
-    requires { view.now.at.0 < length view.now.solid.now.shells }
-    ensures text { OnOk result (page.new.out ≡ page.old.out
-        ++ join_text view.now.gaps view.now.file.now view.now.solid.now view.now.at.0 gaps.now) }
-    ensures named { OnOk result (page.new.named
-        ≡ page.old.named ++ join_named view.now.gaps view.now.solid.now view.now.at.0 gaps.now) }
+    requires { HasShell view.now }
+    ensures text { OnOk result (page.new.out ≡ page.old.out ++ join_text view.now gaps.now) }
+    ensures named { OnOk result (page.new.named ≡ page.old.named ++ join_named view.now gaps.now) }
 {
     if gaps.is_empty() {
         return Ok(());

@@ -2,10 +2,9 @@
 
 ghost use Rattle.brep_lists.specs.Record.{int_at};
 ghost use Rattle.iges_params.specs.Named.{values_of};
-ghost use Rattle.solid_data.specs.SolidData.{vertex_name};
-ghost use Rattle.std.specs.Prelude.{◌≡◌, ◌≤◌, ◌<◌, ◌+◌, ◌-◌, ◌*◌, ◌^◌, ◌++◌, ◌∷◌, [], OnOk, flat_map, pos, slice_get};
-ghost use Rattle.where_text.specs.Places.{face_words, vertex_words};
-ghost use Rattle.where_shells.specs.Lines.{count_words, curve_of, curve_words, edge_words, face_line, head_lines, rule_words, vertex_line};
+ghost use Rattle.std.specs.Prelude.{◌≡◌, ◌≤◌, ◌<◌, ◌+◌, ◌-◌, ◌*◌, ◌^◌, ◌++◌, ◌∷◌, [], OnOk, flat_map, pos};
+ghost use Rattle.where_shells.specs.Lines.{count_words, curve_of, curve_words, edge_words, head_lines, rule_words};
+ghost use Rattle.where_shells.specs.Viewed.{face_line, face_words, vertex_line, vertex_named};
 
 use crate::view::{Page, ShellView};
 use brep_lists::int_at;
@@ -74,15 +73,14 @@ pub fn put_curve_words(out: &mut Out, file: &File, key: EdgeKey) -> Result<(), N
 
 /// The words of a vertex.
 pub fn put_vertex(out: &mut Out, view: &ShellView<'_>, vertex: VertexId) -> Result<(), NoMemory>
-    ensures { OnOk result (out.new ≡ out.old
-        ++ vertex_words view.now.file.now (vertex_name (slice_get view.now.solid.now.vertices vertex.0))) }
+    ensures { OnOk result (out.new ≡ out.old ++ vertex_named view.now vertex.0) }
 {
     view.spelled.put_vertex(out, vertex)
 }
 
 /// The words of a face, which joins those that are named.
 pub fn put_face(page: &mut Page, view: &ShellView<'_>, face: EntryNo) -> Result<(), NoMemory>
-    ensures text { OnOk result (page.new.out ≡ page.old.out ++ face_words view.now.file.now face) }
+    ensures text { OnOk result (page.new.out ≡ page.old.out ++ face_words view.now face) }
     ensures named { OnOk result (page.new.named ≡ page.old.named ++ face ∷ []) }
 {
     view.spelled.put_face(&mut page.out, &mut page.named, face)
@@ -96,8 +94,7 @@ pub fn put_vertex_line(
     word: &str,
     vertex: u32,
 ) -> Result<(), NoMemory>
-    ensures { OnOk result (out.new ≡ out.old
-        ++ vertex_line word.now view.now.file.now view.now.solid.now vertex) }
+    ensures { OnOk result (out.new ≡ out.old ++ vertex_line word.now view.now vertex) }
 {
     out.put(word.as_bytes())?;
     put_vertex(out, view, VertexId(vertex))?;
@@ -107,7 +104,7 @@ pub fn put_vertex_line(
 /// A face, which joins those that are named.
 #[tactic(auto, unfolding(crate::specs::Lines::face_line))]
 pub fn put_face_line(page: &mut Page, view: &ShellView<'_>, face: EntryNo) -> Result<(), NoMemory>
-    ensures text { OnOk result (page.new.out ≡ page.old.out ++ face_line view.now.file.now face) }
+    ensures text { OnOk result (page.new.out ≡ page.old.out ++ face_line view.now face) }
     ensures named { OnOk result (page.new.named ≡ page.old.named ++ face ∷ []) }
 {
     page.out.put(b"  face")?;

@@ -1,14 +1,13 @@
 //! The paragraph on vertices that aren't linked.
 
-ghost use Rattle.std.specs.Prelude.{◌≡◌, ◌<◌, ◌+◌, ◌-◌, ◌++◌, ◌∷◌, [], length, flat_map, take, slice_get, option_copied, OnOk};
+ghost use Rattle.std.specs.Prelude.{◌≡◌, ◌+◌, ◌-◌, ◌++◌, ◌∷◌, [], flat_map, take, slice_get, option_copied, OnOk};
 ghost use Rattle.solid_data.specs.SolidData.{edge_name};
-ghost use Rattle.edge_uses.specs.ShellRows.{rows_of};
 ghost use Rattle.solid_faults.specs.Fans.{AreFans};
 ghost use Rattle.shell_facts.specs.RowPlaces.{places_in};
-ghost use Rattle.where_text.specs.Listing.{shown};
 ghost use Rattle.shell_facts.specs.FanFacts.{AreVertexTables};
-ghost use Rattle.where_shells.specs.Link.{fact_faces, fact_line, link_lines, link_named, link_text, loop_words, place_faces, place_words, point_line, row_line, row_words, unlinked_lines, unlinked_named, unlinked_text, walk_faces, walk_words};
+ghost use Rattle.where_shells.specs.Link.{fact_faces, loop_words, place_faces, walk_faces};
 ghost use Rattle.where_shells.specs.Lines.{edge_words, faces_in};
+ghost use Rattle.where_shells.specs.Viewed.{HasShell, fact_line, link_lines, link_named, link_text, place_words, point_line, row_line, row_words, rows_of, shown, unlinked_lines, unlinked_named, unlinked_text, walk_words};
 
 use crate::lines::{put_count, put_edge_words, put_face, put_head, put_vertex};
 use crate::view::{Page, ShellView};
@@ -33,7 +32,7 @@ struct Fans<'a> {
 
 // The face, the loop and the tuple of a row.
 fn put_place(page: &mut Page, view: &ShellView<'_>, place: Option<RowPlace>) -> Result<(), NoMemory>
-    ensures text { OnOk result (page.new.out ≡ page.old.out ++ place_words view.now.file.now place) }
+    ensures text { OnOk result (page.new.out ≡ page.old.out ++ place_words view.now place) }
     ensures named { OnOk result (page.new.named ≡ page.old.named ++ place_faces place) }
 {
     let Some(place) = place else {
@@ -46,8 +45,7 @@ fn put_place(page: &mut Page, view: &ShellView<'_>, place: Option<RowPlace>) -> 
 }
 
 fn put_row(out: &mut Out, view: &ShellView<'_>, row: Option<Row>) -> Result<(), NoMemory>
-    ensures { OnOk result (out.new ≡ out.old
-        ++ row_words view.now.file.now view.now.solid.now row) }
+    ensures { OnOk result (out.new ≡ out.old ++ row_words view.now row) }
 {
     let Some(row) = row else {
         return Ok(());
@@ -75,7 +73,7 @@ fn put_walk(
     place: u32,
 ) -> Result<(), NoMemory>
     ensures text { OnOk result (page.new.out ≡ page.old.out
-        ++ walk_words view.now.file.now (option_copied face.entry) place) }
+        ++ walk_words view.now (option_copied face.entry) place) }
     ensures named { OnOk result (page.new.named
         ≡ page.old.named ++ walk_faces (option_copied face.entry)) }
 {
@@ -108,7 +106,7 @@ fn put_row_line(
     row: RowId,
 ) -> Result<(), NoMemory>
     ensures text { OnOk result (page.new.out ≡ page.old.out
-        ++ row_line view.now.file.now view.now.solid.now fans.now.paired.now fans.now.places.now fan row.0) }
+        ++ row_line view.now fans.now.paired.now fans.now.places.now fan row.0) }
     ensures named { OnOk result (page.new.named ≡ page.old.named
         ++ place_faces (slice_get fans.now.places.now row.0)) }
 {
@@ -125,8 +123,7 @@ fn put_point_line(
     faces: &[FaceUse],
     walk: LoopAt,
 ) -> Result<(), NoMemory>
-    ensures text { OnOk result (page.new.out
-        ≡ page.old.out ++ point_line view.now.file.now faces.now walk) }
+    ensures text { OnOk result (page.new.out ≡ page.old.out ++ point_line view.now faces.now walk) }
     ensures named { OnOk result (page.new.named ≡ page.old.named
         ++ walk_faces (slice_get faces.now walk.face.0)) }
 {
@@ -143,7 +140,7 @@ fn put_fact(
     fact: AtVertex,
 ) -> Result<(), NoMemory>
     ensures text { OnOk result (page.new.out ≡ page.old.out
-        ++ fact_line view.now.file.now view.now.solid.now fans.now.faces.now fans.now.paired.now fans.now.places.now fact) }
+        ++ fact_line view.now fans.now.faces.now fans.now.paired.now fans.now.places.now fact) }
     ensures named { OnOk result (page.new.named ≡ page.old.named
         ++ fact_faces fans.now.faces.now fans.now.places.now fact) }
 {
@@ -160,7 +157,7 @@ fn put_facts(
     facts: &[AtVertex],
 ) -> Result<(), NoMemory>
     ensures text { OnOk result (page.new.out ≡ page.old.out
-        ++ flat_map (fact_line view.now.file.now view.now.solid.now fans.now.faces.now fans.now.paired.now fans.now.places.now) facts.now) }
+        ++ flat_map (fact_line view.now fans.now.faces.now fans.now.paired.now fans.now.places.now) facts.now) }
     ensures named { OnOk result (page.new.named ≡ page.old.named
         ++ flat_map (fact_faces fans.now.faces.now fans.now.places.now) facts.now) }
 {
@@ -179,10 +176,10 @@ fn put_unlinked_lines(
     facts: &[AtVertex],
 ) -> Result<(), NoMemory>
     ensures text { OnOk result (page.new.out ≡ page.old.out
-        ++ unlinked_lines view.now.listing view.now.file.now view.now.solid.now fans.now.faces.now fans.now.paired.now fans.now.places.now vertex facts.now) }
+        ++ unlinked_lines view.now fans.now.faces.now fans.now.paired.now fans.now.places.now vertex facts.now) }
     ensures named { OnOk result (page.new.named ≡ page.old.named
         ++ flat_map (fact_faces fans.now.faces.now fans.now.places.now)
-        (shown view.now.listing facts.now)) }
+        (shown view.now facts.now)) }
 {
     let count = view.listing.count(facts.len());
     page.out.put(b"vertex")?;
@@ -204,9 +201,9 @@ fn put_unlinked(
     requires fans { AreFans fans.now.paired.now fans.now.leasts.now }
     requires tables { AreVertexTables fans.now.paired.now fans.now.leasts.now fans.now.tables.now }
     ensures text { OnOk result (page.new.out ≡ page.old.out
-        ++ unlinked_text view.now.listing view.now.file.now view.now.solid.now fans.now.faces.now fans.now.paired.now fans.now.places.now fans.now.leasts.now vertex) }
+        ++ unlinked_text view.now fans.now.faces.now fans.now.paired.now fans.now.places.now fans.now.leasts.now vertex) }
     ensures named { OnOk result (page.new.named ≡ page.old.named
-        ++ unlinked_named view.now.listing fans.now.faces.now fans.now.paired.now fans.now.places.now fans.now.leasts.now vertex) }
+        ++ unlinked_named view.now fans.now.faces.now fans.now.paired.now fans.now.places.now fans.now.leasts.now vertex) }
 {
     let facts = around(alloc, fans.paired, fans.leasts, fans.tables, vertex.vertex)?;
     put_unlinked_lines(page, view, fans, vertex, facts.as_slice())
@@ -223,10 +220,10 @@ fn put_each_unlinked(
     requires tables { AreVertexTables fans.now.paired.now fans.now.leasts.now fans.now.tables.now }
     ensures text { OnOk result (page.new.out ≡ page.old.out
         ++ flat_map
-        (unlinked_text view.now.listing view.now.file.now view.now.solid.now fans.now.faces.now fans.now.paired.now fans.now.places.now fans.now.leasts.now) vertices.now) }
+        (unlinked_text view.now fans.now.faces.now fans.now.paired.now fans.now.places.now fans.now.leasts.now) vertices.now) }
     ensures named { OnOk result (page.new.named ≡ page.old.named
         ++ flat_map
-        (unlinked_named view.now.listing fans.now.faces.now fans.now.paired.now fans.now.places.now fans.now.leasts.now) vertices.now) }
+        (unlinked_named view.now fans.now.faces.now fans.now.paired.now fans.now.places.now fans.now.leasts.now) vertices.now) }
 {
     'vertices: for i in 0..vertices.len() {
         put_unlinked(alloc, page, view, fans, vertices[i])?;
@@ -245,10 +242,10 @@ fn put_link_lines(
     requires fans { AreFans fans.now.paired.now fans.now.leasts.now }
     requires tables { AreVertexTables fans.now.paired.now fans.now.leasts.now fans.now.tables.now }
     ensures text { OnOk result (page.new.out ≡ page.old.out
-        ++ link_lines view.now.listing view.now.file.now view.now.solid.now view.now.at.0 fans.now.faces.now fans.now.paired.now fans.now.places.now fans.now.leasts.now vertices.now) }
+        ++ link_lines view.now fans.now.faces.now fans.now.paired.now fans.now.places.now fans.now.leasts.now vertices.now) }
     ensures named { OnOk result (page.new.named ≡ page.old.named
-        ++ flat_map (unlinked_named view.now.listing fans.now.faces.now fans.now.paired.now fans.now.places.now fans.now.leasts.now)
-        (shown view.now.listing vertices.now)) }
+        ++ flat_map (unlinked_named view.now fans.now.faces.now fans.now.paired.now fans.now.places.now fans.now.leasts.now)
+        (shown view.now vertices.now)) }
 {
     let count = view.listing.count(vertices.len());
     put_head(&mut page.out, Rule::Unlinked, view.at, vertices.len())?;
@@ -265,14 +262,13 @@ pub fn put_link(
     paired: &Paired<'_>,
     linking: &Linking,
 ) -> Result<(), NoMemory>
-    requires shell { view.now.at.0 < length view.now.solid.now.shells }
-    requires rows { paired.now
-        ≡ rows_of view.now.solid.now (slice_get view.now.solid.now.shells view.now.at.0) }
+    requires shell { HasShell view.now }
+    requires rows { paired.now ≡ rows_of view.now }
     requires fans { AreFans paired.now linking.now.leasts }
     ensures text { OnOk result (page.new.out ≡ page.old.out
-        ++ link_text view.now.listing view.now.file.now view.now.solid.now view.now.at.0 linking.now.leasts linking.now.unlinked) }
+        ++ link_text view.now linking.now.leasts linking.now.unlinked) }
     ensures named { OnOk result (page.new.named ≡ page.old.named
-        ++ link_named view.now.listing view.now.solid.now view.now.at.0 linking.now.leasts linking.now.unlinked) }
+        ++ link_named view.now linking.now.leasts linking.now.unlinked) }
 {
     let vertices = linking.unlinked();
     if vertices.is_empty() {

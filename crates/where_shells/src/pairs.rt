@@ -1,13 +1,12 @@
 //! The paragraph on the edges of a shell that aren't paired.
 
 ghost use Rattle.edge_uses.specs.Joins.{begin_of};
-ghost use Rattle.edge_uses.specs.ShellRows.{rows_of};
 ghost use Rattle.solid_faults.specs.Edges.{rows_on_edge};
 ghost use Rattle.shell_components.specs.Groups.{places_of};
 ghost use Rattle.shell_facts.specs.RowPlaces.{places_in};
-ghost use Rattle.std.specs.Prelude.{◌≡◌, ℕ, ◌<◌, ◌-◌, ◌++◌, ◌∷◌, [], OnOk, flat_map, length, option_copied, slice_get, take};
-ghost use Rattle.where_shells.specs.Pair.{edge_facts, edge_head, edge_named, edge_text, flag_in, flag_words, pair_lines, pair_named, pair_text, place_fact, row_fact, row_facts, row_named, rows_named, tuple_words, usage_words, way_word};
-ghost use Rattle.where_text.specs.Listing.{shown};
+ghost use Rattle.std.specs.Prelude.{◌≡◌, ℕ, ◌<◌, ◌-◌, ◌++◌, ◌∷◌, [], OnOk, flat_map, option_copied, slice_get, take};
+ghost use Rattle.where_shells.specs.Pair.{edge_head, flag_in, flag_words, row_named, tuple_words, usage_words, way_word};
+ghost use Rattle.where_shells.specs.Viewed.{HasRows, HasShell, edge_facts, edge_named, edge_text, pair_lines, pair_named, pair_text, place_fact, row_fact, row_facts, rows_named, shown};
 
 use crate::lines::{put_curve_words, put_edge_words, put_face, put_rule, put_vertex_line};
 use crate::view::{Page, ShellView};
@@ -63,7 +62,7 @@ fn put_place(
     place: RowPlace,
 ) -> Result<(), NoMemory>
     ensures text { OnOk result (page.new.out
-        ≡ page.old.out ++ place_fact view.now.file.now shell_flag place) }
+        ≡ page.old.out ++ place_fact view.now shell_flag place) }
     ensures named { OnOk result (page.new.named ≡ page.old.named ++ place.face ∷ []) }
 {
     page.out.put(b" ")?;
@@ -83,7 +82,7 @@ fn put_row(
     row: u32,
 ) -> Result<(), NoMemory>
     ensures text { OnOk result (page.new.out ≡ page.old.out
-        ++ row_fact view.now.file.now shell_flag (slice_get places.now row)) }
+        ++ row_fact view.now shell_flag (slice_get places.now row)) }
     ensures named { OnOk result (page.new.named
         ≡ page.old.named ++ row_named (slice_get places.now row)) }
 {
@@ -101,7 +100,7 @@ fn put_shown_rows(
     rows: &[u32],
 ) -> Result<(), NoMemory>
     ensures text { OnOk result (page.new.out ≡ page.old.out
-        ++ flat_map (λ (r : ℕ). row_fact view.now.file.now shell_flag (slice_get places.now r)) rows.now) }
+        ++ flat_map (λ (r : ℕ). row_fact view.now shell_flag (slice_get places.now r)) rows.now) }
     ensures named { OnOk result (page.new.named ≡ page.old.named
         ++ flat_map (λ (r : ℕ). row_named (slice_get places.now r)) rows.now) }
 {
@@ -119,9 +118,9 @@ fn put_rows(
     rows: &[u32],
 ) -> Result<(), NoMemory>
     ensures text { OnOk result (page.new.out ≡ page.old.out
-        ++ row_facts view.now.listing view.now.file.now shell_flag places.now rows.now) }
+        ++ row_facts view.now shell_flag places.now rows.now) }
     ensures named { OnOk result (page.new.named
-        ≡ page.old.named ++ rows_named view.now.listing places.now rows.now) }
+        ≡ page.old.named ++ rows_named view.now places.now rows.now) }
 {
     let count = view.listing.count(rows.len());
     put_shown_rows(page, view, shell_flag, places, &rows[..count])?;
@@ -143,9 +142,7 @@ fn put_edge_head(out: &mut Out, key: EdgeKey, unpaired: Unpaired) -> Result<(), 
 
 #[tactic(auto, unfolding(crate::specs::Pair::edge_facts))]
 fn put_edge_facts(out: &mut Out, view: &ShellView<'_>, edge: EdgeId) -> Result<(), NoMemory>
-    ensures { OnOk result (out.new ≡ out.old
-        ++ edge_facts view.now.file.now view.now.solid.now
-        (slice_get view.now.solid.now.edges edge.0)) }
+    ensures { OnOk result (out.new ≡ out.old ++ edge_facts view.now edge.0) }
 {
     out.put(b" ")?;
     put_curve_words(out, view.file, view.solid.edge_key(edge))?;
@@ -162,9 +159,9 @@ fn put_edge(
     unpaired: Unpaired,
 ) -> Result<(), NoMemory>
     ensures text { OnOk result (page.new.out ≡ page.old.out
-        ++ edge_text view.now.listing view.now.file.now view.now.solid.now known.now.flag known.now.rows.now known.now.places.items unpaired) }
+        ++ edge_text view.now known.now.flag known.now.rows.now known.now.places.items unpaired) }
     ensures named { OnOk result (page.new.named ≡ page.old.named
-        ++ edge_named view.now.listing known.now.rows.now known.now.places.items unpaired) }
+        ++ edge_named view.now known.now.rows.now known.now.places.items unpaired) }
 {
     let key = view.solid.edge_key(unpaired.edge);
     put_edge_head(&mut page.out, key, unpaired)?;
@@ -181,10 +178,9 @@ fn put_edges(
 ) -> Result<(), NoMemory>
     ensures text { OnOk result (page.new.out ≡ page.old.out
         ++ flat_map
-        (edge_text view.now.listing view.now.file.now view.now.solid.now known.now.flag known.now.rows.now known.now.places.items) unpaired.now) }
+        (edge_text view.now known.now.flag known.now.rows.now known.now.places.items) unpaired.now) }
     ensures named { OnOk result (page.new.named ≡ page.old.named
-        ++ flat_map (edge_named view.now.listing known.now.rows.now known.now.places.items)
-        unpaired.now) }
+        ++ flat_map (edge_named view.now known.now.rows.now known.now.places.items) unpaired.now) }
 {
     'edges: for i in 0..unpaired.len() {
         put_edge(page, view, known, unpaired[i])?;
@@ -214,10 +210,10 @@ fn put_pair_lines(
     unpaired: &[Unpaired],
 ) -> Result<(), NoMemory>
     ensures text { OnOk result (page.new.out ≡ page.old.out
-        ++ pair_lines view.now.listing view.now.file.now view.now.solid.now view.now.at.0 known.now.flag known.now.rows.now known.now.places.items unpaired.now) }
+        ++ pair_lines view.now known.now.flag known.now.rows.now known.now.places.items unpaired.now) }
     ensures named { OnOk result (page.new.named ≡ page.old.named
-        ++ flat_map (edge_named view.now.listing known.now.rows.now known.now.places.items)
-        (shown view.now.listing unpaired.now)) }
+        ++ flat_map (edge_named view.now known.now.rows.now known.now.places.items)
+        (shown view.now unpaired.now)) }
 {
     let count = view.listing.count(unpaired.len());
     put_rule(&mut page.out, Rule::Unpaired, view.at, unpaired.len())?;
@@ -237,13 +233,11 @@ pub fn put_pair(
     view: &ShellView<'_>,
     unpaired: &[Unpaired],
 ) -> Result<(), NoMemory>
-    requires shell { view.now.at.0 < length view.now.solid.now.shells }
-    requires rows { view.now.rows.now
-        ≡ rows_of view.now.solid.now (slice_get view.now.solid.now.shells view.now.at.0) }
-    ensures text { OnOk result (page.new.out ≡ page.old.out
-        ++ pair_text view.now.listing view.now.file.now view.now.solid.now view.now.at.0 unpaired.now) }
+    requires shell { HasShell view.now }
+    requires rows { HasRows view.now }
+    ensures text { OnOk result (page.new.out ≡ page.old.out ++ pair_text view.now unpaired.now) }
     ensures named { OnOk result (page.new.named ≡ page.old.named
-        ++ pair_named view.now.listing view.now.solid.now view.now.at.0 unpaired.now) }
+        ++ pair_named view.now unpaired.now) }
 {
     if unpaired.is_empty() {
         return Ok(());

@@ -1,13 +1,9 @@
 //! The paragraph on a shell that falls into parts.
 
-ghost use Rattle.std.specs.Prelude.{◌≡◌, ◌<◌, ◌+◌, ◌-◌, ◌^◌, ◌++◌, codes, length, flat_map, take, slice_get, OnOk, get_or};
+ghost use Rattle.std.specs.Prelude.{◌≡◌, ◌+◌, ◌-◌, ◌^◌, ◌++◌, codes, length, flat_map, take, OnOk, get_or};
 ghost use Rattle.std.specs.List.{enumerate_from};
-ghost use Rattle.edge_uses.specs.ShellRows.{rows_of};
-ghost use Rattle.solid_faults.specs.Edges.{unpaired_of};
-ghost use Rattle.solid_faults.specs.Parts.{AreParts};
-ghost use Rattle.where_text.specs.Listing.{shown};
-ghost use Rattle.where_shells.specs.Lines.{face_line, vertex_line};
-ghost use Rattle.where_shells.specs.Reach.{part_head, part_lines, part_text, part_named, shown_parts, reach_head, reach_lines, reach_text, reach_named};
+ghost use Rattle.where_shells.specs.Reach.{part_head, reach_head};
+ghost use Rattle.where_shells.specs.Viewed.{AreParts, AreTables, HasRows, HasShell, face_line, part_lines, part_named, part_text, reach_lines, reach_named, reach_text, shown, shown_parts, unpaired_of, vertex_line};
 
 use crate::lines::{put_count, put_face_line, put_rule, put_vertex_line};
 use crate::view::{Page, ShellView};
@@ -46,7 +42,7 @@ fn least(vertices: &[u32]) -> u32
 // A line for each of a part's vertices that a part before it has too.
 fn put_touches(out: &mut Out, view: &ShellView<'_>, vertices: &[u32]) -> Result<(), NoMemory>
     ensures { OnOk result (out.new ≡ out.old
-        ++ flat_map (vertex_line (codes "  touches") view.now.file.now view.now.solid.now) vertices.now) }
+        ++ flat_map (vertex_line (codes "  touches") view.now) vertices.now) }
 {
     'vertices: for i in 0..vertices.len() {
         put_vertex_line(out, view, "  touches", vertices[i])?;
@@ -56,7 +52,7 @@ fn put_touches(out: &mut Out, view: &ShellView<'_>, vertices: &[u32]) -> Result<
 
 fn put_faces(page: &mut Page, view: &ShellView<'_>, faces: &[EntryNo]) -> Result<(), NoMemory>
     ensures text { OnOk result (page.new.out
-        ≡ page.old.out ++ flat_map (face_line view.now.file.now) faces.now) }
+        ≡ page.old.out ++ flat_map (face_line view.now) faces.now) }
     ensures named { OnOk result (page.new.named ≡ page.old.named ++ faces.now) }
 {
     'faces: for i in 0..faces.len() {
@@ -73,9 +69,9 @@ fn put_part(
     part: &Part,
 ) -> Result<(), NoMemory>
     ensures text { OnOk result (page.new.out ≡ page.old.out
-        ++ part_lines view.now.listing view.now.file.now view.now.solid.now number part.now.faces.items part.now.edges part.now.vertices.items part.now.unpaired part.now.touching.items) }
+        ++ part_lines view.now number part.now.faces.items part.now.edges part.now.vertices.items part.now.unpaired part.now.touching.items) }
     ensures named { OnOk result (page.new.named
-        ≡ page.old.named ++ shown view.now.listing part.now.faces.items) }
+        ≡ page.old.named ++ shown view.now part.now.faces.items) }
 {
     let faces = part.faces.as_slice();
     let touching = part.touching.as_slice();
@@ -97,11 +93,11 @@ fn put_part_of(
     number: usize,
     first: u32,
 ) -> Result<(), NoMemory>
-    requires { tables.now.solid ≡ view.now.solid.now }
+    requires { AreTables view.now tables.now }
     ensures text { OnOk result (page.new.out ≡ page.old.out
-        ++ part_text view.now.listing view.now.file.now view.now.solid.now tables.now.shell tables.now.firsts tables.now.unpaired (number, first)) }
+        ++ part_text view.now tables.now (number, first)) }
     ensures named { OnOk result (page.new.named ≡ page.old.named
-        ++ part_named view.now.listing tables.now.shell tables.now.firsts (number, first)) }
+        ++ part_named view.now tables.now (number, first)) }
 {
     let part = tables.part(alloc, first)?;
     put_part(page, view, number, &part)
@@ -114,13 +110,11 @@ fn put_parts(
     tables: &PartTables<'_>,
     parts: &[u32],
 ) -> Result<(), NoMemory>
-    requires { tables.now.solid ≡ view.now.solid.now }
+    requires { AreTables view.now tables.now }
     ensures text { OnOk result (page.new.out ≡ page.old.out
-        ++ flat_map
-        (part_text view.now.listing view.now.file.now view.now.solid.now tables.now.shell tables.now.firsts tables.now.unpaired) (enumerate_from 1 parts.now)) }
+        ++ flat_map (part_text view.now tables.now) (enumerate_from 1 parts.now)) }
     ensures named { OnOk result (page.new.named ≡ page.old.named
-        ++ flat_map (part_named view.now.listing tables.now.shell tables.now.firsts)
-        (enumerate_from 1 parts.now)) }
+        ++ flat_map (part_named view.now tables.now) (enumerate_from 1 parts.now)) }
 {
     'parts: for i in 0..parts.len() {
         put_part_of(alloc, page, view, tables, i + 1, parts[i])?;
@@ -152,12 +146,11 @@ fn put_reach_lines(
     faults: usize,
     parts: &[u32],
 ) -> Result<(), NoMemory>
-    requires { tables.now.solid ≡ view.now.solid.now }
+    requires { AreTables view.now tables.now }
     ensures text { OnOk result (page.new.out ≡ page.old.out
-        ++ reach_lines view.now.listing view.now.file.now view.now.solid.now view.now.at.0 tables.now.shell tables.now.firsts tables.now.unpaired faults parts.now) }
+        ++ reach_lines view.now tables.now faults parts.now) }
     ensures named { OnOk result (page.new.named ≡ page.old.named
-        ++ flat_map (part_named view.now.listing tables.now.shell tables.now.firsts)
-        (shown_parts view.now.listing parts.now)) }
+        ++ flat_map (part_named view.now tables.now) (shown_parts view.now parts.now)) }
 {
     let count = view.listing.count(parts.len());
     put_reach_head(&mut page.out, view.at, faults, parts.len())?;
@@ -174,15 +167,14 @@ pub fn put_reach(
     firsts: &[u32],
     unpaired: &[Unpaired],
 ) -> Result<(), NoMemory>
-    requires shell { view.now.at.0 < length view.now.solid.now.shells }
-    requires rows { view.now.rows.now
-        ≡ rows_of view.now.solid.now (slice_get view.now.solid.now.shells view.now.at.0) }
-    requires parts { AreParts view.now.rows.now firsts.now }
-    requires unpaired { unpaired.now ≡ unpaired_of view.now.rows.now }
+    requires shell { HasShell view.now }
+    requires rows { HasRows view.now }
+    requires parts { AreParts view.now firsts.now }
+    requires unpaired { unpaired.now ≡ unpaired_of view.now }
     ensures text { OnOk result (page.new.out ≡ page.old.out
-        ++ reach_text view.now.listing view.now.file.now view.now.solid.now view.now.at.0 firsts.now unpaired.now) }
+        ++ reach_text view.now firsts.now unpaired.now) }
     ensures named { OnOk result (page.new.named ≡ page.old.named
-        ++ reach_named view.now.listing view.now.solid.now view.now.at.0 firsts.now) }
+        ++ reach_named view.now firsts.now) }
 {
     let faults = apart_in(firsts);
     if faults == 0 {

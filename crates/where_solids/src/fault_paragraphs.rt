@@ -1,13 +1,10 @@
 //! The paragraphs of the rules that fail in a shell.
 
-ghost use Rattle.edge_uses.specs.ShellRows.{EndsMeet, rows_of};
-ghost use Rattle.solid_data.specs.declared.solid.Shell.{Shell as AnyShell};
+ghost use Rattle.edge_uses.specs.ShellRows.{EndsMeet};
 ghost use Rattle.solid_faults.specs.Edges.{unpaired_of};
-ghost use Rattle.solid_faults.specs.Fans.{AreFans};
-ghost use Rattle.solid_faults.specs.Faults.{AreFaults};
-ghost use Rattle.std.specs.Prelude.{◌≡◌, ◌++◌, ◌<◌, [], IfOk, IfSome, IsSome, OnOk, Some, length, option_copied, slice_get};
-ghost use Rattle.shell_facts.specs.FaceTable.{touches_of};
-ghost use Rattle.where_solids.specs.ShellTexts.{fault_faces, fault_paragraphs, linking_named, linking_text};
+ghost use Rattle.std.specs.Prelude.{◌≡◌, ◌++◌, [], IfOk, IfSome, IsSome, OnOk, option_copied};
+ghost use Rattle.where_shells.specs.Viewed.{HasFaces, HasRows, HasShell};
+ghost use Rattle.where_solids.specs.Viewed.{AreFans, AreFaults, ArePaired, RowsMeet, fault_faces, fault_paragraphs, linking_named, linking_text};
 
 use edge_uses::{PairFault, Paired, Rows, pair};
 use iges_base::NoMemory;
@@ -35,16 +32,15 @@ fn put_linking(
     view: &ShellView<'_>,
     linking: Option<&Linking>,
 ) -> Result<(), NoMemory>
-    requires shell { view.now.at.0 < length view.now.solid.now.shells }
-    requires rows { view.now.rows.now
-        ≡ rows_of view.now.solid.now (slice_get view.now.solid.now.shells view.now.at.0) }
-    requires meet { IsSome linking → EndsMeet view.now.rows.now }
-    requires paired { IsSome linking → unpaired_of view.now.rows.now ≡ [] }
-    requires fans { IfSome linking (λ l. AreFans view.now.rows.now l.now.leasts) }
+    requires shell { HasShell view.now }
+    requires rows { HasRows view.now }
+    requires meet { IsSome linking → RowsMeet view.now }
+    requires paired { IsSome linking → ArePaired view.now }
+    requires fans { IfSome linking (λ l. AreFans view.now l.now.leasts) }
     ensures text { OnOk result (page.new.out ≡ page.old.out
-        ++ linking_text view.now.listing view.now.file.now view.now.solid.now view.now.at.0 (option_copied linking.entry)) }
+        ++ linking_text view.now (option_copied linking.entry)) }
     ensures named { OnOk result (page.new.named ≡ page.old.named
-        ++ linking_named view.now.listing view.now.solid.now view.now.at.0 (option_copied linking.entry)) }
+        ++ linking_named view.now (option_copied linking.entry)) }
 {
     let Some(linking) = linking else {
         return Ok(());
@@ -61,16 +57,14 @@ pub fn put_faults(
     view: &ShellView<'_>,
     faults: &ShellFaults,
 ) -> Result<(), NoMemory>
-    requires shell { view.now.at.0 < length view.now.solid.now.shells }
-    requires rows { view.now.rows.now
-        ≡ rows_of view.now.solid.now (slice_get view.now.solid.now.shells view.now.at.0) }
-    requires faces { view.now.faces.now ≡ touches_of view.now.solid.now }
-    requires faults { (h : AnyShell) → slice_get view.now.solid.now.shells view.now.at.0 ≡ Some h
-        → AreFaults view.now.solid.now view.now.at.0 h faults.now }
+    requires shell { HasShell view.now }
+    requires rows { HasRows view.now }
+    requires faces { HasFaces view.now }
+    requires faults { AreFaults view.now faults.now }
     ensures text { OnOk result (page.new.out ≡ page.old.out
-        ++ fault_paragraphs view.now.listing view.now.gaps view.now.file.now view.now.solid.now view.now.at.0 faults.now) }
+        ++ fault_paragraphs view.now faults.now) }
     ensures named { OnOk result (page.new.named ≡ page.old.named
-        ++ fault_faces view.now.listing view.now.gaps view.now.solid.now view.now.at.0 faults.now) }
+        ++ fault_faces view.now faults.now) }
 {
     let unpaired = faults.unpaired();
     put_join(page, view, faults.gaps())?;

@@ -1,13 +1,9 @@
 //! What is said of the shells of a solid that fail.
 
-ghost use Rattle.edge_uses.specs.ShellRows.{rows_of};
-ghost use Rattle.shell_facts.specs.FaceTable.{touches_of};
-ghost use Rattle.solid_data.specs.declared.solid.Shell.{Shell as AnyShell};
-ghost use Rattle.solid_faults.specs.Faults.{AreFaults};
-ghost use Rattle.std.specs.Prelude.{◌≡◌, ◌++◌, ◌∷◌, ◌<◌, IfOk, OnOk, Some, flat_map, length, slice_get};
-ghost use Rattle.solid_hints.specs.AllFaults.{AreAllFaults};
-ghost use Rattle.where_solids.specs.Lines.{line_at};
-ghost use Rattle.where_solids.specs.ShellTexts.{fault_faces, fault_paragraphs, gap_listing as listing_of_gaps, named_at, paragraphs_at};
+ghost use Rattle.std.specs.Prelude.{◌≡◌, ◌++◌, ◌∷◌, IfOk, OnOk, flat_map};
+ghost use Rattle.where_shells.specs.Viewed.{HasFaces, HasRows, HasShell};
+ghost use Rattle.solid_hints.specs.Viewed.{file_solid};
+ghost use Rattle.where_solids.specs.Viewed.{AreFaults, HasAllFaults, fault_faces, fault_paragraphs, gap_listing as listing_of_gaps, line_at, named_at, paragraphs_at, touches_of};
 
 use crate::fault_paragraphs::put_faults;
 use crate::gaps::gap_listing;
@@ -24,7 +20,7 @@ use where_shells::{Page, ShellView};
 use where_text::Listing;
 
 fn put_line(alloc: Global, out: &mut Out, view: &HintedSolid<'_>, k: u32) -> Result<(), NoMemory>
-    ensures { OnOk result (out.new ≡ out.old ++ line_at view.now.solid.now view.now.all.now k) }
+    ensures { OnOk result (out.new ≡ out.old ++ line_at view.now k) }
 {
     let at = ShellAt(k);
     let Some(shell) = view.solid.shell(at) else {
@@ -46,8 +42,7 @@ pub fn put_shell_lines(
     view: &HintedSolid<'_>,
     shells: &[u32],
 ) -> Result<(), NoMemory>
-    ensures { OnOk result (out.new ≡ out.old
-        ++ flat_map (line_at view.now.solid.now view.now.all.now) shells.now) }
+    ensures { OnOk result (out.new ≡ out.old ++ flat_map (line_at view.now) shells.now) }
 {
     'shells: for i in 0..shells.len() {
         put_line(alloc, out, view, shells[i])?;
@@ -63,16 +58,14 @@ fn put_described(
     shell: &Shell,
     faults: &ShellFaults,
 ) -> Result<(), NoMemory>
-    requires shell { view.now.at.0 < length view.now.solid.now.shells }
-    requires rows { view.now.rows.now
-        ≡ rows_of view.now.solid.now (slice_get view.now.solid.now.shells view.now.at.0) }
-    requires faces { view.now.faces.now ≡ touches_of view.now.solid.now }
-    requires faults { (h : AnyShell) → slice_get view.now.solid.now.shells view.now.at.0 ≡ Some h
-        → AreFaults view.now.solid.now view.now.at.0 h faults.now }
+    requires shell { HasShell view.now }
+    requires rows { HasRows view.now }
+    requires faces { HasFaces view.now }
+    requires faults { AreFaults view.now faults.now }
     ensures paragraphs { OnOk result (page.new.out ≡ page.old.out
-        ++ fault_paragraphs view.now.listing view.now.gaps view.now.file.now view.now.solid.now view.now.at.0 faults.now) }
+        ++ fault_paragraphs view.now faults.now) }
     ensures named { OnOk result (page.new.named ≡ page.old.named
-        ++ shell.now.entity ∷ fault_faces view.now.listing view.now.gaps view.now.solid.now view.now.at.0 faults.now) }
+        ++ shell.now.entity ∷ fault_faces view.now faults.now) }
 {
     page.named.push(shell.entity)?;
     put_faults(alloc, page, view, faults)
@@ -93,14 +86,12 @@ fn put_shell(
     shared: &Shared<'_>,
     k: u32,
 ) -> Result<(), NoMemory>
-    requires faults { AreAllFaults view.now.solid.now view.now.all.now }
-    requires spelled { shared.now.spelled.now ≡ record { file = view.now.file.now; solid = view.now.solid.now } }
-    requires faces { shared.now.faces.now ≡ touches_of view.now.solid.now }
-    requires gaps { shared.now.gaps ≡ listing_of_gaps view.now.listing view.now.all.now }
-    ensures paragraphs { OnOk result (page.new.out ≡ page.old.out
-        ++ paragraphs_at view.now.listing view.now.file.now view.now.solid.now view.now.all.now k) }
-    ensures named { OnOk result (page.new.named ≡ page.old.named
-        ++ named_at view.now.listing view.now.solid.now view.now.all.now k) }
+    requires faults { HasAllFaults view.now }
+    requires spelled { shared.now.spelled.now ≡ file_solid view.now }
+    requires faces { shared.now.faces.now ≡ touches_of view.now }
+    requires gaps { shared.now.gaps ≡ listing_of_gaps view.now }
+    ensures paragraphs { OnOk result (page.new.out ≡ page.old.out ++ paragraphs_at view.now k) }
+    ensures named { OnOk result (page.new.named ≡ page.old.named ++ named_at view.now k) }
 {
     let at = ShellAt(k);
     let Some(shell) = view.solid.shell(at) else {
@@ -132,14 +123,14 @@ fn put_each(
     shared: &Shared<'_>,
     shells: &[u32],
 ) -> Result<(), NoMemory>
-    requires faults { AreAllFaults view.now.solid.now view.now.all.now }
-    requires spelled { shared.now.spelled.now ≡ record { file = view.now.file.now; solid = view.now.solid.now } }
-    requires faces { shared.now.faces.now ≡ touches_of view.now.solid.now }
-    requires gaps { shared.now.gaps ≡ listing_of_gaps view.now.listing view.now.all.now }
+    requires faults { HasAllFaults view.now }
+    requires spelled { shared.now.spelled.now ≡ file_solid view.now }
+    requires faces { shared.now.faces.now ≡ touches_of view.now }
+    requires gaps { shared.now.gaps ≡ listing_of_gaps view.now }
     ensures paragraphs { OnOk result (page.new.out ≡ page.old.out
-        ++ flat_map (paragraphs_at view.now.listing view.now.file.now view.now.solid.now view.now.all.now) shells.now) }
+        ++ flat_map (paragraphs_at view.now) shells.now) }
     ensures named { OnOk result (page.new.named ≡ page.old.named
-        ++ flat_map (named_at view.now.listing view.now.solid.now view.now.all.now) shells.now) }
+        ++ flat_map (named_at view.now) shells.now) }
 {
     'shells: for i in 0..shells.len() {
         put_shell(alloc, page, view, shared, shells[i])?;
@@ -153,7 +144,7 @@ pub fn spelled<'a>(
     view: &HintedSolid<'a>,
     failing: &[u32],
 ) -> Result<SpelledSolid<'a>, NoMemory>
-    ensures { IfOk result (λ s. s ≡ record { file = view.now.file.now; solid = view.now.solid.now }) }
+    ensures { IfOk result (λ s. s ≡ file_solid view.now) }
 {
     if failing.is_empty() {
         return Ok(SpelledSolid::new(alloc, view.file, view.solid));
@@ -173,12 +164,12 @@ pub fn put_paragraphs(
     spelled: &SpelledSolid<'_>,
     shells: &[u32],
 ) -> Result<(), NoMemory>
-    requires faults { AreAllFaults view.now.solid.now view.now.all.now }
-    requires spelled { spelled.now ≡ record { file = view.now.file.now; solid = view.now.solid.now } }
+    requires faults { HasAllFaults view.now }
+    requires spelled { spelled.now ≡ file_solid view.now }
     ensures paragraphs { OnOk result (page.new.out ≡ page.old.out
-        ++ flat_map (paragraphs_at view.now.listing view.now.file.now view.now.solid.now view.now.all.now) shells.now) }
+        ++ flat_map (paragraphs_at view.now) shells.now) }
     ensures named { OnOk result (page.new.named ≡ page.old.named
-        ++ flat_map (named_at view.now.listing view.now.solid.now view.now.all.now) shells.now) }
+        ++ flat_map (named_at view.now) shells.now) }
 {
     if shells.is_empty() {
         return Ok(());

@@ -7,8 +7,10 @@ ghost use Rattle.solid_data.specs.Obligations.{AllHold, FirstFalse};
 ghost use Rattle.std.specs.Prelude.{◌≡◌, ◌++◌, ◌∷◌, ℕ, [], List, IfOk, OnOk};
 ghost use Rattle.solid_hints.specs.AllFaults.{AreAllFaults, failing_shells};
 ghost use Rattle.solid_hints.specs.ShellHints.{IsHint, ShellRemedies};
+ghost use Rattle.solid_hints.specs.Viewed.{file_solid};
 ghost use Rattle.where_solids.specs.ShellTexts.{shell_lines, shell_texts as texts_of};
 ghost use Rattle.where_solids.specs.Told.{IsToldOf};
+ghost use Rattle.where_solids.specs.Viewed.{HasAllFaults, IsHintOn, IsIn, entity_of, failing_of, lines_of, paragraphs_of};
 ghost use Rattle.where_text.specs.Listing.{shown};
 
 use crate::lines::{put_shells, put_units, put_verdict};
@@ -68,9 +70,8 @@ fn put_lines(
     view: &HintedSolid<'_>,
     failing: &[u32],
 ) -> Result<(), NoMemory>
-    requires { failing.now ≡ failing_shells view.now.all.now }
-    ensures { OnOk result (out.new ≡ out.old
-        ++ shell_lines view.now.listing view.now.file.now view.now.solid.now view.now.all.now) }
+    requires { failing.now ≡ failing_of view.now }
+    ensures { OnOk result (out.new ≡ out.old ++ lines_of view.now) }
 {
     let count = view.solid.shell_count();
     let shells = shown_members(view.listing, failing);
@@ -89,16 +90,15 @@ fn put_failing_shells(
     spelled: &SpelledSolid<'_>,
     failing: &[u32],
 ) -> Result<(), NoMemory>
-    requires spelled { spelled.now ≡ record { file = view.now.file.now; solid = view.now.solid.now } }
-    requires faults { AreAllFaults view.now.solid.now view.now.all.now }
-    requires file { view.now.file.now ≡ placed.now.file }
-    requires failing { failing.now ≡ failing_shells view.now.all.now }
-    requires named { page.old.named ≡ view.now.solid.now.entity ∷ [] }
+    requires spelled { spelled.now ≡ file_solid view.now }
+    requires faults { HasAllFaults view.now }
+    requires file { IsIn view.now placed.now }
+    requires failing { failing.now ≡ failing_of view.now }
+    requires named { page.old.named ≡ entity_of view.now ∷ [] }
     ensures { IfOk result (λ _. (remedies : List ShellRemedies) × (hint : List ℕ) × (faces : List AnyEntryNo)
-        × IsHint view.now.listing view.now.file.now view.now.solid.now view.now.all.now
-        (shown view.now.listing (failing_shells view.now.all.now)) remedies hint faces
-        × (page.new.out ≡ page.old.out ++ (shell_lines view.now.listing view.now.file.now view.now.solid.now view.now.all.now ++ hint
-        ++ texts_of view.now.listing placed.now view.now.solid.now view.now.all.now faces))) }
+        × IsHintOn view.now remedies hint faces
+        × (page.new.out ≡ page.old.out ++ (lines_of view.now ++ hint
+        ++ paragraphs_of view.now placed.now faces))) }
 {
     let shells = shown_members(view.listing, failing);
     put_lines(alloc, &mut page.out, view, failing)?;
@@ -116,15 +116,14 @@ fn put_spelled(
     view: &HintedSolid<'_>,
     failing: &[u32],
 ) -> Result<(), NoMemory>
-    requires faults { AreAllFaults view.now.solid.now view.now.all.now }
-    requires file { view.now.file.now ≡ placed.now.file }
-    requires failing { failing.now ≡ failing_shells view.now.all.now }
-    requires named { page.old.named ≡ view.now.solid.now.entity ∷ [] }
+    requires faults { HasAllFaults view.now }
+    requires file { IsIn view.now placed.now }
+    requires failing { failing.now ≡ failing_of view.now }
+    requires named { page.old.named ≡ entity_of view.now ∷ [] }
     ensures { IfOk result (λ _. (remedies : List ShellRemedies) × (hint : List ℕ) × (faces : List AnyEntryNo)
-        × IsHint view.now.listing view.now.file.now view.now.solid.now view.now.all.now
-        (shown view.now.listing (failing_shells view.now.all.now)) remedies hint faces
-        × (page.new.out ≡ page.old.out ++ (shell_lines view.now.listing view.now.file.now view.now.solid.now view.now.all.now ++ hint
-        ++ texts_of view.now.listing placed.now view.now.solid.now view.now.all.now faces))) }
+        × IsHintOn view.now remedies hint faces
+        × (page.new.out ≡ page.old.out ++ (lines_of view.now ++ hint
+        ++ paragraphs_of view.now placed.now faces))) }
 {
     let spelled = spelled(alloc, view, failing)?;
     let put = put_failing_shells(alloc, page, placed, view, &spelled, failing);
