@@ -12,6 +12,7 @@ use solid_data::{FaceUse, ShellAt, Solid, occurring_numbers};
 use std::alloc::Global;
 
 /// How many edge uses a shell has, and how many edges and vertices occur in it.
+#[derive(Drop)]
 pub struct ShellCounts {
     /// An edge counts as often as a loop of the shell names it.
     pub uses: usize,
