@@ -26,12 +26,16 @@ flag_number flag = if flag then 1 else 0
 abbrev pub loop_count : List FaceUse → ℕ
 loop_count faces = sum_by (λ (f : FaceUse). length f.loops) faces
 
--- A line for the shell with this number: uses counts its rows, and edges and vertices those that occur in it.
-abbrev pub shell_line : ℕ → Shell → ShellRows → List ℕ
-shell_line k shell d =
+-- a line for the shell with this number, which has so many edge uses, edges and vertices
+abbrev pub counts_line : ℕ → Shell → ℕ → ℕ → ℕ → List ℕ
+counts_line k shell uses edges vertices =
     codes "shell " ++ decimal k ++ counted (codes "entity") shell.entity.0 ++ counted (codes "flag") (flag_number shell.flag)
-    ++ counted (codes "faces") (length shell.faces) ++ counted (codes "loops") (loop_count shell.faces) ++ counted (codes "uses") (length d.rows)
-    ++ counted (codes "edges") (length d.edges) ++ counted (codes "vertices") (length d.vertices) ++ codes "\n"
+    ++ counted (codes "faces") (length shell.faces) ++ counted (codes "loops") (loop_count shell.faces) ++ counted (codes "uses") uses
+    ++ counted (codes "edges") edges ++ counted (codes "vertices") vertices ++ codes "\n"
+
+-- the same by the rows of the shell: uses counts them, and edges and vertices those that occur in it
+abbrev pub shell_line : ℕ → Shell → ShellRows → List ℕ
+shell_line k shell d = counts_line k shell (length d.rows) (length d.edges) (length d.vertices)
 
 -- a line for each shell from the k-th on, numbered from 1
 abbrev pub shell_lines_from : ℕ → SolidData → List Shell → List ℕ

@@ -1,14 +1,14 @@
 //! The reply to `show`: a line for each shell of a solid, with its counts.
 
 ghost use Rattle.iges_solid_cmd.specs.Due.{OfShow};
-ghost use Rattle.iges_solid_cmd.specs.Texts.{counted, loop_count as loops_of, shell_line, shell_lines_from, show_text};
+ghost use Rattle.iges_solid_cmd.specs.Texts.{counted, counts_line, loop_count as loops_of, shell_lines_from, show_text};
 ghost use Rattle.std.specs.Prelude.{◌≡◌, ◌+◌, ◌<◌, ◌^◌, ◌++◌, drop, length, IfOk, OnOk};
 
 use brep_walk::{WalkFault, walk};
 use command_replies::{Answer, Reply, failed};
-use edge_uses::{Rows, rows};
 use iges_base::{Bytes, EntryNo, NoMemory, Out, write_number};
 use iges_params::File;
+use shell_counts::{ShellCounts, shell_counts};
 use solid_data::{FaceUse, Shell, ShellAt, Solid};
 use std::alloc::Global;
 
@@ -35,9 +35,10 @@ fn loop_count(faces: &[FaceUse]) -> u64
 }
 
 // The line of a shell, whose number counts from 1.
-fn put_shell(out: &mut Out, k: u64, shell: &Shell, rows: &Rows) -> Result<(), NoMemory>
+fn put_shell(out: &mut Out, k: u64, shell: &Shell, counts: &ShellCounts) -> Result<(), NoMemory>
     requires { loops_of shell.now.faces < 2 ^ 64 }
-    ensures { OnOk result (out.new ≡ out.old ++ shell_line k shell.now rows.now) }
+    ensures { OnOk result (out.new ≡ out.old
+        ++ counts_line k shell.now counts.now.uses counts.now.edges counts.now.vertices) }
 {
     out.put(b"shell ")?;
     write_number(out, k)?;
@@ -45,9 +46,9 @@ fn put_shell(out: &mut Out, k: u64, shell: &Shell, rows: &Rows) -> Result<(), No
     put_count(out, "flag", u64::from(shell.flag))?;
     put_count(out, "faces", shell.faces.len() as u64)?;
     put_count(out, "loops", loop_count(shell.faces.as_slice()))?;
-    put_count(out, "uses", rows.len() as u64)?;
-    put_count(out, "edges", rows.edge_count() as u64)?;
-    put_count(out, "vertices", rows.vertex_count() as u64)?;
+    put_count(out, "uses", counts.uses as u64)?;
+    put_count(out, "edges", counts.edges as u64)?;
+    put_count(out, "vertices", counts.vertices as u64)?;
     out.put(b"\n")
 }
 
@@ -58,9 +59,9 @@ fn put_shell_at(alloc: Global, out: &mut Out, solid: &Solid, k: u32) -> Result<(
         (drop (k + 1) solid.now.shells) ≡ out.old
         ++ shell_lines_from k solid.now (drop k solid.now.shells)) }
 {
-    let rows = rows(alloc, solid, ShellAt(k))?;
+    let counts = shell_counts(alloc, solid, ShellAt(k))?;
     let shell = solid.shell(ShellAt(k)).unwrap();
-    put_shell(out, u64::from(k) + 1, shell, &rows)
+    put_shell(out, u64::from(k) + 1, shell, &counts)
 }
 
 // The solid's number, and a line for each shell.

@@ -12,6 +12,6 @@ pub returns : goal.returns
 returns c =
     let there : Some c.unwrap-shell.result.now ≡ slice_get c.args.solid.now.shells c.args.k = search rules in
     on_ok_weaker c.put_shell.result
-    (λ grown. shell_put c.args.solid.now c.args.k c.from.result c.unwrap-shell.result.now c.in_ok-rows.rows c.args.out.now c.put_shell.new.out there
-    c.in_ok-rows.ensures c.from.ensures grown)
+    (λ grown. shell_put c.args.solid.now c.args.k c.from.result c.unwrap-shell.result.now c.in_ok-counts.counts c.args.out.now c.put_shell.new.out there
+    c.in_ok-counts.ensures c.from.ensures grown)
     c.put_shell.ensures

@@ -13,6 +13,6 @@ returns-in_err-put_end c limit f h =
 pub returns : goal.returns
 returns c limit f h =
     let whole = c.in_ok-put_end.ensures {u = tt} ∙ pages_joined limit f c.args.pages.front c.args.pages.params c.args.pages.counts h in (
-      c.into_bytes.ensures.is ∙ ap (λ (s : Sheet). s.text) whole,
+      c.in_ok-into_bytes.ensures.is ∙ ap (λ (s : Sheet). s.text) whole,
       subst (λ (s : Sheet). length s.text ≤ s.limit) whole c.into_bytes.ensures.within,
     )
