@@ -1,19 +1,39 @@
 //! Files as replies.
 
 ghost use Rattle.file_replies.specs.Written.{OfWritten};
-ghost use Rattle.std.specs.Prelude.{IfOk};
+ghost use Rattle.iges_base.specs.declared.TheConstants.{FILE_LIMIT};
+ghost use Rattle.iges_write.specs.Text.{IsText};
+ghost use Rattle.std.specs.Prelude.{◌≡◌, ◌<◌, ◌≤◌, Err, IfOk, List, ℕ, length};
 
 use command_replies::{Answer, Reply, too_large};
-use iges_base::{FILE_LIMIT, NoMemory};
+use iges_base::{Bytes, FILE_LIMIT, NoMemory};
 use iges_params::File;
-use iges_write::{WriteFileFault, into_text};
+use iges_write::{WriteFileFault, into_text, write_file};
 use std::alloc::Global;
+
+// The memory of a file with so many entries serves for its text.
+const MANY_ENTRIES: usize = 10_000;
+
+// The text of a file that isn't needed any more.
+fn text_of(alloc: Global, file: File) -> Result<Bytes, WriteFileFault>
+    ensures found { IfOk result (IsText file) }
+    ensures within { IfOk result (λ bytes. length bytes ≤ FILE_LIMIT) }
+    ensures large { result ≡ Err WriteFileFault.TooLarge → (bytes : List ℕ) → IsText file bytes
+        → FILE_LIMIT < length bytes }
+{
+    if file.entry_count() >= MANY_ENTRIES {
+        return into_text(alloc, file, FILE_LIMIT);
+    }
+    let text = write_file(alloc, &file, FILE_LIMIT);
+    file.memory().release(file);
+    text
+}
 
 /// The reply that is the text of a file, or that this is too large.
 pub fn written(alloc: Global, file: File) -> Result<Reply, NoMemory>
     ensures { IfOk result (λ reply. OfWritten file reply.answer reply.text) }
 {
-    match into_text(alloc, file, FILE_LIMIT) {
+    match text_of(alloc, file) {
         Ok(text) => Ok(Reply {
             answer: Answer::Done,
             text,

@@ -14,10 +14,12 @@ use std::alloc::Global;
 pub fn extract_solid(alloc: Global, file: File, no: u32) -> Result<Reply, NoMemory>
     ensures { IfOk result (λ reply. OfExtract no file reply.answer reply.text) }
 {
-    let extracted = match into_extract(alloc, file, EntryNo(no)) {
+    let memory = file.memory();
+    let mut extracted = match into_extract(alloc, file, EntryNo(no)) {
         Ok(extracted) => extracted,
         Err(ExtractFault::Refused { entity, reason }) => return refused(alloc, entity, reason),
         Err(ExtractFault::NoMemory) => return Err(NoMemory),
     };
+    extracted.set_memory(memory);
     written(alloc, extracted)
 }
