@@ -39,7 +39,7 @@ fn is_tried(
     requires rows { shell.rows.now ≡ rows_of solid.now (slice_get solid.now.shells shell.number.0) }
     requires below { AreBelow solid.now shell.number.0 shell.below }
     ensures { IfOk result (λ tried. IsTrue tried
-        → IsTried solid.now geometry.now shell.number remedy.now) }
+        → IsTried solid.now geometry.now shell.entry.number remedy.now) }
 {
     if !is_of(remedy, shell.number) {
         return Ok(false);
@@ -61,7 +61,7 @@ fn tried_of(
 ) -> Result<ItemList<Remedy>, NoMemory>
     requires rows { shell.rows.now ≡ rows_of solid.now (slice_get solid.now.shells shell.number.0) }
     requires below { AreBelow solid.now shell.number.0 shell.below }
-    ensures { IfOk result (λ remedies. AreTried solid.now known.now.geometry shell.number remedies) }
+    ensures { IfOk result (λ remedies. AreTried solid.now known.now.geometry shell.entry.number remedies) }
 {
     let found = search(alloc, solid, known, shell.number, shell.rows, shell.below)?;
     let mut tried = ItemList::new(alloc);
