@@ -1,32 +1,23 @@
 //! The reply to `extract`.
 
 ghost use Rattle.iges_solid_cmd.specs.Due.{OfExtract};
-ghost use Rattle.std.specs.Prelude.{◌≡◌, IfOk};
+ghost use Rattle.std.specs.Prelude.{IfOk};
 
 use command_replies::Reply;
 use file_replies::{refused, written};
-use iges_base::{EntryNo, Memory, NoMemory};
+use iges_base::{EntryNo, NoMemory};
 use iges_params::File;
 use solid_extract::{ExtractFault, into_extract};
 use std::alloc::Global;
-
-// The file, of whose memory becomes what is said.
-fn with_memory(mut file: File, memory: Memory) -> File
-    ensures { result ≡ file }
-{
-    file.set_memory(memory);
-    file
-}
 
 /// The file of a solid alone, with all that it refers to, or why there is none.
 pub fn extract_solid(alloc: Global, file: File, no: u32) -> Result<Reply, NoMemory>
     ensures { IfOk result (λ reply. OfExtract no file reply.answer reply.text) }
 {
-    let memory = file.memory();
     let extracted = match into_extract(alloc, file, EntryNo(no)) {
         Ok(extracted) => extracted,
         Err(ExtractFault::Refused { entity, reason }) => return refused(alloc, entity, reason),
         Err(ExtractFault::NoMemory) => return Err(NoMemory),
     };
-    written(alloc, with_memory(extracted, memory))
+    written(alloc, extracted)
 }

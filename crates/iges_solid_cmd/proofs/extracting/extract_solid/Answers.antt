@@ -12,5 +12,5 @@ returns-in-Err-Refused c =
 
 pub returns : goal.returns
 returns c =
-    let made : IsExtracted c.args.file c.args.no c.with_memory.result = search rules in
-    IfOk-weaker c.written.result _ _ (λ reply owed. extracted c.with_memory.result made owed) c.written.ensures
+    let made : IsExtracted c.args.file c.args.no c.in-Ok.extracted = search rules in
+    IfOk-weaker c.written.result _ _ (λ reply owed. extracted c.in-Ok.extracted made owed) c.written.ensures
