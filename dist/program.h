@@ -5,7 +5,7 @@ typedef struct {
 } Row;
 
 #define VERSION "1.0"
-#define SOURCES "76740dec11bd97b64c21d12a5fb03ac8aeebf91ed67a61da8bee427776a35669"
+#define SOURCES "02c8cafa96734c47f5f55cb1608082236362b280568fc3be9b49101e53bf439b"
 #define KIT "rattle-kit-13f logic dac8208d650f15bf"
 static const Row rows[] = {
     {"program", "igesolid", "all", "judges the solids of a file, and writes and checks certificates"},
