@@ -1,5 +1,5 @@
 -- Entries that are put one by one.
-use Rattle.std.specs.Prelude.{◌≡◌, ℕ, zero, suc, ◌+◌, ◌*◌, ◌/◌, ◌%◌, ◌<◌, ◌≤◌, ◌==◌, ◌&&◌, Bool, true, false, not, ℤ, pos, List, [], ◌∷◌, ◌++◌, length, map, flat_map, take, drop, Option, Some, None, slice_get, option_map, get_or, set}
+use Rattle.std.specs.Prelude.{◌≡◌, ℕ, zero, suc, ◌+◌, ◌*◌, ◌/◌, ◌%◌, ◌<◌, ◌≤◌, ◌==◌, ◌&&◌, Bool, true, false, not, ℤ, pos, List, [], ◌∷◌, ◌++◌, length, map, flat_map, take, drop, Some, None, slice_get, option_map, get_or, set}
 use Rattle.std.specs.List.{AllByRecursion, enumerate_from}
 use Rattle.std.specs.Ordering.{int_eq}
 use Rattle.std.proofs.Common.{refl, sym, ◌∙◌, ap, subst, arith, append_assoc}
@@ -7,7 +7,7 @@ use Rattle.iges_base.proofs.Lists.{open_at}
 use Rattle.std.proofs.lemmas.Bool.{eqb-true}
 use Rattle.std.proofs.lemmas.Bool.Decides.{Decides-int_eq}
 use Rattle.std.proofs.lemmas.Option.{none-some, same_Some}
-use Rattle.std.proofs.lemmas.List.{length-set, take_all, map-append}
+use Rattle.std.proofs.lemmas.List.{append-nil, drop_all, length-set, take_all, map-append}
 use Rattle.std.proofs.lemmas.List.FromFn.{length-enumerate_from}
 use Rattle.iges_directory.specs.declared.entry.Entry.{Entry}
 use Rattle.iges_fields.specs.declared.value.Value.{Value}
@@ -17,7 +17,6 @@ use Rattle.iges_params.specs.Named.{kind_of, named}
 use Rattle.iges_params.proofs.NamedEntries.{named_used}
 use Rattle.entry_references.specs.Refs.{Record}
 use Rattle.entry_references.proofs.NamedRecords.{named_place}
-use Rattle.solid_data.proofs.Members.{get_some}
 use Rattle.iges_params.proofs.Copies.{one_more}
 use Rattle.changed_file.specs.Emptied.{AreMarksOf, emptied, emptied_record, all_refs, names_number, refs_of, unless_gone}
 
@@ -117,12 +116,18 @@ gone_is ns us gone used i r b eg eu is =
     ap (λ a. unless_gone (a && not (names_number us (2 * i + 1))) r) (sym eg)
     ∙ (ap (λ a. unless_gone (get_or gone i false && not a) r) (sym eu) ∙ ap (λ a. unless_gone a r) (sym is))
 
-pub refs_next : (f : Contents) (i : ℕ) (r : Record) (out new all : List ℤ) → slice_get f.entries i ≡ Some r → new ≡ out ++ refs_of f r
-    → out ++ flat_map (refs_of f) (drop i f.entries) ≡ all → new ++ flat_map (refs_of f) (drop (i + 1) f.entries) ≡ all
-refs_next f i r out new all at en inv =
-    ap (λ (x : List ℤ). x ++ flat_map (refs_of f) (drop (i + 1) f.entries)) en
-    ∙ (append_assoc out (refs_of f r) (flat_map (refs_of f) (drop (i + 1) f.entries))
-    ∙ (sym (ap (λ (es : List Record). out ++ flat_map (refs_of f) es) (open_at f.entries i r at)) ∙ inv))
+-- ---- what an item gives, put behind what those before it gave, where the list may have changed up to it
+
+pub flat_end : {X Y : Type 0} (g : X → List Y) (xs : List X) (i : ℕ) (out all : List Y) → length xs ≤ i → out ++ flat_map g (drop i xs) ≡ all → out ≡ all
+flat_end {X} {Y} g xs i out all past inv =
+    sym (append-nil out) ∙ (sym (ap (λ (zs : List X). out ++ flat_map g zs) (drop_all i xs past)) ∙ inv)
+
+pub put_next : {X Y : Type 0} (g : X → List Y) (xs ys : List X) (i : ℕ) (x : X) (out new all : List Y) → slice_get xs i ≡ Some x
+    → drop (i + 1) ys ≡ drop (i + 1) xs → new ≡ out ++ g x → out ++ flat_map g (drop i xs) ≡ all → new ++ flat_map g (drop (i + 1) ys) ≡ all
+put_next {X} {Y} g xs ys i x out new all at left en inv =
+    ap (λ (zs : List X). new ++ flat_map g zs) left
+    ∙ (ap (λ (zs : List Y). zs ++ flat_map g (drop (i + 1) xs)) en
+    ∙ (append_assoc out (g x) (flat_map g (drop (i + 1) xs)) ∙ (sym (ap (λ (zs : List X). out ++ flat_map g zs) (open_at xs i x at)) ∙ inv)))
 
 -- ---- a file from which the values of one entry after the other are taken
 

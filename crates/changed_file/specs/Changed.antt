@@ -28,11 +28,12 @@ like_record (Some r) values = (r.0, values) ∷ []
 abbrev pub new_record : Contents → NewEntry → List Record
 new_record f e = like_record (named f (pos e.like)) e.values
 
-unfoldable pub rewritten : Contents → Draft → Contents
-rewritten f d = record f { entries = map (kept_record d.slots) (enumerate_from 0 f.entries) ++ flat_map (new_record f) d.added }
+-- new values of entries, by their places, and new entries behind all
+unfoldable pub rewritten : Contents → List (Option (List Value)) → List NewEntry → Contents
+rewritten f slots added = record f { entries = map (kept_record slots) (enumerate_from 0 f.entries) ++ flat_map (new_record f) added }
 
 abbrev pub without_gone : Contents → Draft → Contents
-without_gone f d = emptied d.loops (emptied d.faces (rewritten f d))
+without_gone f d = emptied d.loops (emptied d.faces (rewritten f d.slots d.added))
 
 -- The file with one change for each of these shells of the solid, all of them changes of this file.
 unfoldable pub changed : Contents → SolidData → List Change → Contents

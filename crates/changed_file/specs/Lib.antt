@@ -4,3 +4,4 @@ pub mod Faces
 pub mod Changing
 pub mod Emptied
 pub mod Changed
+pub mod Staying

@@ -8,6 +8,7 @@ mod changing;
 mod draft;
 mod emptying;
 mod faces;
+mod law;
 mod making;
 mod marking;
 mod new_entries;
@@ -15,5 +16,6 @@ mod rewriting;
 
 pub use changed_records::ChangeFault;
 pub use draft::{Slots, blank_slots, put_values};
+pub use law::others_stay;
 pub use making::changed;
 pub use rewriting::with_slots;

@@ -13,10 +13,10 @@ use shell_change::Change;
 use solid_data::Solid;
 use std::alloc::Global;
 
-fn without_gone(alloc: Global, file: &File, draft: &Draft) -> Result<File, ChangeFault>
-    ensures { IfOk result (λ new. new ≡ without_gone file.now draft.now) }
+fn without_gone(alloc: Global, file: &File, mut draft: Draft) -> Result<File, ChangeFault>
+    ensures { IfOk result (λ new. new ≡ without_gone file.now draft) }
 {
-    let new = rewritten(alloc, file, draft)?;
+    let new = rewritten(alloc, file, &mut draft.slots, &mut draft.added)?;
     let without_faces = emptied(alloc, new, draft.faces.as_slice())?;
     emptied(alloc, without_faces, draft.loops.as_slice())
 }
@@ -33,5 +33,5 @@ pub fn changed(
     ensures { IfOk result (λ new. new ≡ changed file.now solid.now changes.now) }
 {
     let draft = drafted(alloc, file, solid, changes)?;
-    without_gone(alloc, file, &draft)
+    without_gone(alloc, file, draft)
 }

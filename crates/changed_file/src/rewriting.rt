@@ -4,11 +4,11 @@ ghost use Rattle.changed_file.specs.Changed.{kept_record, new_record, rewritten,
 ghost use Rattle.iges_directory.specs.Bounds.{IsBounded};
 ghost use Rattle.iges_params.specs.Contents.{value_count};
 ghost use Rattle.std.specs.List.{enumerate_from};
-ghost use Rattle.std.specs.Prelude.{◌≡◌, ◌<◌, ◌∷◌, ◌++◌, [], None, Some, IfOk, OnOk, flat_map, length, map, option_copied, option_map, slice_get, slice_index_or, unwrap_or};
+ghost use Rattle.std.specs.Prelude.{◌≡◌, ◌<◌, ◌≤◌, ◌+◌, ◌∷◌, ◌++◌, ℕ, [], None, Some, IfOk, OnOk, drop, flat_map, length, map, option_map, slice_get, slice_index_or, unwrap_or};
 
-use crate::draft::{Draft, NewEntry};
+use crate::draft::{NewEntry, Slots};
 use changed_records::ChangeFault;
-use iges_base::{ENTRY_LIMIT, EntryNo, FILE_LIMIT, NoMemory};
+use iges_base::{ENTRY_LIMIT, EntryNo, FILE_LIMIT, ItemList, NoMemory};
 use iges_directory::Entry;
 use iges_fields::Values;
 use iges_params::{File, begun, copied_values};
@@ -54,30 +54,27 @@ pub(crate) fn values_at(alloc: Global, file: &File, i: usize) -> Result<Values, 
     }
 }
 
-// The new values of the i-th entry, if it has any.
-fn slot_at(slots: &[Option<Values>], i: usize) -> Option<&Values>
-    ensures { option_copied result ≡ slice_index_or slots.now i None }
+// The new values of the i-th entry, if it has any. They are moved.
+fn slot_taken(slots: &mut Slots, i: usize) -> Option<Values>
+    ensures slot { result ≡ slice_index_or slots.old i None }
+    ensures left { (j : ℕ) → i < j → slice_index_or slots.new j None ≡ slice_index_or slots.old j None }
 {
-    match slots.get(i) {
-        Some(slot) => slot.as_ref(),
-        None => None,
+    if i >= slots.len() {
+        return None;
     }
+    slots.replace(i, None)
 }
 
 // The values of the i-th entry: new ones, where there are any.
-fn kept_values(
-    alloc: Global,
-    file: &File,
-    slots: &[Option<Values>],
-    i: usize,
-) -> Result<Values, NoMemory>
+fn kept_values(alloc: Global, file: &File, slots: &mut Slots, i: usize) -> Result<Values, NoMemory>
     requires { i < length file.now.entries }
-    ensures { IfOk result (λ values. option_map
-        (λ r. unwrap_or (slice_index_or slots.now i None) r.1) (slice_get file.now.entries i)
+    ensures kept { IfOk result (λ values. option_map
+        (λ r. unwrap_or (slice_index_or slots.old i None) r.1) (slice_get file.now.entries i)
         ≡ Some values) }
+    ensures left { (j : ℕ) → i < j → slice_index_or slots.new j None ≡ slice_index_or slots.old j None }
 {
-    match slot_at(slots, i) {
-        Some(values) => copied_values(alloc, values),
+    match slot_taken(slots, i) {
+        Some(values) => Ok(values),
         None => values_at(alloc, file, i),
     }
 }
@@ -86,12 +83,12 @@ fn put_old(
     alloc: Global,
     new: &mut File,
     file: &File,
-    slots: &[Option<Values>],
+    slots: &mut Slots,
 ) -> Result<u64, ChangeFault>
     requires { new.old.entries ≡ [] }
     ensures ok { OnOk result (new.new ≡ record new.old {
       entries = map
-          (kept_record slots.now) (enumerate_from 0 file.now.entries);
+          (kept_record slots.old) (enumerate_from 0 file.now.entries);
     }) }
     ensures counted { IfOk result (λ n. n ≡ value_count new.new.entries) }
 {
@@ -104,36 +101,43 @@ fn put_old(
     Ok(count)
 }
 
-/// The file in which entries have these values, by their places, where there are any. It is refused where the file would have too
-/// many values.
+/// The file in which entries have these values, by their places, where there are any. They are moved. It is refused where the file
+/// would have too many values.
 #[tactic(auto, unfolding(crate::specs::Changed::with_slots))]
-pub fn with_slots(alloc: Global, file: &File, slots: &[Option<Values>]) -> Result<File, ChangeFault>
-    ensures { IfOk result (λ new. new ≡ with_slots file.now slots.now) }
+pub fn with_slots(alloc: Global, file: &File, slots: &mut Slots) -> Result<File, ChangeFault>
+    ensures { IfOk result (λ new. new ≡ with_slots file.now slots.old) }
 {
     let mut new = begun(alloc, file)?;
     put_old(alloc, &mut new, file, slots)?;
     Ok(new)
 }
 
-fn put_new(
-    alloc: Global,
-    new: &mut File,
-    count: u64,
-    file: &File,
-    added: &NewEntry,
-) -> Result<u64, ChangeFault>
+// The i-th new entry, in the place of which one without values is left.
+fn added_taken(alloc: Global, added: &mut ItemList<NewEntry>, i: usize) -> NewEntry
+    requires { i < length added.old }
+    ensures taken { slice_get added.old i ≡ Some result }
+    ensures left { drop (i + 1) added.new ≡ drop (i + 1) added.old }
+    ensures len { length added.new ≡ length added.old }
+{
+    let empty = NewEntry {
+        like: 0,
+        values: Values::new(alloc),
+    };
+    added.replace(i, empty)
+}
+
+fn put_new(new: &mut File, count: u64, file: &File, added: NewEntry) -> Result<u64, ChangeFault>
     requires { count ≡ value_count new.old.entries }
     ensures ok { OnOk result (new.new ≡ record new.old {
       entries = new.old.entries
-          ++ new_record file.now added.now;
+          ++ new_record file.now added;
     }) }
     ensures counted { IfOk result (λ n. n ≡ value_count new.new.entries) }
 {
     let Some(entry) = file.entry(EntryNo(added.like)) else {
         return Err(ChangeFault::Unfit);
     };
-    let values = copied_values(alloc, &added.values)?;
-    push_within(new, count, *entry, values)
+    push_within(new, count, *entry, added.values)
 }
 
 fn put_added(
@@ -141,28 +145,34 @@ fn put_added(
     new: &mut File,
     count: u64,
     file: &File,
-    added: &[NewEntry],
+    added: &mut ItemList<NewEntry>,
 ) -> Result<(), ChangeFault>
     requires { count ≡ value_count new.old.entries }
     ensures { OnOk result (new.new ≡ record new.old {
       entries = new.old.entries
-          ++ flat_map (new_record file.now) added.now;
+          ++ flat_map (new_record file.now) added.old;
     }) }
 {
     let mut count = count;
     'added: for i in 0..added.len() {
-        count = put_new(alloc, new, count, file, &added[i])?;
+        let entry = added_taken(alloc, added, i);
+        count = put_new(new, count, file, entry)?;
     }
     Ok(())
 }
 
-/// The file with these new values and new entries.
+/// The file with new values of its entries, by their places, and new entries. Both are moved.
 #[tactic(auto, unfolding(crate::specs::Changed::rewritten))]
-pub(crate) fn rewritten(alloc: Global, file: &File, draft: &Draft) -> Result<File, ChangeFault>
-    ensures { IfOk result (λ new. new ≡ rewritten file.now draft.now) }
+pub(crate) fn rewritten(
+    alloc: Global,
+    file: &File,
+    slots: &mut Slots,
+    added: &mut ItemList<NewEntry>,
+) -> Result<File, ChangeFault>
+    ensures { IfOk result (λ new. new ≡ rewritten file.now slots.old added.old) }
 {
     let mut new = begun(alloc, file)?;
-    let count = put_old(alloc, &mut new, file, draft.slots.as_slice())?;
-    put_added(alloc, &mut new, count, file, draft.added.as_slice())?;
+    let count = put_old(alloc, &mut new, file, slots)?;
+    put_added(alloc, &mut new, count, file, added)?;
     Ok(new)
 }

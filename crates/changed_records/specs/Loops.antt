@@ -24,6 +24,10 @@ abbrev pub behind_tuples : ℕ → List Value → List Value
 behind_tuples zero vs = vs
 behind_tuples (suc n) vs = behind_tuples n (drop (tuple_size vs) vs)
 
+-- Private: the tuple that begins at a place of a record.
+abbrev pub tuple_from : List Value → ℕ → List Value
+tuple_from vs place = take (tuple_size (drop place vs)) (drop place vs)
+
 -- the tuple that comes to be the i-th, where the loop is reversed or isn't
 abbrev pub cut_at : Bool → List (List Value) → ℕ → List Value
 cut_at true cuts i = slice_index_or cuts (length cuts - (i + 1)) []

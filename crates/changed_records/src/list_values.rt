@@ -131,8 +131,9 @@ pub fn vertex_list_values(
     ensures { IfOk result (λ list. list
         ≡ vertex_list_values file.now solid.now vertices.now) }
 {
-    let mut list = Values::new(alloc);
-    push_number(&mut list, short_count(vertices.len())?)?;
+    let count = short_count(vertices.len())?;
+    let mut list = Values::with_room(alloc, 1 + 3 * count as usize)?;
+    push_number(&mut list, count)?;
     push_vertices(&mut list, alloc, file, solid, vertices)?;
     Ok(list)
 }
@@ -149,8 +150,9 @@ pub fn edge_list_values(
     ensures { IfOk result (λ list. list
         ≡ edge_list_values file.now solid.now lists edges.now) }
 {
-    let mut list = Values::new(alloc);
-    push_number(&mut list, short_count(edges.len())?)?;
+    let count = short_count(edges.len())?;
+    let mut list = Values::with_room(alloc, 1 + 5 * count as usize)?;
+    push_number(&mut list, count)?;
     push_edges(&mut list, alloc, file, solid, lists, edges)?;
     Ok(list)
 }

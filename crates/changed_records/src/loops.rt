@@ -1,7 +1,8 @@
 //! The values of a loop after the change.
 
-ghost use Rattle.changed_records.specs.Loops.{curve_values, loop_values, tuple_now, tuples_now, use_values};
-ghost use Rattle.std.specs.Prelude.{◌≡◌, ◌++◌, IfOk, OnOk, length};
+ghost use Rattle.changed_records.specs.Loops.{curve_values, loop_values, tuple_from, tuple_now, tuples_now, use_values};
+ghost use Rattle.iges_base.specs.declared.TheConstants.{FILE_LIMIT};
+ghost use Rattle.std.specs.Prelude.{◌≡◌, ◌≤◌, ◌++◌, IfOk, OnOk, length, map};
 
 use crate::fault::ChangeFault;
 use crate::named::{NewLists, edge_item, push_item, vertex_item};
@@ -75,19 +76,21 @@ fn push_tuples(
     alloc: Global,
     solid: &Solid,
     lists: NewLists,
-    tuples: &[Values],
+    values: &Values,
+    places: &[usize],
     now: &LoopNow,
 ) -> Result<(), ChangeFault>
+    requires { length values.now ≤ FILE_LIMIT }
     ensures { OnOk result (list.new
-        ≡ list.old ++ tuples_now solid.now lists now.now.reversed tuples.now 0 now.now.uses) }
+        ≡ list.old ++ tuples_now solid.now lists now.now.reversed (map (tuple_from values.now) places.now) 0 now.now.uses) }
 {
     let uses = now.uses.as_slice();
-    if uses.len() != tuples.len() {
+    if uses.len() != places.len() {
         return Err(ChangeFault::Unfit);
     }
     'uses: for i in 0..uses.len() {
-        let cut = cut_at(tuples, now.reversed, i);
-        push_tuple(list, alloc, solid, lists, cut, now.reversed, uses[i])?;
+        let cut = cut_at(alloc, values, places, now.reversed, i)?;
+        push_tuple(list, alloc, solid, lists, &cut, now.reversed, uses[i])?;
     }
     Ok(())
 }
@@ -106,7 +109,15 @@ pub fn loop_values(
     let cuts = tuple_cuts(alloc, values)?;
     let mut list = Values::with_room(alloc, values.len())?;
     push_copies(&mut list, alloc, values, 0, 1)?;
-    push_tuples(&mut list, alloc, solid, lists, cuts.tuples.as_slice(), now)?;
+    push_tuples(
+        &mut list,
+        alloc,
+        solid,
+        lists,
+        values,
+        cuts.places.as_slice(),
+        now,
+    )?;
     push_copies(&mut list, alloc, values, cuts.end, values.len())?;
     Ok(list)
 }

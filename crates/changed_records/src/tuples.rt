@@ -1,9 +1,10 @@
-//! The tuples of a loop, each as its values.
+//! The tuples of a loop, each by the place at which it begins.
 
 ghost use Rattle.brep_lists.specs.Record.{count_at};
-ghost use Rattle.changed_records.specs.Loops.{behind_tuples, cut_at, tuple_cuts, tuple_size};
+ghost use Rattle.changed_records.specs.Loops.{behind_tuples, cut_at, tuple_cuts, tuple_from, tuple_size};
 ghost use Rattle.iges_base.specs.declared.TheConstants.{FILE_LIMIT};
-ghost use Rattle.std.specs.Prelude.{◌≡◌, ◌+◌, ◌<◌, ◌*◌, ◌≤◌, IfOk, OnOk, Some, drop, length, slice_get, take};
+ghost use Rattle.iges_fields.specs.declared.value.Value.{Value as AnyValue};
+ghost use Rattle.std.specs.Prelude.{◌≡◌, ◌+◌, ◌<◌, ◌*◌, ◌≤◌, IfOk, List, OnOk, drop, length, map, take};
 
 use crate::fault::ChangeFault;
 use brep_lists::count_at;
@@ -12,10 +13,10 @@ use iges_fields::Values;
 use iges_params::push_copies;
 use std::alloc::Global;
 
-/// The tuples of a loop, and the place of what comes after them.
+/// The places at which the tuples of a loop begin, and that of what comes after them.
 #[derive(Drop)]
 pub(crate) struct Cuts {
-    pub(crate) tuples: ItemList<Values>,
+    pub(crate) places: ItemList<usize>,
     pub(crate) end: usize,
 }
 
@@ -36,36 +37,29 @@ fn tuple_size(values: &Values, at: usize) -> Result<usize, ChangeFault>
     Ok(5 + 2 * curves)
 }
 
-fn cut(alloc: Global, values: &Values, at: usize, size: usize) -> Result<Values, ChangeFault>
-    ensures { IfOk result (λ cut. cut ≡ take size (drop at values.now)) }
-{
-    let mut list = Values::new(alloc);
-    push_copies(&mut list, alloc, values, at, size)?;
-    Ok(list)
-}
-
 fn cuts_of(alloc: Global, values: &Values) -> Result<Cuts, ChangeFault>
     requires { length values.now ≤ FILE_LIMIT }
-    ensures tuples { IfOk result (λ cuts. cuts.tuples
+    ensures tuples { IfOk result (λ cuts. map (tuple_from values.now) cuts.places
         ≡ tuple_cuts (count_at values.now 0) (drop 1 values.now)) }
     ensures end { IfOk result (λ cuts. drop cuts.end values.now
         ≡ behind_tuples (count_at values.now 0) (drop 1 values.now)) }
 {
-    let mut tuples = ItemList::new(alloc);
+    let mut places = ItemList::new(alloc);
     let mut end = 1;
     let mut left = count_at(values, 0);
     'tuples: while left > 0 {
         let size = tuple_size(values, end)?;
-        tuples.push(cut(alloc, values, end, size)?)?;
+        places.push(end)?;
         end += size;
         left -= 1;
     }
-    Ok(Cuts { tuples, end })
+    Ok(Cuts { places, end })
 }
 
 /// The tuples of a loop.
 pub(crate) fn tuple_cuts(alloc: Global, values: &Values) -> Result<Cuts, ChangeFault>
-    ensures tuples { IfOk result (λ cuts. cuts.tuples
+    ensures few { OnOk result (length values.now ≤ FILE_LIMIT) }
+    ensures tuples { IfOk result (λ cuts. map (tuple_from values.now) cuts.places
         ≡ tuple_cuts (count_at values.now 0) (drop 1 values.now)) }
     ensures end { IfOk result (λ cuts. drop cuts.end values.now
         ≡ behind_tuples (count_at values.now 0) (drop 1 values.now)) }
@@ -76,14 +70,34 @@ pub(crate) fn tuple_cuts(alloc: Global, values: &Values) -> Result<Cuts, ChangeF
     cuts_of(alloc, values)
 }
 
-/// The tuple that comes to be the i-th, where the loop is reversed or isn't.
-pub(crate) fn cut_at(tuples: &[Values], reversed: bool, i: usize) -> &Values
-    requires { i < length tuples.now }
-    ensures { result.now ≡ cut_at reversed tuples.now i }
+// The place of the tuple that comes to be the i-th, where the loop is reversed or isn't.
+fn place_at(places: &[usize], reversed: bool, i: usize) -> usize
+    requires { i < length places.now }
+    ensures { (vs : List AnyValue) → tuple_from vs result
+        ≡ cut_at reversed (map (tuple_from vs) places.now) i }
 {
     if reversed {
-        &tuples[tuples.len() - (i + 1)]
+        places[places.len() - (i + 1)]
     } else {
-        &tuples[i]
+        places[i]
     }
+}
+
+/// A copy of the tuple that comes to be the i-th, where the loop is reversed or isn't.
+pub(crate) fn cut_at(
+    alloc: Global,
+    values: &Values,
+    places: &[usize],
+    reversed: bool,
+    i: usize,
+) -> Result<Values, ChangeFault>
+    requires few { length values.now ≤ FILE_LIMIT }
+    requires within { i < length places.now }
+    ensures { IfOk result (λ cut. cut ≡ cut_at reversed (map (tuple_from values.now) places.now) i) }
+{
+    let place = place_at(places, reversed, i);
+    let size = tuple_size(values, place)?;
+    let mut cut = Values::with_room(alloc, size)?;
+    push_copies(&mut cut, alloc, values, place, size)?;
+    Ok(cut)
 }

@@ -5,4 +5,4 @@ mod refusing;
 mod writing;
 
 pub use refusing::refused;
-pub use writing::written;
+pub use writing::{written, written_new};

@@ -14,14 +14,14 @@ use std::alloc::Global;
 // The memory of a file with so many entries serves for its text.
 const MANY_ENTRIES: usize = 10_000;
 
-// The text of a file that isn't needed any more.
-fn text_of(alloc: Global, file: File) -> Result<Bytes, WriteFileFault>
+// The text of a file that isn't needed any more: its memory serves for the text if it is to be freed, else it is left to the system.
+fn text_of(alloc: Global, file: File, freed: bool) -> Result<Bytes, WriteFileFault>
     ensures found { IfOk result (IsText file) }
     ensures within { IfOk result (λ bytes. length bytes ≤ FILE_LIMIT) }
     ensures large { result ≡ Err WriteFileFault.TooLarge → (bytes : List ℕ) → IsText file bytes
         → FILE_LIMIT < length bytes }
 {
-    if file.entry_count() >= MANY_ENTRIES {
+    if freed {
         return into_text(alloc, file, FILE_LIMIT);
     }
     let text = write_file(alloc, &file, FILE_LIMIT);
@@ -29,11 +29,10 @@ fn text_of(alloc: Global, file: File) -> Result<Bytes, WriteFileFault>
     text
 }
 
-/// The reply that is the text of a file, or that this is too large.
-pub fn written(alloc: Global, file: File) -> Result<Reply, NoMemory>
+fn written_by(alloc: Global, file: File, freed: bool) -> Result<Reply, NoMemory>
     ensures { IfOk result (λ reply. OfWritten file reply.answer reply.text) }
 {
-    match text_of(alloc, file) {
+    match text_of(alloc, file, freed) {
         Ok(text) => Ok(Reply {
             answer: Answer::Done,
             text,
@@ -41,4 +40,19 @@ pub fn written(alloc: Global, file: File) -> Result<Reply, NoMemory>
         Err(WriteFileFault::TooLarge) => Ok(too_large()),
         Err(WriteFileFault::NoMemory) => Err(NoMemory),
     }
+}
+
+/// The reply that is the text of a file, or that this is too large.
+pub fn written(alloc: Global, file: File) -> Result<Reply, NoMemory>
+    ensures { IfOk result (λ reply. OfWritten file reply.answer reply.text) }
+{
+    let freed = file.entry_count() >= MANY_ENTRIES;
+    written_by(alloc, file, freed)
+}
+
+/// The same of a file that may be many times as long as the one that was read.
+pub fn written_new(alloc: Global, file: File) -> Result<Reply, NoMemory>
+    ensures { IfOk result (λ reply. OfWritten file reply.answer reply.text) }
+{
+    written_by(alloc, file, true)
 }

@@ -1,3 +1,4 @@
 pub mod OneMending
 pub mod StateLemmas
 pub mod WritableEntries
+mod GeometryKept

@@ -1,5 +1,5 @@
 -- What holds of mending by its definition.
-use Rattle.std.specs.Prelude.{◌≡◌, ℕ, ◌≤◌, List, length}
+use Rattle.std.specs.Prelude.{◌≡◌, ℕ, ◌≤◌, All, List, length}
 use Rattle.iges_base.specs.declared.TheConstants.{FILE_LIMIT}
 use Rattle.iges_params.specs.Contents.{Contents}
 use Rattle.iges_params.specs.IsFile.{IsFile}
@@ -7,8 +7,13 @@ use Rattle.iges_params.specs.Limits.{FitsLimits}
 use Rattle.iges_params.specs.Refusal.{IsOnly}
 use Rattle.iges_write.specs.Text.{IsText}
 use Rattle.solid_data.specs.declared.verdict.Failing.{Failing}
+use Rattle.brep_walk.specs.SolidOf.{solid_of}
+use Rattle.solid_geometry.specs.Known.{IsGeometryOf}
 use Rattle.solid_mend.specs.Mended.{AreClosed}
 use Rattle.shell_change.specs.declared.change.Change.{Change}
+use Rattle.shell_change.specs.declared.geometry.Geometry.{Geometry}
+use Rattle.shell_change.specs.Fits.{KeepsGeometry}
+use Rattle.changed_file.specs.Staying.{OthersStayIn}
 use Rattle.command_replies.specs.declared.answer.Answer.{Answer}
 use Rattle.file_replies.specs.Written.{OfWritten}
 use Rattle.named_once.specs.Once.{once}
@@ -41,3 +46,15 @@ OneMended = (n : ℕ) (f g : Contents) (m : ℕ) (cs : List Change) (new other :
 abbrev pub MendedReadsBack : Type 0
 MendedReadsBack = (n : ℕ) (f g : Contents) (m : ℕ) (cs : List Change) (new : Contents) (text : List ℕ) → IsMendedAs n f g m cs new → IsText new text
     → length text ≤ FILE_LIMIT → IsOnly (IsFile text) new × AreClosed new m (length g.entries)
+
+-- In the new file each entry but the solid, its shells, their loops and removed faces is as it was extracted, and under the geometry of its records
+-- each use that stays runs along its curve between its places, or along that of a seam and by moves that the change tells.
+pub record GeometryStaysIn (g : Contents) (m : ℕ) (cs : List Change) (new : Contents) : Type 0 where
+  pub others : OthersStayIn g (solid_of g m) cs new
+  pub geometry : Geometry
+  pub known : IsGeometryOf g (solid_of g m) geometry
+  pub kept : All (KeepsGeometry (solid_of g m) geometry) cs
+
+-- What is mended keeps its geometry.
+abbrev pub GeometryStays : Type 0
+GeometryStays = (n : ℕ) (f g : Contents) (m : ℕ) (cs : List Change) (new : Contents) → IsMendedAs n f g m cs new → GeometryStaysIn g m cs new

@@ -20,7 +20,7 @@ use crate::telling::unmended;
 use crate::writable::recall_writable;
 use brep_walk::{WalkFault, walk};
 use command_replies::{Reply, failed};
-use file_replies::{refused, written};
+use file_replies::{refused, written, written_new};
 use iges_base::{EntryNo, NoMemory};
 use iges_params::File;
 use solid_data::{Failing, Solid};
@@ -48,7 +48,7 @@ pub fn mending_of(
     ensures { IfOk result (IsMendingOf extraction.now.file extraction.now.no.0) }
 {
     let solid = extracted_solid(alloc, extraction)?;
-    mend(alloc, &extraction.file, extraction.no, &solid, choice)
+    mend(alloc, &extraction.file, extraction.no, solid, choice)
 }
 
 fn mended(alloc: Global, new: Mended) -> Result<Reply, NoMemory>
@@ -56,7 +56,7 @@ fn mended(alloc: Global, new: Mended) -> Result<Reply, NoMemory>
     ensures reply { IfOk result (λ reply. OfWritten new.file reply.answer reply.text) }
 {
     recall_writable(&new.file);
-    written(alloc, new.file)
+    written_new(alloc, new.file)
 }
 
 // The reply for an extracted solid that fails by a rule on shells, where this failing is told.

@@ -183,8 +183,8 @@ pub fn once(alloc: Global, file: &File, no: EntryNo) -> Result<NamedOnce, NoMemo
     ensures file { IfOk result (λ made. made.file ≡ once file.now no.0) }
     ensures dropped { IfOk result (λ made. made.dropped ≡ dropped file.now no.0) }
 {
-    let draft = once_draft(alloc, file, no)?;
-    match with_slots(alloc, file, draft.slots.as_slice()) {
+    let mut draft = once_draft(alloc, file, no)?;
+    match with_slots(alloc, file, &mut draft.slots) {
         Ok(file) => Ok(NamedOnce {
             file,
             dropped: draft.seen.dropped,

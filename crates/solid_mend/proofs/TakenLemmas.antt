@@ -1,5 +1,5 @@
 -- Remedies that are taken, one of each shell.
-use Rattle.std.specs.Prelude.{◌≡◌, ◌⊎◌, ℕ, ◌+◌, ◌<◌, get_or, List, [], ◌∷◌, ◌++◌, All, length, take, Some, slice_get}
+use Rattle.std.specs.Prelude.{◌≡◌, ℕ, ◌+◌, ◌<◌, get_or, List, [], ◌∷◌, ◌++◌, All, length, take, Some, slice_get}
 use Rattle.std.specs.List.{AllByRecursion, AllZip, enumerate_from}
 use Rattle.std.proofs.Common.{refl, sym, ◌∙◌, ap, subst, inl, inr}
 use Rattle.std.proofs.lemmas.Option.{get_or_from_slice_get}
@@ -11,7 +11,6 @@ use Rattle.solid_data.specs.SolidData.{SolidData}
 use Rattle.solid_data.specs.declared.solid.Shell.{Shell}
 use Rattle.solid_data.specs.declared.solid.ShellAt.{ShellAt}
 use Rattle.shell_change.specs.declared.change.Change.{Change}
-use Rattle.shell_change.specs.declared.change.Remedy.{Remedy}
 use Rattle.shell_change.specs.declared.geometry.Geometry.{Geometry}
 use Rattle.change_fits.specs.Fits.{Fits}
 use Rattle.tried_remedies.specs.Tried.{IsTried}

@@ -1,5 +1,6 @@
 -- A mended file.
 use Rattle.std.specs.Prelude.{◌≡◌, ℕ, ◌+◌, ◌*◌, ◌≤◌, List, [], All, Contains, length, IsTrue}
+use Rattle.std.specs.List.{AllZip}
 use Rattle.solid_data.specs.SolidData.{SolidData}
 use Rattle.iges_params.specs.Contents.{Contents}
 use Rattle.iges_params.specs.Solids.{is_solid_at}
@@ -54,6 +55,11 @@ pub record IsTakenOf (x : ShellRemedies) (c : Change) : Type 0 where
   pub among : Contains x.remedies remedy
   pub is : c ≡ remedy.change
   pub rims : c.rims ≡ []
+
+-- the file with changes of remedies that were taken, one of each shell
+pub record IsDraftOf (f : Contents) (s : SolidData) (xs : List ShellRemedies) (cs : List Change) (new : Contents) : Type 0 where
+  pub taken : AllZip IsTakenOf xs cs
+  pub is : new ≡ changed f s cs
 
 -- the remedies of the shells that fail, each tried under the geometry of the file's records
 pub record AreRemediesOf (f : Contents) (s : SolidData) (xs : List ShellRemedies) : Type 0 where

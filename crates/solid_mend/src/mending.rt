@@ -2,7 +2,7 @@
 
 ghost use Rattle.brep_walk.specs.SolidOf.{solid_of};
 ghost use Rattle.changed_file.specs.Changed.{changed as changed_contents};
-ghost use Rattle.solid_mend.specs.Mended.{AreClosed, AreRemediesOf, IsMended, IsMendingOf};
+ghost use Rattle.solid_mend.specs.Mended.{AreClosed, AreRemediesOf, IsDraftOf, IsMendingOf};
 ghost use Rattle.std.specs.Prelude.{◌≡◌, IfOk, IfSome};
 
 use crate::judging::are_closed;
@@ -71,38 +71,30 @@ fn new_file(
     }
 }
 
-// The new file, if all is closed in it.
-fn judged(alloc: Global, new: File, no: EntryNo, from: usize) -> Result<Option<File>, NoMemory>
-    ensures { IfOk result (λ o. IfSome o (λ same. (same ≡ new) × AreClosed new no.0 from)) }
-{
-    if are_closed(alloc, &new, no, from)? {
-        return Ok(Some(new));
-    }
-    Ok(None)
+// A file with changes that isn't judged yet: the fields of what was mended.
+#[derive(Drop)]
+struct Draft {
+    file: File,
+    changes: ItemList<Change>,
+    numbers: Vec<usize>,
 }
 
-// The file with these remedies, if all is closed in it.
-fn attempt(
+// The file with these remedies.
+fn drafted(
     alloc: Global,
     file: &File,
-    no: EntryNo,
     solid: &Solid,
     found: &[ShellRemedies],
     wanted: usize,
-) -> Result<Option<Mended>, NoMemory>
-    requires solid { solid.now ≡ solid_of file.now no.0 }
-    requires remedies { AreRemediesOf file.now solid.now found.now }
-    ensures { IfOk result (λ o. IfSome o (λ m. IsMended file.now no.0 m.changes m.file)) }
+) -> Result<Option<Draft>, NoMemory>
+    ensures { IfOk result (λ o. IfSome o (λ draft. IsDraftOf file.now solid.now found.now draft.changes draft.file)) }
 {
     let Some(changes) = changes_of(alloc, found, wanted)? else {
         return Ok(None);
     };
     let numbers = numbers_of(alloc, found, wanted)?;
-    let Some(new) = new_file(alloc, file, solid, changes.as_slice())? else {
-        return Ok(None);
-    };
-    match judged(alloc, new, no, file.entry_count())? {
-        Some(file) => Ok(Some(Mended {
+    match new_file(alloc, file, solid, changes.as_slice())? {
+        Some(file) => Ok(Some(Draft {
             file,
             changes,
             numbers,
@@ -111,6 +103,22 @@ fn attempt(
     }
 }
 
+// The file, if all is closed in it.
+fn judged(alloc: Global, draft: Draft, no: EntryNo, from: usize) -> Result<Option<Mended>, NoMemory>
+    ensures { IfOk result (λ o. IfSome o (λ m. (m.file ≡ draft.file) × (m.changes ≡ draft.changes)
+        × AreClosed draft.file no.0 from)) }
+{
+    if !are_closed(alloc, &draft.file, no, from)? {
+        return Ok(None);
+    }
+    Ok(Some(Mended {
+        file: draft.file,
+        changes: draft.changes,
+        numbers: draft.numbers,
+    }))
+}
+
+// Whether all is closed with these remedies.
 fn is_made(
     alloc: Global,
     file: &File,
@@ -118,11 +126,11 @@ fn is_made(
     solid: &Solid,
     found: &[ShellRemedies],
     wanted: usize,
-) -> Result<bool, NoMemory>
-    requires solid { solid.now ≡ solid_of file.now no.0 }
-    requires remedies { AreRemediesOf file.now solid.now found.now }
-{
-    Ok(attempt(alloc, file, no, solid, found, wanted)?.is_some())
+) -> Result<bool, NoMemory> {
+    match drafted(alloc, file, solid, found, wanted)? {
+        Some(draft) => Ok(judged(alloc, draft, no, file.entry_count())?.is_some()),
+        None => Ok(false),
+    }
 }
 
 // The least number with which a file is made.
@@ -132,10 +140,7 @@ fn least_number(
     no: EntryNo,
     solid: &Solid,
     found: &[ShellRemedies],
-) -> Result<Unmended, NoMemory>
-    requires solid { solid.now ≡ solid_of file.now no.0 }
-    requires remedies { AreRemediesOf file.now solid.now found.now }
-{
+) -> Result<Unmended, NoMemory> {
     'numbers: for wanted in 1..MOST + 1 {
         if is_made(alloc, file, no, solid, found, wanted)? {
             return Ok(Unmended::Unsure(wanted as u32));
@@ -155,19 +160,49 @@ fn wants_sure(choice: Choice) -> bool {
     matches!(choice, Choice::Sure)
 }
 
-fn made(
+// Why no file is made with what is chosen, where the remedies tell it.
+fn unmended_by(
     alloc: Global,
     file: &File,
     no: EntryNo,
     solid: &Solid,
     found: &[ShellRemedies],
+    choice: Choice,
+) -> Result<Option<Unmended>, NoMemory> {
+    if !all_have(found) {
+        return Ok(Some(Unmended::Stuck));
+    }
+    let faces = faces_needed(found, number_in(choice));
+    if faces > 0 {
+        return Ok(Some(Unmended::NeedsFaces(faces)));
+    }
+    if wants_sure(choice) && !all_sure(found) {
+        let why = least_number(alloc, file, no, solid, found)?;
+        return Ok(Some(why));
+    }
+    Ok(None)
+}
+
+// The file with these remedies. The solid and they give their memory back before it is judged.
+fn made(
+    alloc: Global,
+    file: &File,
+    no: EntryNo,
+    solid: Solid,
+    found: Vec<ShellRemedies>,
     wanted: usize,
 ) -> Result<Mending, NoMemory>
-    requires solid { solid.now ≡ solid_of file.now no.0 }
-    requires remedies { AreRemediesOf file.now solid.now found.now }
+    requires solid { solid ≡ solid_of file.now no.0 }
+    requires remedies { AreRemediesOf file.now solid found.items }
     ensures { IfOk result (IsMendingOf file.now no.0) }
 {
-    match attempt(alloc, file, no, solid, found, wanted)? {
+    let draft = drafted(alloc, file, &solid, found.as_slice(), wanted);
+    drop(found);
+    drop(solid);
+    let Some(draft) = draft? else {
+        return Ok(Mending::Unmended(Unmended::Stuck));
+    };
+    match judged(alloc, draft, no, file.entry_count())? {
         Some(mended) => Ok(Mending::Mended(mended)),
         None => Ok(Mending::Unmended(Unmended::Stuck)),
     }
@@ -177,27 +212,18 @@ fn mended_by(
     alloc: Global,
     file: &File,
     no: EntryNo,
-    solid: &Solid,
-    found: &[ShellRemedies],
+    solid: Solid,
+    found: Vec<ShellRemedies>,
     choice: Choice,
 ) -> Result<Mending, NoMemory>
-    requires solid { solid.now ≡ solid_of file.now no.0 }
-    requires remedies { AreRemediesOf file.now solid.now found.now }
+    requires solid { solid ≡ solid_of file.now no.0 }
+    requires remedies { AreRemediesOf file.now solid found.items }
     ensures { IfOk result (IsMendingOf file.now no.0) }
 {
-    if !all_have(found) {
-        return Ok(Mending::Unmended(Unmended::Stuck));
+    match unmended_by(alloc, file, no, &solid, found.as_slice(), choice)? {
+        Some(why) => Ok(Mending::Unmended(why)),
+        None => made(alloc, file, no, solid, found, number_in(choice)),
     }
-    let wanted = number_in(choice);
-    let faces = faces_needed(found, wanted);
-    if faces > 0 {
-        return Ok(Mending::Unmended(Unmended::NeedsFaces(faces)));
-    }
-    if wants_sure(choice) && !all_sure(found) {
-        let why = least_number(alloc, file, no, solid, found)?;
-        return Ok(Mending::Unmended(why));
-    }
-    made(alloc, file, no, solid, found, wanted)
 }
 
 /// The file in which a solid of a file is closed, made by one remedy for each of its shells that fail; or why none is made.
@@ -205,12 +231,12 @@ pub fn mend(
     alloc: Global,
     file: &File,
     no: EntryNo,
-    solid: &Solid,
+    solid: Solid,
     choice: Choice,
 ) -> Result<Mending, NoMemory>
-    requires { solid.now ≡ solid_of file.now no.0 }
+    requires { solid ≡ solid_of file.now no.0 }
     ensures { IfOk result (IsMendingOf file.now no.0) }
 {
-    let found = remedies_of(alloc, file, solid)?;
-    mended_by(alloc, file, no, solid, found.as_slice(), choice)
+    let found = remedies_of(alloc, file, &solid)?;
+    mended_by(alloc, file, no, solid, found, choice)
 }

@@ -1,4 +1,4 @@
-use Rattle.std.specs.Prelude.{option_copied, slice_index_or, unwrap_or, None}
+use Rattle.std.specs.Prelude.{Option, option_copied, option_map, slice_get, slice_index_or, unwrap_or, None}
 use Rattle.std.proofs.Common.{◌<◌, ◌∙◌, sym, ap, arith, length, List}
 use Rattle.iges_directory.specs.declared.entry.Entry.{Entry}
 use Rattle.iges_fields.specs.declared.value.Value.{Value}
@@ -15,7 +15,9 @@ entries-preserved c =
     let here = get_some c.args.file.now.entries c.entries.i lt in
     let is = sym c.entry_at.ensures.entry ∙ ap option_copied c.unwrap-entry.ensures in
     let F = λ (r : Record). unwrap_or (slice_index_or c.args.slots.now c.entries.i None) r.1 in
-    let both = here_is c.args.file.now.entries c.entries.i here.0 F c.unwrap-entry.result.now c.in_ok-values.values here.1 (sym is) c.in_ok-values.ensures in
+    let same = c.entries.invariant.left c.entries.i (omega arith) in
+    let kept = ap (λ (o : Option (List Value)). option_map (λ (r : Record). unwrap_or o r.1) (slice_get c.args.file.now.entries c.entries.i)) (sym same) ∙ c.in_ok-values.ensures.kept in
+    let both = here_is c.args.file.now.entries c.entries.i here.0 F c.unwrap-entry.result.now c.in_ok-values.values here.1 (sym is) kept in
     let ok = c.in_ok-count.ensures.ok in
     record {
       start = ap (λ (f : Contents). f.start) ok ∙ c.entries.invariant.start;
@@ -24,6 +26,7 @@ entries-preserved c =
           c.entries.new.entries c.push_within.new.new.entries here.1
           (ap (λ (e : Entry). (e, F here.0)) both.0 ∙ ap (λ (vs : List Value). (c.unwrap-entry.result.now, vs)) both.1) c.entries.invariant.entries
           (ap (λ (f : Contents). f.entries) ok);
+      left = λ j le. c.in_ok-values.ensures.left j (omega (arith, le)) ∙ c.entries.invariant.left j (omega (arith, le));
       counted = c.in_ok-count.ensures.counted;
     }
 

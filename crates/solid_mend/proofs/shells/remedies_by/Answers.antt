@@ -1,8 +1,6 @@
 use Rattle.std.proofs.Common.{rules, ◌<◌, ◌^◌, arith, length}
 use Rattle.solid_faults.proofs.Definite.{few_shells}
-use Rattle.solid_faults.proofs.SharedSteps.{none_below}
-use Rattle.std.proofs.lemmas.List.Elements.{All-nil}
-use Rattle.solid_mend.specs.Mended.{AreTriedOf, shell_of_remedies}
+use Rattle.solid_mend.specs.Mended.{shell_of_remedies}
 use Rattle.solid_mend.proofs.FailingLemmas.{all_done}
 use Rattle.solid_mend.proofs.shells.remedies_by.Goals as goal
 

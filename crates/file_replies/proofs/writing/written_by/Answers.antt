@@ -2,7 +2,7 @@ use Rattle.std.proofs.Common.{refl, rules}
 use Rattle.iges_write.proofs.FileBack.{one_text}
 use Rattle.command_replies.proofs.Owing.{owed_so}
 use Rattle.file_replies.specs.Written.{OfWritten, too_large, written}
-use Rattle.file_replies.proofs.writing.written.Goals as goal
+use Rattle.file_replies.proofs.writing.written_by.Goals as goal
 
 pub returns-in-Ok : goal.returns-in-Ok
 returns-in-Ok c = search (rules, written)
