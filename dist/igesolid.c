@@ -622,7 +622,7 @@ FN void f36(B b, u64 l0);
 FN u32 f37(B b, u64 l0);
 FN u32 f38(B b, u64 l0);
 FN void f39(B b, u64 l0, u64 l1);
-FN void f40(B b, u64 l0, u64 l1);
+FN void f40(B b, u64 l0, u64 l1, u32 l2);
 FN void f41(B b, u64 l0);
 FN void f42(B b, u64 l0);
 FN void f43(B b, u64 l0);
@@ -750,164 +750,164 @@ FN u32 f164(B b, u64 l0, u64 l1);
 FN void f165(B b, u64 l0, u64 l1, u64 l2, u64 l3, u32 l4);
 FN void f166(B b, u64 l0, u64 l1);
 FN void f167(B b, u64 l0, u64 l1);
-FN void f168(B b, u64 l0);
-FN void f169(B b, u64 l0, u64 l1, u32 l2);
+FN void f168(B b, u64 l0, u64 l1, u32 l2);
+FN void f169(B b, u64 l0, u64 l1);
 FN void f170(B b, u64 l0, u64 l1);
-FN void f171(B b, u64 l0, u64 l1);
-FN u32 f172(B b, u64 l0);
+FN u32 f171(B b, u64 l0);
+FN void f172(B b, u64 l0, u64 l1);
 FN void f173(B b, u64 l0, u64 l1);
-FN void f174(B b, u64 l0, u64 l1);
+FN u32 f174(B b, u64 l0);
 FN u32 f175(B b, u64 l0);
 FN u32 f176(B b, u64 l0);
-FN u32 f177(B b, u64 l0);
-FN void f178(B b, u64 l0);
-FN void f179(B b, u64 l0, u64 l1);
-FN void f180(B b, u64 l0, u64 l1, u32 l2);
-FN void f181(B b, u64 l0, u64 l1);
-FN u32 f182(B b, u64 l0, u64 l1, u32 l2, u32 l3, u64 l4, u64 l5);
-FN void f183(B b, u64 l0, u64 l1, u64 l2, u64 l3, u64 l4);
-FN void f184(B b, u64 l0, u64 l1);
-FN void f185(B b, u64 l0, u64 l1, u64 l2, u64 l3, u64 l4);
+FN void f177(B b, u64 l0);
+FN void f178(B b, u64 l0, u64 l1);
+FN void f179(B b, u64 l0, u64 l1, u32 l2);
+FN void f180(B b, u64 l0, u64 l1);
+FN u32 f181(B b, u64 l0, u64 l1, u32 l2, u32 l3, u64 l4, u64 l5);
+FN void f182(B b, u64 l0, u64 l1, u64 l2, u64 l3, u64 l4);
+FN void f183(B b, u64 l0, u64 l1);
+FN void f184(B b, u64 l0, u64 l1, u64 l2, u64 l3);
+FN void f185(B b, u64 l0);
 FN void f186(B b, u64 l0);
-FN void f187(B b, u64 l0);
-FN u32 f188(B b, u64 l0, u64 l1, u64 l2, u64 l3);
-FN u32 f189(B b, u64 l0);
-FN u32 f190(B b, u64 l0, u64 l1, u32 l2, u32 l3, u64 l4);
-FN u32 f191(B b, u64 l0);
-FN void f192(B b, u64 l0, u64 l1, u64 l2, u64 l3, u64 l4);
-FN void f193(B b, u64 l0, u64 l1, u32 l2, u32 l3);
+FN u32 f187(B b, u64 l0, u64 l1, u64 l2, u64 l3);
+FN u32 f188(B b, u64 l0);
+FN u32 f189(B b, u64 l0, u64 l1, u32 l2, u32 l3, u64 l4);
+FN u32 f190(B b, u64 l0);
+FN void f191(B b, u64 l0, u64 l1, u64 l2, u64 l3, u64 l4);
+FN void f192(B b, u64 l0, u64 l1, u32 l2, u32 l3);
+FN void f193(B b, u64 l0, u64 l1, u64 l2);
 FN void f194(B b, u64 l0, u64 l1, u64 l2);
-FN void f195(B b, u64 l0, u64 l1, u64 l2);
-FN void f196(B b, u64 l0, u64 l1, u32 l2, u64 l3, u64 l4);
-FN void f197(B b, u64 l0);
-FN void f198(B b, u64 l0, u64 l1, u64 l2, u32 l3, u64 l4);
-FN u32 f199(B b, u64 l0);
-FN void f200(B b, u64 l0, u64 l1, u32 l2, u64 l3, u64 l4, u64 l5, u64 l6);
-FN void f201(B b, u64 l0);
-FN u32 f202(B b, u64 l0);
+FN void f195(B b, u64 l0, u64 l1, u32 l2, u64 l3, u64 l4);
+FN void f196(B b, u64 l0);
+FN void f197(B b, u64 l0, u64 l1, u64 l2, u32 l3, u64 l4);
+FN u32 f198(B b, u64 l0);
+FN void f199(B b, u64 l0);
+FN void f200(B b, u64 l0, u64 l1, u64 l2, u64 l3, u64 l4, u64 l5);
+FN void f201(B b, u64 l0, u64 l1, u32 l2, u64 l3);
+FN void f202(B b, u64 l0);
 FN u32 f203(B b, u64 l0);
-FN u32 f204(B b, u64 l0, u64 l1);
-FN void f205(B b, u64 l0);
-FN void f206(B b, u64 l0, u64 l1, u64 l2);
-FN void f207(B b, u64 l0, u64 l1, u32 l2);
-FN void f208(B b, u64 l0, u64 l1, u64 l2);
-FN u32 f209(B b, u64 l0);
-FN void f210(B b, u64 l0, u64 l1, u64 l2);
-FN void f211(B b, u64 l0, u64 l1, u64 l2, u64 l3);
+FN u32 f204(B b, u64 l0);
+FN u32 f205(B b, u64 l0, u64 l1);
+FN void f206(B b, u64 l0);
+FN void f207(B b, u64 l0, u64 l1, u64 l2);
+FN void f208(B b, u64 l0, u64 l1, u32 l2);
+FN void f209(B b, u64 l0, u64 l1, u64 l2);
+FN u32 f210(B b, u64 l0);
+FN void f211(B b, u64 l0, u64 l1, u64 l2);
 FN void f212(B b, u64 l0, u64 l1, u64 l2, u64 l3);
-FN void f213(B b, u64 l0, u64 l1, u64 l2);
-FN void f214(B b, u64 l0, u32 l1, u32 l2);
-FN u32 f215(B b, u64 l0);
+FN void f213(B b, u64 l0, u64 l1, u64 l2, u64 l3);
+FN void f214(B b, u64 l0, u64 l1, u64 l2);
+FN void f215(B b, u64 l0, u32 l1, u32 l2);
 FN u32 f216(B b, u64 l0);
-FN void f217(B b, u64 l0);
-FN u32 f218(B b, u64 l0, u64 l1, u64 l2, u64 l3);
-FN u32 f219(B b, u64 l0, u64 l1, u64 l2);
-FN void f220(B b, u64 l0, u64 l1, u64 l2, u64 l3, u64 l4);
-FN u32 f221(B b, u64 l0);
-FN u32 f222(B b, u64 l0, u64 l1, u64 l2);
-FN u32 f223(B b, u64 l0, u64 l1);
-FN void f224(B b, u64 l0);
-FN void f225(B b, u64 l0, u64 l1, u64 l2);
-FN u32 f226(B b, u64 l0);
-FN void f227(B b, u64 l0, u64 l1, u64 l2);
-FN u32 f228(B b, u64 l0);
-FN u32 f229(B b, u64 l0, u64 l1);
-FN void f230(B b, u64 l0, u64 l1, u32 l2);
-FN void f231(B b, u64 l0, u64 l1);
-FN void f232(B b, u64 l0);
-FN u32 f233(B b, u64 l0);
+FN u32 f217(B b, u64 l0);
+FN void f218(B b, u64 l0);
+FN u32 f219(B b, u64 l0, u64 l1, u64 l2, u64 l3);
+FN u32 f220(B b, u64 l0, u64 l1, u64 l2);
+FN void f221(B b, u64 l0, u64 l1, u64 l2, u64 l3, u64 l4);
+FN u32 f222(B b, u64 l0);
+FN u32 f223(B b, u64 l0, u64 l1, u64 l2);
+FN u32 f224(B b, u64 l0, u64 l1);
+FN void f225(B b, u64 l0);
+FN void f226(B b, u64 l0, u64 l1, u64 l2);
+FN u32 f227(B b, u64 l0);
+FN void f228(B b, u64 l0, u64 l1, u64 l2);
+FN u32 f229(B b, u64 l0);
+FN u32 f230(B b, u64 l0, u64 l1);
+FN void f231(B b, u64 l0, u64 l1, u32 l2);
+FN void f232(B b, u64 l0, u64 l1);
+FN void f233(B b, u64 l0);
 FN u32 f234(B b, u64 l0);
-FN void f235(B b, u64 l0, u64 l1, u64 l2);
-FN u32 f236(B b, u64 l0);
+FN u32 f235(B b, u64 l0);
+FN void f236(B b, u64 l0, u64 l1, u64 l2);
 FN u32 f237(B b, u64 l0);
 FN u32 f238(B b, u64 l0);
-FN void f239(B b, u64 l0, u64 l1, u64 l2, u64 l3);
-FN u32 f240(B b, u64 l0);
-FN void f241(B b, u64 l0, u64 l1, u64 l2);
-FN void f242(B b, u64 l0, u64 l1, u64 l2, u64 l3);
-FN u32 f243(B b, u64 l0);
+FN u32 f239(B b, u64 l0);
+FN void f240(B b, u64 l0, u64 l1, u64 l2, u64 l3);
+FN u32 f241(B b, u64 l0);
+FN void f242(B b, u64 l0, u64 l1, u64 l2);
+FN void f243(B b, u64 l0, u64 l1, u64 l2, u64 l3);
 FN u32 f244(B b, u64 l0);
-FN u32 f245(B b, u64 l0, u64 l1);
+FN u32 f245(B b, u64 l0);
 FN u32 f246(B b, u64 l0, u64 l1);
-FN u32 f247(B b, u64 l0);
+FN u32 f247(B b, u64 l0, u64 l1);
 FN u32 f248(B b, u64 l0);
 FN u32 f249(B b, u64 l0);
-FN void f250(B b, u64 l0, u64 l1, u64 l2, u32 l3);
-FN u32 f251(B b, u64 l0);
-FN void f252(B b, u64 l0, u64 l1, u64 l2, u32 l3);
-FN u32 f253(B b, u64 l0, u64 l1);
+FN u32 f250(B b, u64 l0);
+FN void f251(B b, u64 l0, u64 l1, u64 l2, u32 l3);
+FN u32 f252(B b, u64 l0);
+FN void f253(B b, u64 l0, u64 l1, u64 l2, u32 l3);
 FN u32 f254(B b, u64 l0, u64 l1);
 FN u32 f255(B b, u64 l0, u64 l1);
-FN void f256(B b, u64 l0, u64 l1, u64 l2, u64 l3);
-FN void f257(B b, u64 l0, u64 l1, u64 l2, u64 l3, u64 l4);
-FN void f258(B b, u64 l0, u64 l1, u64 l2);
+FN u32 f256(B b, u64 l0, u64 l1);
+FN void f257(B b, u64 l0, u64 l1, u64 l2, u64 l3);
+FN void f258(B b, u64 l0, u64 l1, u64 l2, u64 l3, u64 l4);
 FN void f259(B b, u64 l0, u64 l1, u64 l2);
-FN void f260(B b, u64 l0, u64 l1, u64 l2, u64 l3, u64 l4);
-FN void f261(B b, u64 l0, u64 l1, u64 l2, u64 l3);
-FN void f262(B b, u64 l0, u64 l1, u64 l2, u64 l3, u64 l4);
-FN void f263(B b, u64 l0, u64 l1, u64 l2, u64 l3, u64 l4, u64 l5, u32 l6);
-FN u32 f264(B b, u64 l0);
-FN void f265(B b, u64 l0);
-FN void f266(B b, u64 l0, u64 l1, u64 l2, u64 l3, u64 l4, u64 l5);
-FN u32 f267(B b, u64 l0, u64 l1);
-FN u32 f268(B b, u64 l0);
-FN void f269(B b, u64 l0, u64 l1, u64 l2, u32 l3);
-FN u32 f270(B b, u64 l0);
-FN void f271(B b, u64 l0);
-FN u32 f272(B b, u64 l0);
-FN void f273(B b, u64 l0, u64 l1, u64 l2);
-FN void f274(B b, u64 l0, u64 l1, u64 l2, u64 l3);
-FN void f275(B b, u64 l0, u64 l1, u64 l2);
-FN void f276(B b, u64 l0, u64 l1, u64 l2, u32 l3, u64 l4);
-FN void f277(B b, u64 l0, u64 l1, u64 l2, u64 l3, u64 l4, u32 l5, u32 l6, u64 l7, u64 l8, u64 l9);
-FN void f278(B b, u64 l0, u64 l1, u64 l2);
-FN u64 f279(B b, u64 l0, u64 l1, u64 l2, u64 l3);
-FN u64 f280(B b, u64 l0, u64 l1, u64 l2, u64 l3, u64 l4);
-FN void f281(B b, u64 l0, u64 l1, u64 l2);
+FN void f260(B b, u64 l0, u64 l1, u64 l2);
+FN void f261(B b, u64 l0, u64 l1, u64 l2, u64 l3, u64 l4);
+FN void f262(B b, u64 l0, u64 l1, u64 l2, u64 l3);
+FN void f263(B b, u64 l0, u64 l1, u64 l2, u64 l3, u64 l4);
+FN void f264(B b, u64 l0, u64 l1, u64 l2, u64 l3, u64 l4, u64 l5, u32 l6);
+FN u32 f265(B b, u64 l0);
+FN void f266(B b, u64 l0);
+FN void f267(B b, u64 l0, u64 l1, u64 l2, u64 l3, u64 l4, u64 l5);
+FN u32 f268(B b, u64 l0, u64 l1);
+FN u32 f269(B b, u64 l0);
+FN void f270(B b, u64 l0, u64 l1, u64 l2, u32 l3);
+FN u32 f271(B b, u64 l0);
+FN void f272(B b, u64 l0);
+FN u32 f273(B b, u64 l0);
+FN void f274(B b, u64 l0, u64 l1, u64 l2);
+FN void f275(B b, u64 l0, u64 l1, u64 l2, u64 l3);
+FN void f276(B b, u64 l0, u64 l1, u64 l2);
+FN void f277(B b, u64 l0, u64 l1, u64 l2, u32 l3, u64 l4);
+FN void f278(B b, u64 l0, u64 l1, u64 l2, u64 l3, u64 l4, u32 l5, u32 l6, u64 l7, u64 l8, u64 l9);
+FN void f279(B b, u64 l0, u64 l1, u64 l2);
+FN u64 f280(B b, u64 l0, u64 l1, u64 l2, u64 l3);
+FN u64 f281(B b, u64 l0, u64 l1, u64 l2, u64 l3, u64 l4);
 FN void f282(B b, u64 l0, u64 l1, u64 l2);
-FN void f283(B b, u64 l0, u64 l1, u64 l2, u64 l3);
-FN void f284(B b, u64 l0, u64 l1, u64 l2);
-FN void f285(B b, u64 l0, u64 l1, u64 l2, u32 l3, u64 l4);
-FN void f286(B b, u64 l0, u64 l1, u64 l2, u64 l3, u64 l4, u32 l5, u32 l6, u64 l7, u64 l8, u64 l9);
-FN void f287(B b, u64 l0, u64 l1, u64 l2);
-FN u64 f288(B b, u64 l0, u64 l1, u64 l2, u64 l3, u64 l4);
-FN void f289(B b, u64 l0, u64 l1, u64 l2);
+FN void f283(B b, u64 l0, u64 l1, u64 l2);
+FN void f284(B b, u64 l0, u64 l1, u64 l2, u64 l3);
+FN void f285(B b, u64 l0, u64 l1, u64 l2);
+FN void f286(B b, u64 l0, u64 l1, u64 l2, u32 l3, u64 l4);
+FN void f287(B b, u64 l0, u64 l1, u64 l2, u64 l3, u64 l4, u32 l5, u32 l6, u64 l7, u64 l8, u64 l9);
+FN void f288(B b, u64 l0, u64 l1, u64 l2);
+FN u64 f289(B b, u64 l0, u64 l1, u64 l2, u64 l3, u64 l4);
 FN void f290(B b, u64 l0, u64 l1, u64 l2);
-FN void f291(B b, u64 l0, u64 l1, u64 l2, u64 l3);
-FN u32 f292(B b, u64 l0, u64 l1);
-FN void f293(B b, u64 l0, u64 l1, u64 l2, u64 l3);
-FN u32 f294(B b, u64 l0);
-FN void f295(B b, u64 l0, u64 l1, u64 l2, u64 l3);
-FN u32 f296(B b, u64 l0);
-FN u32 f297(B b, u64 l0, u64 l1);
+FN void f291(B b, u64 l0, u64 l1, u64 l2);
+FN void f292(B b, u64 l0, u64 l1, u64 l2, u64 l3);
+FN u32 f293(B b, u64 l0, u64 l1);
+FN void f294(B b, u64 l0, u64 l1, u64 l2, u64 l3);
+FN u32 f295(B b, u64 l0);
+FN void f296(B b, u64 l0, u64 l1, u64 l2, u64 l3);
+FN u32 f297(B b, u64 l0);
 FN u32 f298(B b, u64 l0, u64 l1);
-FN void f299(B b, u64 l0, u64 l1, u64 l2, u64 l3, u64 l4, u64 l5, u32 l6);
-FN u32 f300(B b, u64 l0);
-FN void f301(B b, u64 l0, u64 l1, u64 l2, u64 l3, u64 l4, u64 l5);
-FN u32 f302(B b, u64 l0);
-FN u32 f303(B b, u64 l0, u64 l1);
-FN void f304(B b, u64 l0, u64 l1, u64 l2, u64 l3, u32 l4, u32 l5, u32 l6);
-FN void f305(B b, u64 l0, u64 l1, u64 l2, u64 l3, u64 l4, u64 l5);
-FN void f306(B b, u64 l0, u64 l1, u32 l2);
-FN u32 f307(B b, u64 l0, u32 l1, u32 l2, u32 l3);
-FN void f308(B b, u64 l0, u64 l1, u64 l2, u64 l3);
-FN void f309(B b, u64 l0, u64 l1, u64 l2, u64 l3, u32 l4);
-FN u32 f310(B b, u64 l0);
-FN u32 f311(B b, u64 l0, u64 l1, u64 l2, u64 l3);
-FN u32 f312(B b, u64 l0, u32 l1, u32 l2, u32 l3);
-FN void f313(B b, u64 l0, u64 l1, u64 l2, u64 l3, u64 l4, u64 l5);
-FN void f314(B b, u64 l0, u64 l1, u64 l2, u64 l3, u64 l4);
-FN void f315(B b, u64 l0, u64 l1, u64 l2, u64 l3, u64 l4, u64 l5);
+FN u32 f299(B b, u64 l0, u64 l1);
+FN void f300(B b, u64 l0, u64 l1, u64 l2, u64 l3, u64 l4, u64 l5, u32 l6);
+FN u32 f301(B b, u64 l0);
+FN void f302(B b, u64 l0, u64 l1, u64 l2, u64 l3, u64 l4, u64 l5);
+FN u32 f303(B b, u64 l0);
+FN u32 f304(B b, u64 l0, u64 l1);
+FN void f305(B b, u64 l0, u64 l1, u64 l2, u64 l3, u32 l4, u32 l5, u32 l6);
+FN void f306(B b, u64 l0, u64 l1, u64 l2, u64 l3, u64 l4, u64 l5);
+FN void f307(B b, u64 l0, u64 l1, u32 l2);
+FN u32 f308(B b, u64 l0, u32 l1, u32 l2, u32 l3);
+FN void f309(B b, u64 l0, u64 l1, u64 l2, u64 l3);
+FN void f310(B b, u64 l0, u64 l1, u64 l2, u64 l3, u32 l4);
+FN u32 f311(B b, u64 l0);
+FN u32 f312(B b, u64 l0, u64 l1, u64 l2, u64 l3);
+FN u32 f313(B b, u64 l0, u32 l1, u32 l2, u32 l3);
+FN void f314(B b, u64 l0, u64 l1, u64 l2, u64 l3, u64 l4, u64 l5);
+FN void f315(B b, u64 l0, u64 l1, u64 l2, u64 l3, u64 l4);
 FN void f316(B b, u64 l0, u64 l1, u64 l2, u64 l3, u64 l4, u64 l5);
 FN void f317(B b, u64 l0, u64 l1, u64 l2, u64 l3, u64 l4, u64 l5);
-FN u32 f318(B b, u64 l0, u64 l1, u64 l2, u64 l3, u32 l4);
-FN u32 f319(B b, u64 l0);
-FN void f320(B b, u64 l0, u64 l1, u64 l2);
-FN u32 f321(B b, u64 l0);
-FN void f322(B b, u64 l0, u64 l1, u64 l2);
-FN u32 f323(B b, u64 l0);
-FN void f324(B b, u64 l0, u64 l1, u64 l2, u64 l3, u32 l4);
-FN u32 f325(B b, u64 l0);
+FN void f318(B b, u64 l0, u64 l1, u64 l2, u64 l3, u64 l4, u64 l5);
+FN u32 f319(B b, u64 l0, u64 l1, u64 l2, u64 l3, u32 l4);
+FN u32 f320(B b, u64 l0);
+FN void f321(B b, u64 l0, u64 l1, u64 l2);
+FN u32 f322(B b, u64 l0);
+FN void f323(B b, u64 l0, u64 l1, u64 l2);
+FN u32 f324(B b, u64 l0);
+FN void f325(B b, u64 l0, u64 l1, u64 l2, u64 l3, u32 l4);
 FN u32 f326(B b, u64 l0);
 FN u32 f327(B b, u64 l0);
 FN u32 f328(B b, u64 l0);
@@ -915,221 +915,219 @@ FN u32 f329(B b, u64 l0);
 FN u32 f330(B b, u64 l0);
 FN u32 f331(B b, u64 l0);
 FN u32 f332(B b, u64 l0);
-FN void f333(B b, u64 l0, u64 l1, u64 l2, u32 l3, u64 l4);
-FN void f334(B b, u64 l0, u64 l1, u64 l2, u64 l3, u64 l4, u32 l5, u32 l6, u64 l7, u64 l8, u64 l9);
-FN void f335(B b, u64 l0, u64 l1, u64 l2);
+FN u32 f333(B b, u64 l0);
+FN void f334(B b, u64 l0, u64 l1, u64 l2, u32 l3, u64 l4);
+FN void f335(B b, u64 l0, u64 l1, u64 l2, u64 l3, u64 l4, u32 l5, u32 l6, u64 l7, u64 l8, u64 l9);
 FN void f336(B b, u64 l0, u64 l1, u64 l2);
 FN void f337(B b, u64 l0, u64 l1, u64 l2);
-FN void f338(B b, u64 l0, u64 l1, u64 l2, u64 l3);
-FN u32 f339(B b, u64 l0);
+FN void f338(B b, u64 l0, u64 l1, u64 l2);
+FN void f339(B b, u64 l0, u64 l1, u64 l2, u64 l3);
 FN u32 f340(B b, u64 l0);
-FN void f341(B b, u64 l0, u64 l1, u32 l2, u32 l3, u64 l4);
-FN u32 f342(B b, u64 l0);
-FN void f343(B b, u64 l0, u64 l1, u32 l2, u32 l3, u32 l4);
-FN void f344(B b, u64 l0);
-FN u32 f345(B b, u64 l0, u32 l1, u32 l2, u64 l3);
-FN void f346(B b, u64 l0, u32 l1, u64 l2);
-FN void f347(B b, u64 l0);
+FN u32 f341(B b, u64 l0);
+FN void f342(B b, u64 l0, u64 l1, u32 l2, u32 l3, u64 l4);
+FN u32 f343(B b, u64 l0);
+FN void f344(B b, u64 l0, u64 l1, u32 l2, u32 l3, u32 l4);
+FN void f345(B b, u64 l0);
+FN u32 f346(B b, u64 l0, u32 l1, u32 l2, u64 l3);
+FN void f347(B b, u64 l0, u32 l1, u64 l2);
 FN void f348(B b, u64 l0);
 FN void f349(B b, u64 l0);
-FN u32 f350(B b, u64 l0);
+FN void f350(B b, u64 l0);
 FN u32 f351(B b, u64 l0);
 FN u32 f352(B b, u64 l0);
-FN u32 f353(B b, u64 l0, u64 l1);
+FN u32 f353(B b, u64 l0);
 FN u32 f354(B b, u64 l0, u64 l1);
-FN void f355(B b, u64 l0);
-FN u32 f356(B b, u64 l0);
+FN u32 f355(B b, u64 l0, u64 l1);
+FN void f356(B b, u64 l0);
 FN u32 f357(B b, u64 l0);
 FN u32 f358(B b, u64 l0);
 FN u32 f359(B b, u64 l0);
-FN void f360(B b, u64 l0);
-FN u32 f361(B b, u64 l0);
-FN u32 f362(B b, u64 l0, u32 l1, u32 l2);
-FN u32 f363(B b, u64 l0);
+FN u32 f360(B b, u64 l0);
+FN void f361(B b, u64 l0);
+FN u32 f362(B b, u64 l0);
+FN u32 f363(B b, u64 l0, u32 l1, u32 l2);
 FN void f364(B b, u64 l0, u64 l1, u64 l2);
 FN u32 f365(B b, u64 l0, u32 l1, u32 l2);
 FN u32 f366(B b, u64 l0, u64 l1, u64 l2);
 FN void f367(B b, u64 l0, u64 l1, u64 l2, u64 l3);
-FN void f368(B b, u64 l0, u64 l1, u32 l2, u64 l3);
-FN void f369(B b, u64 l0);
-FN u32 f370(B b, u64 l0, u64 l1, u64 l2, u64 l3);
-FN u32 f371(B b, u64 l0, u64 l1);
-FN void f372(B b, u64 l0, u64 l1, u32 l2);
-FN void f373(B b, u64 l0, u64 l1);
-FN u32 f374(B b, u64 l0, u64 l1, u64 l2);
-FN u32 f375(B b, u64 l0, u64 l1, u64 l2, u64 l3, u32 l4, u64 l5);
+FN void f368(B b, u64 l0);
+FN u32 f369(B b, u64 l0, u64 l1, u64 l2, u64 l3);
+FN u32 f370(B b, u64 l0, u64 l1);
+FN void f371(B b, u64 l0, u64 l1);
+FN u32 f372(B b, u64 l0, u64 l1, u64 l2);
+FN u32 f373(B b, u64 l0, u64 l1, u64 l2, u64 l3, u32 l4, u64 l5);
+FN void f374(B b, u64 l0);
+FN void f375(B b, u64 l0, u64 l1, u32 l2, u64 l3);
 FN void f376(B b, u64 l0);
-FN void f377(B b, u64 l0, u64 l1, u32 l2, u64 l3);
-FN void f378(B b, u64 l0);
-FN u32 f379(B b, u64 l0, u64 l1, u64 l2, u64 l3);
-FN u32 f380(B b, u64 l0, u64 l1, u64 l2, u32 l3, u64 l4, u64 l5, u64 l6, u64 l7);
-FN u32 f381(B b, u64 l0);
-FN u32 f382(B b, u64 l0);
-FN u32 f383(B b, u64 l0, u32 l1, u64 l2);
-FN u32 f384(B b, u64 l0, u64 l1, u64 l2, u32 l3);
-FN u32 f385(B b, u64 l0, u64 l1, u64 l2, u64 l3);
-FN u32 f386(B b, u64 l0, u64 l1, u32 l2);
-FN u32 f387(B b, u64 l0, u64 l1, u32 l2);
-FN u32 f388(B b, u64 l0);
+FN u32 f377(B b, u64 l0, u64 l1, u64 l2, u64 l3);
+FN u32 f378(B b, u64 l0, u64 l1, u64 l2, u32 l3, u64 l4, u64 l5, u64 l6, u64 l7);
+FN u32 f379(B b, u64 l0);
+FN u32 f380(B b, u64 l0);
+FN u32 f381(B b, u64 l0, u32 l1, u64 l2);
+FN u32 f382(B b, u64 l0, u64 l1, u64 l2, u32 l3);
+FN u32 f383(B b, u64 l0, u64 l1, u64 l2, u64 l3);
+FN u32 f384(B b, u64 l0, u64 l1, u32 l2);
+FN u32 f385(B b, u64 l0, u64 l1, u32 l2);
+FN u32 f386(B b, u64 l0);
+FN u32 f387(B b, u64 l0);
+FN void f388(B b, u64 l0, u64 l1, u32 l2, u64 l3);
 FN u32 f389(B b, u64 l0);
-FN void f390(B b, u64 l0, u64 l1, u32 l2, u64 l3);
-FN u32 f391(B b, u64 l0);
-FN u32 f392(B b, u64 l0, u64 l1, u64 l2, u32 l3);
-FN u32 f393(B b, u64 l0, u64 l1, u64 l2);
-FN u32 f394(B b, u64 l0, u64 l1);
-FN u32 f395(B b, u64 l0, u64 l1, u32 l2, u32 l3);
-FN u32 f396(B b, u64 l0, u64 l1, u32 l2, u32 l3, u64 l4);
-FN u32 f397(B b, u64 l0, u64 l1, u64 l2);
-FN u32 f398(B b, u64 l0, u64 l1, u64 l2);
-FN void f399(B b, u64 l0, u64 l1, u32 l2, u64 l3);
+FN u32 f390(B b, u64 l0, u64 l1, u64 l2, u32 l3);
+FN u32 f391(B b, u64 l0, u64 l1, u64 l2);
+FN u32 f392(B b, u64 l0, u64 l1);
+FN u32 f393(B b, u64 l0, u64 l1, u32 l2, u32 l3);
+FN u32 f394(B b, u64 l0, u64 l1, u32 l2, u32 l3, u64 l4);
+FN u32 f395(B b, u64 l0, u64 l1, u64 l2);
+FN u32 f396(B b, u64 l0, u64 l1, u64 l2);
+FN void f397(B b, u64 l0, u64 l1, u32 l2, u64 l3);
+FN u32 f398(B b, u64 l0, u64 l1);
+FN void f399(B b, u64 l0, u64 l1, u32 l2);
 FN u32 f400(B b, u64 l0, u64 l1);
-FN void f401(B b, u64 l0, u64 l1, u32 l2);
-FN u32 f402(B b, u64 l0, u64 l1);
-FN u32 f403(B b, u64 l0, u64 l1);
-FN void f404(B b, u64 l0);
-FN void f405(B b, u64 l0);
-FN void f406(B b, u64 l0, u64 l1, u64 l2, u64 l3);
-FN u64 f407(B b, u64 l0, u64 l1);
-FN u64 f408(B b, u64 l0, u64 l1, u64 l2);
-FN void f409(B b, u64 l0, u64 l1, u32 l2, u64 l3);
-FN void f410(B b, u64 l0);
-FN u32 f411(B b, u64 l0);
-FN void f412(B b, u64 l0, u32 l1, u64 l2);
-FN u32 f413(B b, u64 l0, u32 l1);
-FN u32 f414(B b, u64 l0, u64 l1);
-FN u32 f415(B b, u64 l0, u64 l1, u64 l2, u64 l3, u64 l4);
-FN u32 f416(B b, u64 l0, u64 l1, u64 l2);
-FN void f417(B b, u64 l0);
-FN void f418(B b, u64 l0, u32 l1, u32 l2, u64 l3);
-FN void f419(B b, u64 l0, u64 l1);
+FN u32 f401(B b, u64 l0, u64 l1);
+FN void f402(B b, u64 l0);
+FN void f403(B b, u64 l0);
+FN void f404(B b, u64 l0, u64 l1, u64 l2, u64 l3);
+FN u64 f405(B b, u64 l0, u64 l1);
+FN u64 f406(B b, u64 l0, u64 l1, u64 l2);
+FN void f407(B b, u64 l0, u64 l1, u32 l2, u64 l3);
+FN void f408(B b, u64 l0);
+FN u32 f409(B b, u64 l0);
+FN void f410(B b, u64 l0, u32 l1, u64 l2);
+FN u32 f411(B b, u64 l0, u32 l1);
+FN u32 f412(B b, u64 l0, u64 l1);
+FN u32 f413(B b, u64 l0, u64 l1, u64 l2, u64 l3, u64 l4);
+FN u32 f414(B b, u64 l0, u64 l1, u64 l2);
+FN void f415(B b, u64 l0);
+FN void f416(B b, u64 l0, u32 l1, u32 l2, u64 l3);
+FN void f417(B b, u64 l0, u64 l1);
+FN void f418(B b, u64 l0);
+FN void f419(B b, u64 l0, u64 l1, u32 l2);
 FN void f420(B b, u64 l0);
-FN void f421(B b, u64 l0, u64 l1, u32 l2);
+FN void f421(B b, u64 l0);
 FN void f422(B b, u64 l0);
-FN void f423(B b, u64 l0);
-FN void f424(B b, u64 l0);
-FN u32 f425(B b, u64 l0);
-FN u32 f426(B b, u64 l0, u64 l1);
-FN void f427(B b, u64 l0);
-FN void f428(B b, u64 l0, u64 l1, u64 l2);
+FN u32 f423(B b, u64 l0);
+FN u32 f424(B b, u64 l0, u64 l1);
+FN void f425(B b, u64 l0);
+FN void f426(B b, u64 l0, u64 l1, u64 l2);
+FN u32 f427(B b, u64 l0);
+FN u32 f428(B b, u64 l0);
 FN u32 f429(B b, u64 l0);
 FN u32 f430(B b, u64 l0);
-FN u32 f431(B b, u64 l0);
-FN u32 f432(B b, u64 l0);
-FN void f433(B b, u64 l0);
-FN void f434(B b, u64 l0);
-FN u32 f435(B b, u64 l0, u64 l1, u64 l2);
-FN u32 f436(B b, u64 l0, u64 l1, u64 l2);
-FN u32 f437(B b, u64 l0, u64 l1, u64 l2, u64 l3);
-FN void f438(B b, u64 l0, u64 l1, u64 l2);
-FN void f439(B b, u64 l0, u64 l1);
-FN void f440(B b, u64 l0, u32 l1, u64 l2, u64 l3);
-FN void f441(B b, u64 l0, u64 l1, u64 l2, u64 l3);
-FN void f442(B b, u64 l0, u64 l1, u32 l2);
-FN void f443(B b, u64 l0, u64 l1, u32 l2, u64 l3);
-FN void f444(B b, u64 l0, u64 l1, u64 l2, u64 l3);
-FN void f445(B b, u64 l0, u32 l1);
-FN void f446(B b, u64 l0, u32 l1, u64 l2);
-FN void f447(B b, u64 l0);
-FN void f448(B b, u64 l0);
-FN void f449(B b, u64 l0, u64 l1, u64 l2, u64 l3);
-FN void f450(B b, u64 l0, u64 l1, u64 l2);
-FN void f451(B b, u64 l0, u64 l1);
-FN void f452(B b, u64 l0, u64 l1, u64 l2, u64 l3, u64 l4, u32 l5, u32 l6, u64 l7, u64 l8);
-FN void f453(B b, u64 l0);
-FN void f454(B b, u64 l0, u64 l1, u64 l2);
-FN u32 f455(B b, u64 l0, u64 l1, u64 l2);
-FN void f456(B b, u64 l0, u64 l1, u32 l2);
-FN void f457(B b, u64 l0, u64 l1, u64 l2, u64 l3);
-FN void f458(B b, u64 l0);
-FN u32 f459(B b, u64 l0, u32 l1);
-FN void f460(B b, u64 l0, u64 l1, u64 l2, u64 l3, u64 l4, u64 l5);
-FN void f461(B b, u64 l0);
+FN void f431(B b, u64 l0);
+FN void f432(B b, u64 l0);
+FN u32 f433(B b, u64 l0, u64 l1, u64 l2);
+FN u32 f434(B b, u64 l0, u64 l1, u64 l2);
+FN u32 f435(B b, u64 l0, u64 l1, u64 l2, u64 l3);
+FN void f436(B b, u64 l0, u64 l1, u64 l2);
+FN void f437(B b, u64 l0, u64 l1);
+FN void f438(B b, u64 l0, u32 l1, u64 l2, u64 l3);
+FN void f439(B b, u64 l0, u64 l1, u64 l2, u64 l3);
+FN void f440(B b, u64 l0, u64 l1, u32 l2);
+FN void f441(B b, u64 l0, u64 l1, u32 l2, u64 l3);
+FN void f442(B b, u64 l0, u64 l1, u64 l2, u64 l3);
+FN void f443(B b, u64 l0, u32 l1);
+FN void f444(B b, u64 l0, u32 l1, u64 l2);
+FN void f445(B b, u64 l0);
+FN void f446(B b, u64 l0);
+FN void f447(B b, u64 l0, u64 l1, u64 l2, u64 l3);
+FN void f448(B b, u64 l0, u64 l1, u64 l2);
+FN void f449(B b, u64 l0, u64 l1);
+FN void f450(B b, u64 l0, u64 l1, u64 l2, u64 l3, u64 l4, u32 l5, u32 l6, u64 l7, u64 l8);
+FN void f451(B b, u64 l0);
+FN void f452(B b, u64 l0, u64 l1, u64 l2);
+FN u32 f453(B b, u64 l0, u64 l1, u64 l2);
+FN void f454(B b, u64 l0, u64 l1, u32 l2);
+FN void f455(B b, u64 l0, u64 l1, u64 l2, u64 l3);
+FN void f456(B b, u64 l0);
+FN u32 f457(B b, u64 l0, u32 l1);
+FN void f458(B b, u64 l0, u64 l1, u64 l2, u64 l3, u64 l4, u64 l5);
+FN void f459(B b, u64 l0);
+FN void f460(B b, u64 l0, u64 l1, u64 l2);
+FN u32 f461(B b, u64 l0, u64 l1);
 FN void f462(B b, u64 l0, u64 l1, u64 l2);
-FN u32 f463(B b, u64 l0, u64 l1);
-FN void f464(B b, u64 l0, u64 l1, u64 l2);
-FN void f465(B b, u64 l0);
-FN void f466(B b, u64 l0, u64 l1);
+FN void f463(B b, u64 l0);
+FN void f464(B b, u64 l0, u64 l1);
+FN u32 f465(B b, u64 l0);
+FN void f466(B b, u64 l0);
 FN u32 f467(B b, u64 l0);
-FN void f468(B b, u64 l0);
-FN u32 f469(B b, u64 l0);
-FN u32 f470(B b, u64 l0);
-FN void f471(B b, u64 l0, u64 l1, u64 l2, u64 l3);
+FN u32 f468(B b, u64 l0);
+FN void f469(B b, u64 l0, u64 l1, u64 l2, u64 l3);
+FN void f470(B b, u64 l0, u64 l1, u64 l2, u64 l3);
+FN u32 f471(B b, u64 l0, u64 l1);
 FN void f472(B b, u64 l0, u64 l1, u64 l2, u64 l3);
-FN u32 f473(B b, u64 l0, u64 l1);
-FN void f474(B b, u64 l0, u64 l1, u64 l2, u64 l3);
-FN void f475(B b, u64 l0, u64 l1, u64 l2, u32 l3);
-FN void f476(B b, u64 l0, u64 l1, u64 l2);
-FN void f477(B b, u64 l0, u32 l1);
+FN void f473(B b, u64 l0, u64 l1, u64 l2, u32 l3);
+FN void f474(B b, u64 l0, u64 l1, u64 l2);
+FN void f475(B b, u64 l0, u32 l1);
+FN void f476(B b, u64 l0, u32 l1);
+FN void f477(B b, u64 l0, u64 l1, u64 l2);
 FN void f478(B b, u64 l0, u32 l1);
-FN void f479(B b, u64 l0, u64 l1, u64 l2);
-FN void f480(B b, u64 l0, u32 l1);
-FN void f481(B b, u64 l0, u32 l1);
-FN u32 f482(B b, u64 l0, u32 l1, u32 l2);
-FN void f483(B b, u64 l0);
-FN void f484(B b, u64 l0);
-FN u32 f485(B b, u64 l0, u32 l1, u32 l2, u64 l3);
+FN void f479(B b, u64 l0, u32 l1);
+FN u32 f480(B b, u64 l0, u32 l1, u32 l2);
+FN void f481(B b, u64 l0);
+FN void f482(B b, u64 l0);
+FN u32 f483(B b, u64 l0, u32 l1, u32 l2, u64 l3);
+FN void f484(B b, u64 l0, u32 l1);
+FN void f485(B b, u64 l0, u32 l1);
 FN void f486(B b, u64 l0, u32 l1);
-FN void f487(B b, u64 l0, u32 l1);
-FN void f488(B b, u64 l0, u32 l1);
-FN void f489(B b, u64 l0, u64 l1, u64 l2);
-FN void f490(B b, u64 l0);
-FN void f491(B b, u64 l0, u32 l1, u32 l2, u32 l3);
-FN void f492(B b, u64 l0, u32 l1, u32 l2, u32 l3);
-FN u32 f493(B b, u64 l0, u32 l1, u32 l2);
-FN void f494(B b, u64 l0);
-FN u32 f495(B b, u64 l0, u64 l1);
-FN u32 f496(B b, u64 l0);
-FN u32 f497(B b, u64 l0, u64 l1, u64 l2);
-FN u32 f498(B b, u64 l0, u64 l1, u64 l2);
-FN void f499(B b, u64 l0, u64 l1, u64 l2);
-FN void f500(B b, u64 l0, u64 l1, u32 l2);
-FN void f501(B b, u64 l0, u64 l1);
-FN void f502(B b, u64 l0, u64 l1, u64 l2);
-FN u32 f503(B b, u64 l0);
-FN void f504(B b, u64 l0, u64 l1, u32 l2, u64 l3, u64 l4, u32 l5);
-FN u32 f505(B b, u64 l0, u32 l1, u64 l2);
-FN u32 f506(B b, u64 l0, u64 l1);
-FN u32 f507(B b, u64 l0, u64 l1);
+FN void f487(B b, u64 l0, u64 l1, u64 l2);
+FN void f488(B b, u64 l0);
+FN void f489(B b, u64 l0, u32 l1, u32 l2, u32 l3);
+FN void f490(B b, u64 l0, u32 l1, u32 l2, u32 l3);
+FN u32 f491(B b, u64 l0, u32 l1, u32 l2);
+FN void f492(B b, u64 l0);
+FN u32 f493(B b, u64 l0, u64 l1);
+FN u32 f494(B b, u64 l0);
+FN u32 f495(B b, u64 l0, u64 l1, u64 l2);
+FN u32 f496(B b, u64 l0, u64 l1, u64 l2);
+FN void f497(B b, u64 l0, u64 l1, u64 l2);
+FN void f498(B b, u64 l0, u64 l1, u32 l2);
+FN void f499(B b, u64 l0, u64 l1);
+FN void f500(B b, u64 l0, u64 l1, u64 l2);
+FN u32 f501(B b, u64 l0);
+FN void f502(B b, u64 l0, u64 l1, u32 l2, u64 l3, u64 l4, u32 l5);
+FN u32 f503(B b, u64 l0, u32 l1, u64 l2);
+FN u32 f504(B b, u64 l0, u64 l1);
+FN u32 f505(B b, u64 l0, u64 l1);
+FN u32 f506(B b, u64 l0, u64 l1, u64 l2, u64 l3);
+FN u32 f507(B b, u64 l0, u64 l1, u64 l2);
 FN u32 f508(B b, u64 l0, u64 l1, u64 l2, u64 l3);
-FN u32 f509(B b, u64 l0, u64 l1, u64 l2);
-FN u32 f510(B b, u64 l0, u64 l1, u64 l2, u64 l3);
-FN u32 f511(B b, u64 l0, u64 l1);
-FN u32 f512(B b, u64 l0, u64 l1, u32 l2);
-FN u32 f513(B b, u64 l0, u64 l1, u64 l2, u64 l3);
-FN void f514(B b, u64 l0, u32 l1, u64 l2);
-FN u32 f515(B b, u64 l0, u32 l1, u64 l2, u64 l3);
-FN u32 f516(B b, u64 l0, u64 l1, u64 l2);
-FN u32 f517(B b, u64 l0, u64 l1, u64 l2, u64 l3, u64 l4, u64 l5);
-FN u32 f518(B b, u64 l0);
-FN void f519(B b, u64 l0);
-FN u32 f520(B b, u64 l0, u64 l1, u64 l2, u64 l3);
-FN u32 f521(B b, u64 l0, u32 l1, u64 l2);
-FN u32 f522(B b, u64 l0);
-FN u32 f523(B b, u64 l0, u64 l1, u64 l2, u64 l3, u64 l4);
-FN u32 f524(B b, u64 l0, u32 l1, u32 l2, u64 l3);
-FN void f525(B b, u64 l0);
-FN u32 f526(B b, u64 l0);
-FN u32 f527(B b, u64 l0, u64 l1);
-FN u32 f528(B b, u64 l0, u64 l1, u64 l2);
-FN u32 f529(B b, u64 l0);
-FN u32 f530(B b, u64 l0, u32 l1, u32 l2, u64 l3);
-FN u32 f531(B b, u64 l0, u64 l1, u32 l2);
-FN u32 f532(B b, u64 l0, u64 l1, u64 l2, u64 l3, u64 l4);
-FN u32 f533(B b, u64 l0, u64 l1, u64 l2, u64 l3, u32 l4);
-FN void f534(B b, u64 l0, u64 l1, u32 l2);
-FN u32 f535(B b, u64 l0, u32 l1, u32 l2, u64 l3);
-FN u32 f536(B b, u64 l0, u32 l1, u32 l2);
-FN u32 f537(B b, u64 l0, u64 l1, u32 l2, u32 l3);
-FN u32 f538(B b, u64 l0, u64 l1, u64 l2, u64 l3);
-FN u32 f539(B b, u64 l0);
-FN void f540(B b, u64 l0, u64 l1, u64 l2);
-FN void f541(B b, u64 l0);
+FN u32 f509(B b, u64 l0, u64 l1);
+FN u32 f510(B b, u64 l0, u64 l1, u32 l2);
+FN u32 f511(B b, u64 l0, u64 l1, u64 l2, u64 l3);
+FN void f512(B b, u64 l0, u32 l1, u64 l2);
+FN u32 f513(B b, u64 l0, u32 l1, u64 l2, u64 l3);
+FN u32 f514(B b, u64 l0, u64 l1, u64 l2);
+FN u32 f515(B b, u64 l0, u64 l1, u64 l2, u64 l3, u64 l4, u64 l5);
+FN u32 f516(B b, u64 l0);
+FN void f517(B b, u64 l0);
+FN u32 f518(B b, u64 l0, u64 l1, u64 l2, u64 l3);
+FN u32 f519(B b, u64 l0, u32 l1, u64 l2);
+FN u32 f520(B b, u64 l0);
+FN u32 f521(B b, u64 l0, u64 l1, u64 l2, u64 l3, u64 l4);
+FN u32 f522(B b, u64 l0, u32 l1, u32 l2, u64 l3);
+FN void f523(B b, u64 l0);
+FN u32 f524(B b, u64 l0);
+FN u32 f525(B b, u64 l0, u64 l1);
+FN u32 f526(B b, u64 l0, u64 l1, u64 l2);
+FN u32 f527(B b, u64 l0);
+FN u32 f528(B b, u64 l0, u32 l1, u32 l2, u64 l3);
+FN u32 f529(B b, u64 l0, u64 l1, u32 l2);
+FN u32 f530(B b, u64 l0, u64 l1, u64 l2, u64 l3, u64 l4);
+FN u32 f531(B b, u64 l0, u64 l1, u64 l2, u64 l3, u32 l4);
+FN void f532(B b, u64 l0, u64 l1, u32 l2);
+FN u32 f533(B b, u64 l0, u32 l1, u32 l2, u64 l3);
+FN u32 f534(B b, u64 l0, u32 l1, u32 l2);
+FN u32 f535(B b, u64 l0, u64 l1, u32 l2, u32 l3);
+FN u32 f536(B b, u64 l0, u64 l1, u64 l2, u64 l3);
+FN u32 f537(B b, u64 l0);
+FN void f538(B b, u64 l0, u64 l1, u64 l2);
+FN void f539(B b, u64 l0);
+FN u32 f540(B b, u64 l0);
+FN u32 f541(B b, u64 l0, u64 l1, u64 l2, u64 l3);
 FN u32 f542(B b, u64 l0);
-FN u32 f543(B b, u64 l0, u64 l1, u64 l2, u64 l3);
-FN u32 f544(B b, u64 l0);
-FN u32 f545(B b, u64 l0, u64 l1, u64 l2, u64 l3, u64 l4);
-FN void f546(B b, u64 l0);
-FN void f547(B b, u64 l0);
+FN u32 f543(B b, u64 l0, u64 l1, u64 l2, u64 l3, u64 l4);
+FN void f544(B b, u64 l0);
+FN void f545(B b, u64 l0);
 FN u32 repair(B b, u64 l0, u64 l1, u64 l2, u64 l3, u64 l4);
 FN u32 run(B b, u64 l0, u64 l1, u64 l2, u64 l3, u64 l4, u64 l5, u64 l6);
 FN u32 where(B b, u64 l0, u64 l1, u64 l2, u64 l3, u64 l4);
@@ -1784,13 +1782,13 @@ return l4;
 }
 
 FN void f7(B b, u64 l0, u64 l1, u64 l2) {
-u32 l30 = 0, l31 = 0, l32 = 0, l33 = 0, l34 = 0, l35 = 0, l36 = 0, l37 = 0, l38 = 0, t1, t2, t3, t4, t5, t6, t7, t8, t9, t10, t11, t12, t13, t14, t15, t16, t17, t18, t19, t20, t21, t22, t23, t24, t25, t26, t27, t28;
-u64 l3 = 0, l4 = 0, l5 = 0, l6 = 0, l7 = 0, l8 = 0, l9 = 0, l10 = 0, l11 = 0, l12 = 0, l13 = 0, l14 = 0, l15 = 0, l16 = 0, l17 = 0, l18 = 0, l19 = 0, l20 = 0, l21 = 0, l22 = 0, l23 = 0, l24 = 0, l25 = 0, l26 = 0, l27 = 0, l28 = 0, l29 = 0, t0;
-l3 = SP - 2784ull;
+u32 l31 = 0, l32 = 0, l33 = 0, l34 = 0, l35 = 0, l36 = 0, l37 = 0, l38 = 0, l39 = 0, t1, t2, t3, t4, t5, t6, t7, t8, t9, t10, t11, t12, t13, t14, t15, t16, t17, t18, t19, t20, t21, t22, t23, t24, t25, t26, t27, t28;
+u64 l3 = 0, l4 = 0, l5 = 0, l6 = 0, l7 = 0, l8 = 0, l9 = 0, l10 = 0, l11 = 0, l12 = 0, l13 = 0, l14 = 0, l15 = 0, l16 = 0, l17 = 0, l18 = 0, l19 = 0, l20 = 0, l21 = 0, l22 = 0, l23 = 0, l24 = 0, l25 = 0, l26 = 0, l27 = 0, l28 = 0, l29 = 0, l30 = 0, t0;
+l3 = SP - 2672ull;
 SP = l3;
-l30 = get32(b, l1 + 12ull);
-l31 = get8(b, l1 + 8ull);
-l32 = get32(b, l1 + 4ull);
+l31 = get32(b, l1 + 12ull);
+l32 = get8(b, l1 + 8ull);
+l33 = get32(b, l1 + 4ull);
 switch ((u32)(u64)get8(b, l1)) {
 case 1: goto L19;
 case 2: goto L20;
@@ -1798,28 +1796,28 @@ case 3: goto L21;
 default: goto L22;
 }
 L22:;
-l33 = get8(b, l1 + 1ull);
+l34 = get8(b, l1 + 1ull);
 l4 = 0ull;
-put64(b, l3 + 2568, 0ull);
-put64(b, l3 + 2560, 0ull);
-put64(b, l3 + 2552, 0ull);
-put64(b, l3 + 2544, 0ull);
-put64(b, l3 + 2536, 0ull);
-f8(b, l3 + 2536ull, l2, 164000000ull);
-if (get8(b, l3 + 2536)) { goto L24; }
-l34 = get8(b, l3 + 2552);
-l5 = get64(b, l3 + 2560);
-l32 = 0u;
-if (!get8(b, l3 + 2544)) { goto L23; }
-l35 = (u32)l5;
-l4 = get64(b, l3 + 2568);
+put64(b, l3 + 2456, 0ull);
+put64(b, l3 + 2448, 0ull);
+put64(b, l3 + 2440, 0ull);
+put64(b, l3 + 2432, 0ull);
+put64(b, l3 + 2424, 0ull);
+f8(b, l3 + 2424ull, l2, 164000000ull);
+if (get8(b, l3 + 2424)) { goto L24; }
+l35 = get8(b, l3 + 2440);
+l5 = get64(b, l3 + 2448);
+l33 = 0u;
+if (!get8(b, l3 + 2432)) { goto L23; }
+l36 = (u32)l5;
+l4 = get64(b, l3 + 2456);
 goto L10;
 L24:;
-l34 = 0u;
+l35 = 0u;
 goto L2;
 L23:;
 l1 = 0ull;
-if (l34 & 255u) { goto L26; }
+if (l35 & 255u) { goto L26; }
 l6 = 1049504ull;
 l7 = 0ull;
 goto L25;
@@ -1827,22 +1825,22 @@ L26:;
 l7 = get64(b, l5 + 8ull);
 l6 = get64(b, l5);
 L25:;
-put64(b, l3 + 2664, 0ull);
-put64(b, l3 + 2672, 0ull);
-put64(b, l3 + 2680, 0ull);
-put64(b, l3 + 2688, 0ull);
-put64(b, l3 + 2312, 0ull);
-put64(b, l3 + 2320, 0ull);
-put64(b, l3 + 2328, 0ull);
-put64(b, l3 + 2336, 0ull);
+put64(b, l3 + 2552, 0ull);
+put64(b, l3 + 2560, 0ull);
+put64(b, l3 + 2568, 0ull);
+put64(b, l3 + 2576, 0ull);
+put64(b, l3 + 2200, 0ull);
+put64(b, l3 + 2208, 0ull);
+put64(b, l3 + 2216, 0ull);
+put64(b, l3 + 2224, 0ull);
 L28:;
 if (l7 != l1) { goto L29; }
-l30 = 13u;
+l31 = 13u;
 goto L27;
 L29:;
 l4 = l6 + l1;
 l1 = l1 + 1ull;
-l30 = 10u;
+l31 = 10u;
 if (get8(b, l4) != 10u) { goto L28; }
 L27:;
 l8 = 0ull;
@@ -1850,22 +1848,22 @@ put64(b, l3 + 336, 0ull);
 put64(b, l3 + 344, 0ull);
 put64(b, l3 + 352, 0ull);
 put64(b, l3 + 360, 0ull);
-put64(b, l3 + 1856, 0ull);
-put64(b, l3 + 1864, 0ull);
-put64(b, l3 + 2424, 0ull);
-put64(b, l3 + 2432, 0ull);
-put64(b, l3 + 2440, 0ull);
-put64(b, l3 + 2448, 0ull);
-put64(b, l3 + 328, l3 + 2776ull);
-put64(b, l3 + 1848, l3 + 2776ull);
+put64(b, l3 + 224, 0ull);
+put64(b, l3 + 232, 0ull);
+put64(b, l3 + 2312, 0ull);
+put64(b, l3 + 2320, 0ull);
+put64(b, l3 + 2328, 0ull);
+put64(b, l3 + 2336, 0ull);
+put64(b, l3 + 328, l3 + 2664ull);
+put64(b, l3 + 216, l3 + 2664ull);
 if (l7 != 0ull) { goto L31; }
-l35 = 8u;
+l36 = 8u;
 l9 = 1ull;
-l30 = 0u;
+l31 = 0u;
 goto L30;
 L31:;
 l9 = 1ull;
-l10 = l3 + 2776ull;
+l10 = l3 + 2664ull;
 l11 = 0ull;
 l12 = 0ull;
 l13 = 0ull;
@@ -1873,16 +1871,16 @@ l14 = l6;
 l15 = l7;
 l16 = 0ull;
 L34:;
-f9(b, l3 + 2312ull, l14, l15, l30);
-l15 = get64(b, l3 + 2336);
-l14 = get64(b, l3 + 2328);
-l1 = get64(b, l3 + 2312);
-l4 = get64(b, l3 + 2320);
-f10(b, l3 + 48ull, l3 + 2424ull, l1, l4);
+f9(b, l3 + 2200ull, l14, l15, l31);
+l15 = get64(b, l3 + 2224);
+l14 = get64(b, l3 + 2216);
+l1 = get64(b, l3 + 2200);
+l4 = get64(b, l3 + 2208);
+f10(b, l3 + 48ull, l3 + 2312ull, l1, l4);
 if (l4 < 76ull) { goto L37; }
-l35 = get8(b, l1 + 75) + 4294967228u;
-if (l35 > 48u) { goto L36; }
-if (((1ull << (((u64)l35) & 63)) & 439843305918473ull) == 0ull) { goto L36; }
+l36 = get8(b, l1 + 75) + 4294967228u;
+if (l36 > 48u) { goto L36; }
+if (((1ull << (((u64)l36) & 63)) & 439843305918473ull) == 0ull) { goto L36; }
 if (get8(b, l1) != 239u) { goto L36; }
 if (get8(b, l1 + 1) != 187u) { goto L36; }
 if (get8(b, l1 + 2) != 191u) { goto L36; }
@@ -1896,22 +1894,22 @@ if (l4 < 74ull) { goto L35; }
 L36:;
 l2 = l4;
 l17 = l1;
-l35 = get8(b, l1 + 73) + 4294967228u;
-if (l35 > 48u) { goto L35; }
+l36 = get8(b, l1 + 73) + 4294967228u;
+if (l36 > 48u) { goto L35; }
 l2 = l4;
 l17 = l1;
-if (((1ull << (((u64)l35) & 63)) & 439843305918473ull) == 0ull) { goto L35; }
+if (((1ull << (((u64)l36) & 63)) & 439843305918473ull) == 0ull) { goto L35; }
 l2 = l4;
 l17 = l1;
 if (get8(b, l1) != 12u) { goto L35; }
 l2 = l4 + 18446744073709551615ull;
 l17 = l1 + 1ull;
 L35:;
-l35 = get8(b, l3 + 49);
-l31 = get8(b, l3 + 48);
-if ((l31 & 255u) != 2u) { goto L41; }
-if ((l35 & 255u) == 4u) { goto L41; }
-switch ((u32)(((u64)l35) & 255ull)) {
+l36 = get8(b, l3 + 49);
+l32 = get8(b, l3 + 48);
+if ((l32 & 255u) != 2u) { goto L41; }
+if ((l36 & 255u) == 4u) { goto L41; }
+switch ((u32)(((u64)l36) & 255ull)) {
 case 1: goto L45;
 case 2: goto L44;
 case 3: goto L43;
@@ -1943,36 +1941,36 @@ L46:;
 t0 = f11(b, l2, l8);
 l17 = t0;
 if (l17 == l16) { goto L50; }
-if (get64(b, l3 + 1864) != l11) { goto L51; }
-t1 = f12(b, l3 + 1848ull);
+if (get64(b, l3 + 232) != l11) { goto L51; }
+t1 = f12(b, l3 + 216ull);
 if (!t1) { goto L49; }
-l10 = get64(b, l3 + 1848);
-l11 = get64(b, l3 + 1856);
+l10 = get64(b, l3 + 216);
+l11 = get64(b, l3 + 224);
 L51:;
 l2 = l10 + (l11 << 5);
 put32(b, l2 + 9, 0u);
-put8(b, l2 + 8, 1346651987u >> (((l35 & 255u) << 3) & 31));
+put8(b, l2 + 8, 1346651987u >> (((l36 & 255u) << 3) & 31));
 put64(b, l2, l9);
 put32(b, l2 + 12, 0u);
 put64(b, l2 + 24, l17);
 put64(b, l2 + 16, l16);
 l11 = l11 + 1ull;
-put64(b, l3 + 1856, l11);
+put64(b, l3 + 224, l11);
 L50:;
-put64(b, l3 + 1040, get64(b, l3 + 2448));
-put64(b, l3 + 1032, get64(b, l3 + 2440));
-put64(b, l3 + 1024, get64(b, l3 + 2432));
-put64(b, l3 + 1016, get64(b, l3 + 2424));
+put64(b, l3 + 1040, get64(b, l3 + 2336));
+put64(b, l3 + 1032, get64(b, l3 + 2328));
+put64(b, l3 + 1024, get64(b, l3 + 2320));
+put64(b, l3 + 1016, get64(b, l3 + 2312));
 goto L40;
 L49:;
-if (!get64(b, l3 + 1864)) { goto L52; }
-rattle_dealloc(b, get64(b, l3 + 1848));
+if (!get64(b, l3 + 232)) { goto L52; }
+rattle_dealloc(b, get64(b, l3 + 216));
 L52:;
 if (!get64(b, l3 + 344)) { goto L53; }
 rattle_dealloc(b, get64(b, l3 + 328));
 L53:;
-l30 = 1u;
-l35 = 0u;
+l31 = 1u;
+l36 = 0u;
 l9 = 0ull;
 if (get8(b, l3 + 352) != 1u) { goto L7; }
 l1 = get64(b, l3 + 360);
@@ -1983,11 +1981,11 @@ if (!l4) { goto L7; }
 rattle_dealloc(b, l2);
 goto L7;
 L41:;
-put64(b, l3 + 1040, get64(b, l3 + 2448));
-put64(b, l3 + 1032, get64(b, l3 + 2440));
-put64(b, l3 + 1024, get64(b, l3 + 2432));
-put64(b, l3 + 1016, get64(b, l3 + 2424));
-switch ((u32)(((u64)l31) & 255ull)) {
+put64(b, l3 + 1040, get64(b, l3 + 2336));
+put64(b, l3 + 1032, get64(b, l3 + 2328));
+put64(b, l3 + 1024, get64(b, l3 + 2320));
+put64(b, l3 + 1016, get64(b, l3 + 2312));
+switch ((u32)(((u64)l32) & 255ull)) {
 case 1: goto L54;
 case 2: goto L40;
 default: goto L55;
@@ -1999,13 +1997,13 @@ l13 = get64(b, l3 + 1024);
 l16 = get64(b, l3 + 1016);
 goto L38;
 L54:;
-l30 = 0u;
+l31 = 0u;
 goto L39;
 L40:;
 if (l4 < 76ull) { goto L58; }
-l31 = get8(b, l1 + 75) + 4294967228u;
-if (l31 > 48u) { goto L57; }
-if (((1ull << (((u64)l31) & 63)) & 439843305918473ull) == 0ull) { goto L57; }
+l32 = get8(b, l1 + 75) + 4294967228u;
+if (l32 > 48u) { goto L57; }
+if (((1ull << (((u64)l32) & 63)) & 439843305918473ull) == 0ull) { goto L57; }
 if (get8(b, l1) != 239u) { goto L57; }
 if (get8(b, l1 + 1) != 187u) { goto L57; }
 if (get8(b, l1 + 2) != 191u) { goto L57; }
@@ -2015,26 +2013,26 @@ goto L56;
 L58:;
 if (l4 < 74ull) { goto L56; }
 L57:;
-l31 = get8(b, l1 + 73) + 4294967228u;
-if (l31 > 48u) { goto L56; }
-if (((1ull << (((u64)l31) & 63)) & 439843305918473ull) == 0ull) { goto L56; }
+l32 = get8(b, l1 + 73) + 4294967228u;
+if (l32 > 48u) { goto L56; }
+if (((1ull << (((u64)l32) & 63)) & 439843305918473ull) == 0ull) { goto L56; }
 if (get8(b, l1) != 12u) { goto L56; }
 l4 = l4 + 18446744073709551615ull;
 l1 = l1 + 1ull;
 L56:;
-t2 = f13(b, l3 + 328ull, l3 + 1016ull, l35, l1, l4);
+t2 = f13(b, l3 + 328ull, l3 + 1016ull, l36, l1, l4);
 if (!(t2 & 255u)) { goto L59; }
-l35 = 0u;
+l36 = 0u;
 l9 = 0ull;
-l30 = 1u;
+l31 = 1u;
 goto L39;
 L59:;
-if ((l35 & 255u) == 4u) { goto L33; }
+if ((l36 & 255u) == 4u) { goto L33; }
 l8 = get64(b, l3 + 1040);
 l12 = get64(b, l3 + 1032);
 l13 = get64(b, l3 + 1024);
 l16 = get64(b, l3 + 1016);
-switch ((u32)(((u64)l35) & 255ull)) {
+switch ((u32)(((u64)l36) & 255ull)) {
 case 1: goto L62;
 case 2: goto L61;
 case 3: goto L60;
@@ -2053,8 +2051,8 @@ L60:;
 l8 = l8 + 1ull;
 goto L38;
 L39:;
-if (!get64(b, l3 + 1864)) { goto L64; }
-rattle_dealloc(b, get64(b, l3 + 1848));
+if (!get64(b, l3 + 232)) { goto L64; }
+rattle_dealloc(b, get64(b, l3 + 216));
 L64:;
 if (!get64(b, l3 + 344)) { goto L65; }
 rattle_dealloc(b, get64(b, l3 + 328));
@@ -2068,13 +2066,13 @@ if (!l4) { goto L7; }
 rattle_dealloc(b, l2);
 goto L7;
 L38:;
-put64(b, l3 + 2448, l8);
-put64(b, l3 + 2440, l12);
-put64(b, l3 + 2432, l13);
-put64(b, l3 + 2424, l16);
+put64(b, l3 + 2336, l8);
+put64(b, l3 + 2328, l12);
+put64(b, l3 + 2320, l13);
+put64(b, l3 + 2312, l16);
 l9 = l9 + 1ull;
 if (!(u32)(!l15)) { goto L34; }
-l31 = get8(b, l3 + 352);
+l32 = get8(b, l3 + 352);
 l4 = get64(b, l3 + 344);
 l1 = get64(b, l3 + 360);
 l2 = get64(b, l3 + 328);
@@ -2082,9 +2080,9 @@ if (l8 != 0ull) { goto L32; }
 if (!l4) { goto L66; }
 rattle_dealloc(b, l2);
 L66:;
-l35 = 8u;
-l30 = 0u;
-if ((l31 & 255u) != 1u) { goto L30; }
+l36 = 8u;
+l31 = 0u;
+if ((l32 & 255u) != 1u) { goto L30; }
 l2 = get64(b, l1);
 l4 = get64(b, l1 + 16);
 rattle_dealloc(b, l1);
@@ -2094,8 +2092,8 @@ goto L30;
 L33:;
 l4 = get64(b, l3 + 344);
 l2 = get64(b, l3 + 328);
-l35 = get8(b, l3 + 352);
-if (l35) { goto L68; }
+l36 = get8(b, l3 + 352);
+if (l36) { goto L68; }
 l1 = 0ull;
 if (!l4) { goto L67; }
 rattle_dealloc(b, l2);
@@ -2110,24 +2108,24 @@ put64(b, l1, l2);
 if (!l17) { goto L67; }
 rattle_dealloc(b, l4);
 L67:;
-l4 = get64(b, l3 + 1848);
-f14(b, l3 + 2664ull, l35, l1, l4, l11);
-if (!get64(b, l3 + 1864)) { goto L8; }
+l4 = get64(b, l3 + 216);
+f14(b, l3 + 2552ull, l36, l1, l4, l11);
+if (!get64(b, l3 + 232)) { goto L8; }
 rattle_dealloc(b, l4);
 goto L8;
 L32:;
 l17 = get64(b, l3 + 336);
 put64(b, l3 + 1048, l1);
-put64(b, l3 + 1040, ((u64)l31) & 255ull);
+put64(b, l3 + 1040, ((u64)l32) & 255ull);
 put64(b, l3 + 1032, l4);
 put64(b, l3 + 1024, l17);
 put64(b, l3 + 1016, l2);
-t3 = f13(b, l3 + 1016ull, l3 + 2424ull, 4u, 1049504ull, 0ull);
+t3 = f13(b, l3 + 1016ull, l3 + 2312ull, 4u, 1049504ull, 0ull);
 if (t3 & 255u) { goto L69; }
 l4 = get64(b, l3 + 1032);
 l2 = get64(b, l3 + 1016);
-l35 = get8(b, l3 + 1040);
-if (l35) { goto L71; }
+l36 = get8(b, l3 + 1040);
+if (l36) { goto L71; }
 l1 = 0ull;
 if (!l4) { goto L70; }
 rattle_dealloc(b, l2);
@@ -2142,17 +2140,17 @@ put64(b, l1, l2);
 if (!l17) { goto L70; }
 rattle_dealloc(b, l4);
 L70:;
-l4 = get64(b, l3 + 1848);
-f14(b, l3 + 2664ull, l35, l1, l4, l11);
-if (!get64(b, l3 + 1864)) { goto L8; }
+l4 = get64(b, l3 + 216);
+f14(b, l3 + 2552ull, l36, l1, l4, l11);
+if (!get64(b, l3 + 232)) { goto L8; }
 rattle_dealloc(b, l4);
 goto L8;
 L69:;
 if (!get64(b, l3 + 1032)) { goto L72; }
 rattle_dealloc(b, get64(b, l3 + 1016));
 L72:;
-l30 = 1u;
-l35 = 0u;
+l31 = 1u;
+l36 = 0u;
 l9 = 0ull;
 if (get8(b, l3 + 1040) != 1u) { goto L30; }
 l1 = get64(b, l3 + 1048);
@@ -2162,106 +2160,106 @@ rattle_dealloc(b, l1);
 if (!l4) { goto L30; }
 rattle_dealloc(b, l2);
 L30:;
-if (!get64(b, l3 + 1864)) { goto L7; }
-rattle_dealloc(b, get64(b, l3 + 1848));
+if (!get64(b, l3 + 232)) { goto L7; }
+rattle_dealloc(b, get64(b, l3 + 216));
 goto L7;
 L21:;
-l34 = 0u;
-fill(b, l3 + 2536ull, 0u, 128u);
-f15(b, l3 + 2536ull, l2);
-if (get8(b, l3 + 2536)) { goto L18; }
-l4 = get64(b, l3 + 2568);
-l35 = get8(b, l3 + 2560);
-l1 = get64(b, l3 + 2552);
-if (get8(b, l3 + 2544)) { goto L73; }
-put8(b, l3 + 2672, l35);
-put64(b, l3 + 2664, l1);
-put32(b, l3 + 2673, get32(b, l3 + 2561));
-put32(b, l3 + 2676, get32(b, l3 + 2564));
-put64(b, l3 + 2680, l4);
-copy(b, l3 + 2688ull, l3 + 2576ull, 88u);
+l35 = 0u;
+fill(b, l3 + 2424ull, 0u, 128u);
+f15(b, l3 + 2424ull, l2);
+if (get8(b, l3 + 2424)) { goto L18; }
+l4 = get64(b, l3 + 2456);
+l36 = get8(b, l3 + 2448);
+l1 = get64(b, l3 + 2440);
+if (get8(b, l3 + 2432)) { goto L73; }
+put8(b, l3 + 2560, l36);
+put64(b, l3 + 2552, l1);
+put32(b, l3 + 2561, get32(b, l3 + 2449));
+put32(b, l3 + 2564, get32(b, l3 + 2452));
+put64(b, l3 + 2568, l4);
+copy(b, l3 + 2576ull, l3 + 2464ull, 88u);
 l4 = 0ull;
-put64(b, l3 + 2152, 0ull);
-put64(b, l3 + 2144, 0ull);
-put64(b, l3 + 2136, 0ull);
-f16(b, l3 + 2136ull, l3 + 2664ull, l32);
-l33 = 0u;
+put64(b, l3 + 1896, 0ull);
+put64(b, l3 + 1888, 0ull);
+put64(b, l3 + 1880, 0ull);
+f16(b, l3 + 1880ull, l3 + 2552ull, l33);
 l34 = 0u;
 l35 = 0u;
-if (get8(b, l3 + 2136)) { goto L74; }
-l36 = get8(b, l3 + 2144);
-if (get8(b, l3 + 2140)) { goto L76; }
-put8(b, l3 + 144, l36);
-put64(b, l3 + 145, get64(b, l3 + 2145));
-put32(b, l3 + 152, get32(b, l3 + 2152));
-l34 = 0u;
+l36 = 0u;
+if (get8(b, l3 + 1880)) { goto L74; }
+l37 = get8(b, l3 + 1888);
+if (get8(b, l3 + 1884)) { goto L76; }
+put8(b, l3 + 1840, l37);
+put64(b, l3 + 1841, get64(b, l3 + 1889));
+put32(b, l3 + 1848, get32(b, l3 + 1896));
+l35 = 0u;
 fill(b, l3 + 1016ull, 0u, 168u);
 l4 = 0ull;
-put64(b, l3 + 2336, 0ull);
-put64(b, l3 + 2328, 0ull);
-put64(b, l3 + 2320, 0ull);
-put64(b, l3 + 2312, 0ull);
-f17(b, l3 + 1016ull, l3 + 2664ull, l32, l3 + 144ull);
-l33 = 1u;
-l35 = 0u;
+put64(b, l3 + 2224, 0ull);
+put64(b, l3 + 2216, 0ull);
+put64(b, l3 + 2208, 0ull);
+put64(b, l3 + 2200, 0ull);
+f17(b, l3 + 1016ull, l3 + 2552ull, l33, l3 + 1840ull);
+l34 = 1u;
+l36 = 0u;
 if (get8(b, l3 + 1016)) { goto L75; }
-l34 = get8(b, l3 + 1032);
+l35 = get8(b, l3 + 1032);
 switch ((u32)(u64)get8(b, l3 + 1024)) {
 case 1: goto L78;
 case 2: goto L77;
 default: goto L79;
 }
 L79:;
-f18(b, l3 + 2312ull, get32(b, l3 + 1028), l34);
-l4 = get64(b, l3 + 2336);
-l35 = get8(b, l3 + 2328);
-l34 = get8(b, l3 + 2320);
-l33 = get8(b, l3 + 2312);
+f18(b, l3 + 2200ull, get32(b, l3 + 1028), l35);
+l4 = get64(b, l3 + 2224);
+l36 = get8(b, l3 + 2216);
+l35 = get8(b, l3 + 2208);
+l34 = get8(b, l3 + 2200);
 goto L75;
 L78:;
 put64(b, l3 + 328, 0ull);
 put64(b, l3 + 336, 0ull);
 put64(b, l3 + 344, 0ull);
 put64(b, l3 + 352, 0ull);
-l1 = ((u64)l36) << 3;
-f19(b, l3 + 328ull, get64(b, l1 + 1063544), get64(b, l1 + 1063456), get32(b, l3 + 148), get32(b, l3 + 152));
+l1 = ((u64)l37) << 3;
+f19(b, l3 + 328ull, get64(b, l1 + 1063544), get64(b, l1 + 1063456), get32(b, l3 + 1844), get32(b, l3 + 1848));
 l4 = get64(b, l3 + 352);
-l35 = get8(b, l3 + 344);
-l34 = get8(b, l3 + 336);
-l33 = get8(b, l3 + 328);
+l36 = get8(b, l3 + 344);
+l35 = get8(b, l3 + 336);
+l34 = get8(b, l3 + 328);
 goto L75;
 L77:;
-l35 = get8(b, l3 + 1168);
-put8(b, l3 + 328, l34);
+l36 = get8(b, l3 + 1168);
+put8(b, l3 + 328, l35);
 copy(b, (l3 + 328ull) | 1ull, l3 + 1033ull, 111u);
-put32(b, l3 + 464, l35);
+put32(b, l3 + 464, l36);
 put64(b, l3 + 456, get64(b, l3 + 1160));
 put64(b, l3 + 448, get64(b, l3 + 1152));
 put64(b, l3 + 440, get64(b, l3 + 1144));
 put64(b, l3 + 468, get64(b, l3 + 1172));
 put32(b, l3 + 476, get32(b, l3 + 1180));
-put64(b, l3 + 2424, 0ull);
-put64(b, l3 + 2432, 0ull);
-put64(b, l3 + 2440, 0ull);
-put64(b, l3 + 2448, 0ull);
-put32(b, l3 + 1716, 1u);
-put32(b, l3 + 1712, l30);
-put32(b, l3 + 1708, l31);
-put32(b, l3 + 1704, l32);
-put32(b, l3 + 216, l35);
-put64(b, l3 + 1720, get64(b, l3 + 144));
-put32(b, l3 + 1728, get32(b, l3 + 152));
-put64(b, l3 + 220, get64(b, l3 + 1172));
-put32(b, l3 + 228, get32(b, l3 + 1180));
-f20(b, l3 + 2424ull, l3 + 328ull, l3 + 216ull, get64(b, l3 + 440), get64(b, l3 + 448), l3 + 1704ull);
-put64(b, l3 + 1848, get64(b, l3 + 352));
-put64(b, l3 + 1856, get64(b, l3 + 360));
-put64(b, l3 + 1864, get64(b, l3 + 368));
-put64(b, l3 + 1872, get64(b, l3 + 376));
-l4 = get64(b, l3 + 2448);
-l35 = get8(b, l3 + 2440);
-l34 = get8(b, l3 + 2432);
-l33 = get8(b, l3 + 2424);
+put64(b, l3 + 2312, 0ull);
+put64(b, l3 + 2320, 0ull);
+put64(b, l3 + 2328, 0ull);
+put64(b, l3 + 2336, 0ull);
+put32(b, l3 + 156, 1u);
+put32(b, l3 + 152, l31);
+put32(b, l3 + 148, l32);
+put32(b, l3 + 144, l33);
+put32(b, l3 + 1744, l36);
+put64(b, l3 + 160, get64(b, l3 + 1840));
+put32(b, l3 + 168, get32(b, l3 + 1848));
+put64(b, l3 + 1748, get64(b, l3 + 1172));
+put32(b, l3 + 1756, get32(b, l3 + 1180));
+f20(b, l3 + 2312ull, l3 + 328ull, l3 + 1744ull, get64(b, l3 + 440), get64(b, l3 + 448), l3 + 144ull);
+put64(b, l3 + 216, get64(b, l3 + 352));
+put64(b, l3 + 224, get64(b, l3 + 360));
+put64(b, l3 + 232, get64(b, l3 + 368));
+put64(b, l3 + 240, get64(b, l3 + 376));
+l4 = get64(b, l3 + 2336);
+l36 = get8(b, l3 + 2328);
+l35 = get8(b, l3 + 2320);
+l34 = get8(b, l3 + 2312);
 l16 = get64(b, l3 + 424);
 l2 = get64(b, l3 + 416);
 l17 = get64(b, l3 + 408);
@@ -2270,18 +2268,18 @@ l15 = get64(b, l3 + 384);
 if (!get64(b, l3 + 344)) { goto L80; }
 rattle_dealloc(b, get64(b, l3 + 328));
 L80:;
-f21(b, l3 + 1856ull);
+f21(b, l3 + 224ull);
 if (!l1) { goto L81; }
 rattle_dealloc(b, l15);
 L81:;
 if (!l2) { goto L82; }
 l1 = l17;
 L83:;
-put64(b, l3 + 2440, get64(b, l1 + 16));
-put64(b, l3 + 2432, get64(b, l1 + 8));
-put64(b, l3 + 2424, get64(b, l1));
+put64(b, l3 + 2328, get64(b, l1 + 16));
+put64(b, l3 + 2320, get64(b, l1 + 8));
+put64(b, l3 + 2312, get64(b, l1));
 l1 = l1 + 24ull;
-f21(b, l3 + 2424ull);
+f21(b, l3 + 2312ull);
 l2 = l2 + 18446744073709551615ull;
 if (l2 != 0ull) { goto L83; }
 L82:;
@@ -2296,35 +2294,35 @@ put64(b, l3 + 1016, 0ull);
 put64(b, l3 + 1024, 0ull);
 put64(b, l3 + 1032, 0ull);
 put64(b, l3 + 1040, 0ull);
-put32(b, l3 + 2424, l36);
-put64(b, l3 + 2428, get64(b, l3 + 2148));
-put32(b, l3 + 2436, get32(b, l3 + 2156));
+put32(b, l3 + 2312, l37);
+put64(b, l3 + 2316, get64(b, l3 + 1892));
+put32(b, l3 + 2324, get32(b, l3 + 1900));
 put64(b, l3 + 344, 0ull);
 put32(b, l3 + 352, 0u);
 put32(b, l3 + 340, 0u);
-put32(b, l3 + 336, l30);
-put32(b, l3 + 332, l31);
-put32(b, l3 + 328, l32);
-f20(b, l3 + 1016ull, l3 + 2664ull, l3 + 2424ull, 1049504ull, 0ull, l3 + 328ull);
+put32(b, l3 + 336, l31);
+put32(b, l3 + 332, l32);
+put32(b, l3 + 328, l33);
+f20(b, l3 + 1016ull, l3 + 2552ull, l3 + 2312ull, 1049504ull, 0ull, l3 + 328ull);
 l4 = get64(b, l3 + 1040);
-l35 = get8(b, l3 + 1032);
-l34 = get8(b, l3 + 1024);
-l33 = get8(b, l3 + 1016);
+l36 = get8(b, l3 + 1032);
+l35 = get8(b, l3 + 1024);
+l34 = get8(b, l3 + 1016);
 L75:;
-l33 = (u32)(!(l33 & 255u));
+l34 = (u32)(!(l34 & 255u));
 L74:;
-if (!get64(b, l3 + 2680)) { goto L85; }
-rattle_dealloc(b, get64(b, l3 + 2664));
+if (!get64(b, l3 + 2568)) { goto L85; }
+rattle_dealloc(b, get64(b, l3 + 2552));
 L85:;
-put64(b, l3 + 344, get64(b, l3 + 2712));
-put64(b, l3 + 336, get64(b, l3 + 2704));
-put64(b, l3 + 328, get64(b, l3 + 2696));
+put64(b, l3 + 344, get64(b, l3 + 2600));
+put64(b, l3 + 336, get64(b, l3 + 2592));
+put64(b, l3 + 328, get64(b, l3 + 2584));
 f21(b, l3 + 328ull);
-l16 = get64(b, l3 + 2760);
-l2 = get64(b, l3 + 2752);
-l17 = get64(b, l3 + 2744);
-if (!get64(b, l3 + 2736)) { goto L86; }
-rattle_dealloc(b, get64(b, l3 + 2720));
+l16 = get64(b, l3 + 2648);
+l2 = get64(b, l3 + 2640);
+l17 = get64(b, l3 + 2632);
+if (!get64(b, l3 + 2624)) { goto L86; }
+rattle_dealloc(b, get64(b, l3 + 2608));
 L86:;
 if (!l2) { goto L87; }
 l1 = l17;
@@ -2340,72 +2338,72 @@ L87:;
 if (!l16) { goto L89; }
 rattle_dealloc(b, l17);
 L89:;
-if (!l33) { goto L9; }
+if (!l34) { goto L9; }
 goto L11;
 L73:;
-l34 = (u32)l1;
+l35 = (u32)l1;
 goto L11;
 L20:;
-l34 = 0u;
+l35 = 0u;
 fill(b, l3 + 328ull, 0u, 128u);
 f15(b, l3 + 328ull, l2);
 if (get8(b, l3 + 328)) { goto L90; }
 l4 = get64(b, l3 + 360);
-l35 = get8(b, l3 + 352);
+l36 = get8(b, l3 + 352);
 l1 = get64(b, l3 + 344);
 if (get8(b, l3 + 336)) { goto L91; }
-put8(b, l3 + 2432, l35);
-put64(b, l3 + 2424, l1);
-put64(b, l3 + 2136, 0ull);
-put64(b, l3 + 2144, 0ull);
-put64(b, l3 + 2152, 0ull);
-put64(b, l3 + 1704, 0ull);
-put64(b, l3 + 1712, 0ull);
-put64(b, l3 + 1720, 0ull);
-put64(b, l3 + 1728, 0ull);
-put64(b, l3 + 2236, 0ull);
-put32(b, l3 + 2244, 0u);
-put32(b, l3 + 2436, get32(b, l3 + 356));
-put32(b, l3 + 2433, get32(b, l3 + 353));
-put64(b, l3 + 2440, l4);
-copy(b, l3 + 2448ull, l3 + 368ull, 88u);
-f16(b, l3 + 2136ull, l3 + 2424ull, l32);
-if (get8(b, l3 + 2136)) { goto L95; }
-l34 = get8(b, l3 + 2144);
-if (get8(b, l3 + 2140)) { goto L93; }
-put8(b, l3 + 1960, l34);
-l2 = l3 + 2145ull;
-put64(b, l3 + 1961, get64(b, l2));
-put32(b, l3 + 1968, get32(b, l2 + 7));
+put8(b, l3 + 2320, l36);
+put64(b, l3 + 2312, l1);
+put64(b, l3 + 1880, 0ull);
+put64(b, l3 + 1888, 0ull);
+put64(b, l3 + 1896, 0ull);
+put64(b, l3 + 144, 0ull);
+put64(b, l3 + 152, 0ull);
+put64(b, l3 + 160, 0ull);
+put64(b, l3 + 168, 0ull);
+put64(b, l3 + 300, 0ull);
+put32(b, l3 + 308, 0u);
+put32(b, l3 + 2324, get32(b, l3 + 356));
+put32(b, l3 + 2321, get32(b, l3 + 353));
+put64(b, l3 + 2328, l4);
+copy(b, l3 + 2336ull, l3 + 368ull, 88u);
+f16(b, l3 + 1880ull, l3 + 2312ull, l33);
+if (get8(b, l3 + 1880)) { goto L95; }
+l35 = get8(b, l3 + 1888);
+if (get8(b, l3 + 1884)) { goto L93; }
+put8(b, l3 + 2120, l35);
+l2 = l3 + 1889ull;
+put64(b, l3 + 2121, get64(b, l2));
+put32(b, l3 + 2128, get32(b, l2 + 7));
 fill(b, l3 + 1016ull, 0u, 168u);
-copy(b, l3 + 2664ull, l3 + 2424ull, 112u);
-f17(b, l3 + 1016ull, l3 + 2664ull, l32, l3 + 1960ull);
-l7 = get64(b, l3 + 2664);
-l1 = get64(b, l3 + 2680);
-put64(b, l3 + 2560, get64(b, l3 + 2712));
-put64(b, l3 + 2552, get64(b, l3 + 2704));
-put64(b, l3 + 2544, get64(b, l3 + 2696));
-put64(b, l3 + 2536, get64(b, l3 + 2688));
-l16 = get64(b, l3 + 2760);
-l4 = get64(b, l3 + 2752);
-l17 = get64(b, l3 + 2744);
-l15 = get64(b, l3 + 2736);
-l8 = get64(b, l3 + 2720);
+copy(b, l3 + 2552ull, l3 + 2312ull, 112u);
+f17(b, l3 + 1016ull, l3 + 2552ull, l33, l3 + 2120ull);
+l7 = get64(b, l3 + 2552);
+l1 = get64(b, l3 + 2568);
+put64(b, l3 + 2448, get64(b, l3 + 2600));
+put64(b, l3 + 2440, get64(b, l3 + 2592));
+put64(b, l3 + 2432, get64(b, l3 + 2584));
+put64(b, l3 + 2424, get64(b, l3 + 2576));
+l16 = get64(b, l3 + 2648);
+l4 = get64(b, l3 + 2640);
+l17 = get64(b, l3 + 2632);
+l15 = get64(b, l3 + 2624);
+l8 = get64(b, l3 + 2608);
 if (!l1) { goto L96; }
 rattle_dealloc(b, l7);
 L96:;
-f22(b, l3 + 2544ull);
+f22(b, l3 + 2432ull);
 if (!l15) { goto L97; }
 rattle_dealloc(b, l8);
 L97:;
 if (!l4) { goto L98; }
 l1 = l17;
 L99:;
-put64(b, l3 + 1864, get64(b, l1 + 16));
-put64(b, l3 + 1856, get64(b, l1 + 8));
-put64(b, l3 + 1848, get64(b, l1));
+put64(b, l3 + 232, get64(b, l1 + 16));
+put64(b, l3 + 224, get64(b, l1 + 8));
+put64(b, l3 + 216, get64(b, l1));
 l1 = l1 + 24ull;
-f22(b, l3 + 1848ull);
+f22(b, l3 + 216ull);
 l4 = l4 + 18446744073709551615ull;
 if (l4 != 0ull) { goto L99; }
 L98:;
@@ -2414,23 +2412,23 @@ rattle_dealloc(b, l17);
 L100:;
 if (!get8(b, l3 + 1016)) { goto L94; }
 l4 = 0ull;
-l34 = 0u;
-l32 = 1u;
 l35 = 0u;
+l33 = 1u;
+l36 = 0u;
 goto L92;
 L95:;
-if (!get64(b, l3 + 2440)) { goto L101; }
-rattle_dealloc(b, get64(b, l3 + 2424));
+if (!get64(b, l3 + 2328)) { goto L101; }
+rattle_dealloc(b, get64(b, l3 + 2312));
 L101:;
-put64(b, l3 + 232, get64(b, l3 + 2472));
-put64(b, l3 + 224, get64(b, l3 + 2464));
-put64(b, l3 + 216, get64(b, l3 + 2456));
-f22(b, l3 + 216ull);
-l17 = get64(b, l3 + 2520);
-l4 = get64(b, l3 + 2512);
-l2 = get64(b, l3 + 2504);
-if (!get64(b, l3 + 2496)) { goto L102; }
-rattle_dealloc(b, get64(b, l3 + 2480));
+put64(b, l3 + 1760, get64(b, l3 + 2360));
+put64(b, l3 + 1752, get64(b, l3 + 2352));
+put64(b, l3 + 1744, get64(b, l3 + 2344));
+f22(b, l3 + 1744ull);
+l17 = get64(b, l3 + 2408);
+l4 = get64(b, l3 + 2400);
+l2 = get64(b, l3 + 2392);
+if (!get64(b, l3 + 2384)) { goto L102; }
+rattle_dealloc(b, get64(b, l3 + 2368));
 L102:;
 if (!l4) { goto L103; }
 l1 = l2;
@@ -2447,91 +2445,91 @@ if (!l17) { goto L9; }
 rattle_dealloc(b, l2);
 goto L9;
 L94:;
-l37 = get8(b, l3 + 1168);
+l38 = get8(b, l3 + 1168);
 l4 = get64(b, l3 + 1160);
 l17 = get64(b, l3 + 1144);
-l35 = get8(b, l3 + 1032);
-l38 = get32(b, l3 + 1028);
+l36 = get8(b, l3 + 1032);
+l39 = get32(b, l3 + 1028);
 l1 = (u64)get8(b, l3 + 1024);
-put64(b, l3 + 1848, 0ull);
-put64(b, l3 + 1856, 0ull);
-put64(b, l3 + 1864, 0ull);
-put64(b, l3 + 1872, 0ull);
-l33 = get32(b, l3 + 1968);
-l36 = get32(b, l3 + 1964);
+put64(b, l3 + 216, 0ull);
+put64(b, l3 + 224, 0ull);
+put64(b, l3 + 232, 0ull);
+put64(b, l3 + 240, 0ull);
+l34 = get32(b, l3 + 2128);
+l37 = get32(b, l3 + 2124);
 switch ((u32)l1) {
 case 1: goto L107;
 case 2: goto L106;
 default: goto L108;
 }
 L108:;
-f18(b, l3 + 1848ull, l38, l35);
+f18(b, l3 + 216ull, l39, l36);
 goto L105;
 L107:;
-put64(b, l3 + 2560, 0ull);
-put64(b, l3 + 2552, 0ull);
-put64(b, l3 + 2544, 0ull);
-put64(b, l3 + 2536, 0ull);
-l1 = ((u64)l34) << 3;
-f19(b, l3 + 2536ull, get64(b, l1 + 1063544), get64(b, l1 + 1063456), l36, l33);
-put8(b, l3 + 1848, get8(b, l3 + 2536));
-put8(b, l3 + 1856, get8(b, l3 + 2544));
-put64(b, l3 + 1864, (u64)get8(b, l3 + 2552));
-put64(b, l3 + 1872, get64(b, l3 + 2560));
+put64(b, l3 + 2448, 0ull);
+put64(b, l3 + 2440, 0ull);
+put64(b, l3 + 2432, 0ull);
+put64(b, l3 + 2424, 0ull);
+l1 = ((u64)l35) << 3;
+f19(b, l3 + 2424ull, get64(b, l1 + 1063544), get64(b, l1 + 1063456), l37, l34);
+put8(b, l3 + 216, get8(b, l3 + 2424));
+put8(b, l3 + 224, get8(b, l3 + 2432));
+put64(b, l3 + 232, (u64)get8(b, l3 + 2440));
+put64(b, l3 + 240, get64(b, l3 + 2448));
 goto L105;
 L106:;
-put8(b, l3 + 2536, l35);
-copy(b, (l3 + 2536ull) | 1ull, l3 + 1033ull, 111u);
-put32(b, l3 + 144, l37);
-put8(b, l3 + 1820, l34);
-put32(b, l3 + 1816, 1u);
-put32(b, l3 + 1828, l33);
-put32(b, l3 + 1824, l36);
-put64(b, l3 + 148, get64(b, l3 + 1172));
-put32(b, l3 + 156, get32(b, l3 + 1180));
-put16(b, l3 + 1821, get16(b, l2));
-put8(b, l3 + 1823, get8(b, l2 + 2));
-f23(b, l3 + 1848ull, l3 + 2536ull, l32, l3 + 144ull, l3 + 1816ull, l31, l30);
+put8(b, l3 + 2424, l36);
+copy(b, (l3 + 2424ull) | 1ull, l3 + 1033ull, 111u);
+put32(b, l3 + 1840, l38);
+put8(b, l3 + 1708, l35);
+put32(b, l3 + 1704, 1u);
+put32(b, l3 + 1716, l34);
+put32(b, l3 + 1712, l37);
+put64(b, l3 + 1844, get64(b, l3 + 1172));
+put32(b, l3 + 1852, get32(b, l3 + 1180));
+put16(b, l3 + 1709, get16(b, l2));
+put8(b, l3 + 1711, get8(b, l2 + 2));
+f23(b, l3 + 216ull, l3 + 2424ull, l33, l3 + 1840ull, l3 + 1704ull, l32, l31);
 if (!l4) { goto L105; }
 rattle_dealloc(b, l17);
 L105:;
-l4 = get64(b, l3 + 1872);
-l35 = get8(b, l3 + 1864);
-l34 = get8(b, l3 + 1856);
-l32 = get8(b, l3 + 1848);
+l4 = get64(b, l3 + 240);
+l36 = get8(b, l3 + 232);
+l35 = get8(b, l3 + 224);
+l33 = get8(b, l3 + 216);
 goto L92;
 L93:;
-put32(b, l3 + 296, l34);
-put64(b, l3 + 300, get64(b, l3 + 2148));
-put32(b, l3 + 308, get32(b, l3 + 2156));
-copy(b, l3 + 2312ull, l3 + 2424ull, 112u);
-put32(b, l3 + 2232, 0u);
-f23(b, l3 + 1704ull, l3 + 2312ull, l32, l3 + 296ull, l3 + 2232ull, l31, l30);
-l4 = get64(b, l3 + 1728);
-l35 = get8(b, l3 + 1720);
-l34 = get8(b, l3 + 1712);
-l32 = get8(b, l3 + 1704);
+put32(b, l3 + 1808, l35);
+put64(b, l3 + 1812, get64(b, l3 + 1892));
+put32(b, l3 + 1820, get32(b, l3 + 1900));
+copy(b, l3 + 2200ull, l3 + 2312ull, 112u);
+put32(b, l3 + 296, 0u);
+f23(b, l3 + 144ull, l3 + 2200ull, l33, l3 + 1808ull, l3 + 296ull, l32, l31);
+l4 = get64(b, l3 + 168);
+l36 = get8(b, l3 + 160);
+l35 = get8(b, l3 + 152);
+l33 = get8(b, l3 + 144);
 L92:;
-if (l32 & 255u) { goto L9; }
+if (l33 & 255u) { goto L9; }
 goto L11;
 L91:;
-l34 = (u32)l1;
+l35 = (u32)l1;
 goto L11;
 L90:;
 l4 = 0ull;
-l32 = 1u;
-l30 = get8(b, l3 + 329);
-l35 = 0u;
+l33 = 1u;
+l31 = get8(b, l3 + 329);
+l36 = 0u;
 goto L1;
 L19:;
-l34 = 0u;
-fill(b, l3 + 2536ull, 0u, 128u);
-f15(b, l3 + 2536ull, l2);
-if (get8(b, l3 + 2536)) { goto L18; }
-l4 = get64(b, l3 + 2568);
-l35 = get8(b, l3 + 2560);
-l1 = get64(b, l3 + 2552);
-if (get8(b, l3 + 2544)) { goto L17; }
+l35 = 0u;
+fill(b, l3 + 2424ull, 0u, 128u);
+f15(b, l3 + 2424ull, l2);
+if (get8(b, l3 + 2424)) { goto L18; }
+l4 = get64(b, l3 + 2456);
+l36 = get8(b, l3 + 2448);
+l1 = get64(b, l3 + 2440);
+if (get8(b, l3 + 2432)) { goto L17; }
 l12 = 0ull;
 put64(b, l3 + 296, 0ull);
 put64(b, l3 + 304, 0ull);
@@ -2547,14 +2545,14 @@ put64(b, l3 + 112, 0ull);
 put64(b, l3 + 72, 0ull);
 put64(b, l3 + 80, 0ull);
 put64(b, l3 + 88, 0ull);
-put8(b, l3 + 2320, l35);
+put8(b, l3 + 2320, l36);
 put64(b, l3 + 2312, l1);
 put64(b, l3 + 2328, l4);
-put32(b, l3 + 2321, get32(b, l3 + 2561));
-put32(b, l3 + 2324, get32(b, l3 + 2564));
+put32(b, l3 + 2321, get32(b, l3 + 2449));
+put32(b, l3 + 2324, get32(b, l3 + 2452));
 l5 = l3 + 2336ull;
-copy(b, l5, l3 + 2576ull, 88u);
-fill(b, l3 + 2664ull, 0u, 88u);
+copy(b, l5, l3 + 2464ull, 88u);
+fill(b, l3 + 2552ull, 0u, 88u);
 put64(b, l3 + 344, 0ull);
 put64(b, l3 + 352, 0ull);
 put64(b, l3 + 368, 0ull);
@@ -2567,13 +2565,13 @@ put64(b, l3 + 440, 0ull);
 put64(b, l3 + 448, 0ull);
 put64(b, l3 + 472, 0ull);
 put64(b, l3 + 464, 0ull);
-put64(b, l3 + 336, l3 + 2776ull);
+put64(b, l3 + 336, l3 + 2664ull);
 put64(b, l3 + 328, l3 + 2312ull);
-put64(b, l3 + 360, l3 + 2776ull);
-put64(b, l3 + 384, l3 + 2776ull);
-put64(b, l3 + 408, l3 + 2776ull);
-put64(b, l3 + 432, l3 + 2776ull);
-put64(b, l3 + 456, l3 + 2776ull);
+put64(b, l3 + 360, l3 + 2664ull);
+put64(b, l3 + 384, l3 + 2664ull);
+put64(b, l3 + 408, l3 + 2664ull);
+put64(b, l3 + 432, l3 + 2664ull);
+put64(b, l3 + 456, l3 + 2664ull);
 put64(b, l3 + 488, 0ull);
 put64(b, l3 + 496, 0ull);
 put64(b, l3 + 512, 0ull);
@@ -2586,12 +2584,12 @@ put64(b, l3 + 584, 0ull);
 put64(b, l3 + 592, 0ull);
 put64(b, l3 + 600, 0ull);
 put64(b, l3 + 608, 2611923443488327891ull);
-put64(b, l3 + 480, l3 + 2776ull);
-put64(b, l3 + 504, l3 + 2776ull);
-put64(b, l3 + 528, l3 + 2776ull);
-put64(b, l3 + 552, l3 + 2776ull);
-put64(b, l3 + 576, l3 + 2776ull);
-put64(b, l3 + 616, l3 + 2776ull);
+put64(b, l3 + 480, l3 + 2664ull);
+put64(b, l3 + 504, l3 + 2664ull);
+put64(b, l3 + 528, l3 + 2664ull);
+put64(b, l3 + 552, l3 + 2664ull);
+put64(b, l3 + 576, l3 + 2664ull);
+put64(b, l3 + 616, l3 + 2664ull);
 put64(b, l3 + 632, 0ull);
 put64(b, l3 + 624, 0ull);
 put64(b, l3 + 656, 0ull);
@@ -2604,73 +2602,73 @@ put64(b, l3 + 728, 0ull);
 put64(b, l3 + 720, 0ull);
 put64(b, l3 + 752, 0ull);
 put64(b, l3 + 744, 0ull);
-put64(b, l3 + 640, l3 + 2776ull);
-put64(b, l3 + 664, l3 + 2776ull);
-put64(b, l3 + 688, l3 + 2776ull);
-put64(b, l3 + 712, l3 + 2776ull);
-put64(b, l3 + 736, l3 + 2776ull);
-put64(b, l3 + 760, l3 + 2776ull);
+put64(b, l3 + 640, l3 + 2664ull);
+put64(b, l3 + 664, l3 + 2664ull);
+put64(b, l3 + 688, l3 + 2664ull);
+put64(b, l3 + 712, l3 + 2664ull);
+put64(b, l3 + 736, l3 + 2664ull);
+put64(b, l3 + 760, l3 + 2664ull);
 put64(b, l3 + 784, 0ull);
 put64(b, l3 + 776, 0ull);
 put64(b, l3 + 768, 0ull);
 put64(b, l3 + 792, 2611923443488327891ull);
-put64(b, l3 + 800, l3 + 2776ull);
+put64(b, l3 + 800, l3 + 2664ull);
 put64(b, l3 + 816, 0ull);
 put64(b, l3 + 808, 0ull);
-put64(b, l3 + 824, l3 + 2776ull);
+put64(b, l3 + 824, l3 + 2664ull);
 put64(b, l3 + 840, 0ull);
 put64(b, l3 + 832, 0ull);
-put64(b, l3 + 848, l3 + 2776ull);
+put64(b, l3 + 848, l3 + 2664ull);
 put64(b, l3 + 864, 0ull);
 put64(b, l3 + 856, 0ull);
-put64(b, l3 + 872, l3 + 2776ull);
+put64(b, l3 + 872, l3 + 2664ull);
 put64(b, l3 + 888, 0ull);
 put64(b, l3 + 880, 0ull);
-put64(b, l3 + 896, l3 + 2776ull);
+put64(b, l3 + 896, l3 + 2664ull);
 put64(b, l3 + 912, 0ull);
 put64(b, l3 + 904, 0ull);
-put64(b, l3 + 920, l3 + 2776ull);
+put64(b, l3 + 920, l3 + 2664ull);
 put64(b, l3 + 936, 0ull);
 put64(b, l3 + 928, 0ull);
-put64(b, l3 + 944, l3 + 2776ull);
+put64(b, l3 + 944, l3 + 2664ull);
 put64(b, l3 + 960, 0ull);
 put64(b, l3 + 952, 0ull);
-put64(b, l3 + 968, l3 + 2776ull);
+put64(b, l3 + 968, l3 + 2664ull);
 put64(b, l3 + 984, 0ull);
 put64(b, l3 + 976, 0ull);
-put64(b, l3 + 992, l3 + 2776ull);
+put64(b, l3 + 992, l3 + 2664ull);
 put64(b, l3 + 1008, 0ull);
 put64(b, l3 + 1000, 0ull);
-f24(b, l3 + 2664ull, l3 + 328ull, l32);
+f24(b, l3 + 2552ull, l3 + 328ull, l33);
 copy(b, l3 + 1016ull, l3 + 328ull, 688u);
 f25(b, l3 + 1016ull);
-put16(b, l3 + 212, get16(b, l3 + 2673));
-put8(b, l3 + 214, get8(b, l3 + 2675));
-l34 = get8(b, l3 + 2664);
-l35 = get8(b, l3 + 2668);
-l30 = get32(b, l3 + 2676);
-l31 = get32(b, l3 + 2680);
-l33 = get8(b, l3 + 2672);
-copy(b, l3 + 144ull, l3 + 2684ull, 68u);
-if (l34) { goto L13; }
-put8(b, l3 + 216, l33);
+put16(b, l3 + 212, get16(b, l3 + 2561));
+put8(b, l3 + 214, get8(b, l3 + 2563));
+l35 = get8(b, l3 + 2552);
+l36 = get8(b, l3 + 2556);
+l31 = get32(b, l3 + 2564);
+l32 = get32(b, l3 + 2568);
+l34 = get8(b, l3 + 2560);
+copy(b, l3 + 144ull, l3 + 2572ull, 68u);
+if (l35) { goto L13; }
+put8(b, l3 + 216, l34);
 put16(b, l3 + 217, get16(b, l3 + 212));
 put8(b, l3 + 219, get8(b, l3 + 214));
-put32(b, l3 + 224, l31);
-put32(b, l3 + 220, l30);
+put32(b, l3 + 224, l32);
+put32(b, l3 + 220, l31);
 copy(b, l3 + 228ull, l3 + 144ull, 68u);
-put64(b, l3 + 2672, 0ull);
-put64(b, l3 + 2680, 0ull);
-put64(b, l3 + 2664, l3 + 2776ull);
+put64(b, l3 + 2560, 0ull);
+put64(b, l3 + 2568, 0ull);
+put64(b, l3 + 2552, l3 + 2664ull);
 l18 = (l3 + 216ull) + 8ull;
 l14 = get64(b, l3 + 232);
 if (!(u32)(!l14)) { goto L110; }
-l2 = l3 + 2776ull;
-l30 = 1u;
+l2 = l3 + 2664ull;
+l31 = 1u;
 goto L109;
 L110:;
 l10 = (l3 + 328ull) + 8ull;
-l2 = l3 + 2776ull;
+l2 = l3 + 2664ull;
 l12 = 0ull;
 l13 = 0ull;
 L111:;
@@ -2692,8 +2690,8 @@ l7 = 0ull;
 goto L114;
 L122:;
 l6 = get64(b, (get64(b, l3 + 224) + (l1 << 5)) + 8ull);
-l34 = (u32)(!(l7 + 18446744073709551615ull));
-if (!l34) { goto L125; }
+l35 = (u32)(!(l7 + 18446744073709551615ull));
+if (!l35) { goto L125; }
 l17 = 0ull;
 l2 = 0ull;
 goto L124;
@@ -2713,7 +2711,7 @@ if (!l8) { goto L123; }
 L124:;
 l17 = l17 + ((u64)(get8(b, (l6 + (l2 * 104ull)) + 4ull) != get8(b, l4 + l2)));
 L123:;
-if (!l34) { goto L129; }
+if (!l35) { goto L129; }
 l16 = 0ull;
 l2 = 0ull;
 goto L128;
@@ -2752,28 +2750,28 @@ L132:;
 l1 = 0ull;
 put64(b, l10, 0ull);
 put64(b, l10 + 8, 0ull);
-put64(b, l3 + 328, l3 + 2776ull);
-l17 = l3 + 2776ull;
+put64(b, l3 + 328, l3 + 2664ull);
+l17 = l3 + 2664ull;
 l2 = 0ull;
 L135:;
-l34 = get8(b, l4 + l2);
+l35 = get8(b, l4 + l2);
 if (get64(b, l3 + 344) != l1) { goto L136; }
 t4 = f27(b, l3 + 328ull);
 if (!t4) { goto L134; }
 l17 = get64(b, l3 + 328);
 l1 = get64(b, l3 + 336);
 L136:;
-put8(b, l17 + l1, (l34 ^ 1u) & 1u);
+put8(b, l17 + l1, (l35 ^ 1u) & 1u);
 l1 = l1 + 1ull;
 put64(b, l3 + 336, l1);
 l2 = l2 + 1ull;
 if (l7 != l2) { goto L135; }
-l34 = 1u;
+l35 = 1u;
 l2 = get64(b, l3 + 344);
 l17 = get64(b, l3 + 328);
 goto L116;
 L134:;
-l34 = 0u;
+l35 = 0u;
 if (!get64(b, l3 + 344)) { goto L117; }
 rattle_dealloc(b, get64(b, l3 + 328));
 goto L117;
@@ -2784,7 +2782,7 @@ goto L119;
 L120:;
 if (get8(b, l3 + 1020)) { goto L115; }
 L119:;
-l4 = get64(b, l3 + 2680);
+l4 = get64(b, l3 + 2568);
 if (!l12) { goto L137; }
 l1 = l2;
 L138:;
@@ -2839,9 +2837,9 @@ if (!get64(b, l3 + 288)) { goto L147; }
 rattle_dealloc(b, get64(b, l3 + 272));
 L147:;
 l4 = get64(b, l3 + 320);
-l35 = get8(b, l3 + 312);
-l34 = get8(b, l3 + 304);
-l32 = get8(b, l3 + 296);
+l36 = get8(b, l3 + 312);
+l35 = get8(b, l3 + 304);
+l33 = get8(b, l3 + 296);
 goto L12;
 L118:;
 abort();
@@ -2853,16 +2851,16 @@ L116:;
 if (!l9) { goto L148; }
 rattle_dealloc(b, l4);
 L148:;
-l12 = get64(b, l3 + 2672);
-if (!l34) { goto L149; }
+l12 = get64(b, l3 + 2560);
+if (!l35) { goto L149; }
 l4 = l17;
 l7 = l1;
 l9 = l2;
 goto L114;
 L149:;
-l2 = get64(b, l3 + 2664);
+l2 = get64(b, l3 + 2552);
 L115:;
-l4 = get64(b, l3 + 2680);
+l4 = get64(b, l3 + 2568);
 if (!l12) { goto L150; }
 l1 = l2;
 L151:;
@@ -2877,18 +2875,18 @@ if (!l4) { goto L113; }
 rattle_dealloc(b, l2);
 goto L113;
 L114:;
-if (get64(b, l3 + 2680) != l12) { goto L112; }
-t5 = f31(b, l3 + 2664ull);
+if (get64(b, l3 + 2568) != l12) { goto L112; }
+t5 = f31(b, l3 + 2552ull);
 if (!t5) { goto L153; }
-l12 = get64(b, l3 + 2672);
+l12 = get64(b, l3 + 2560);
 goto L112;
 L153:;
 if (!l9) { goto L154; }
 rattle_dealloc(b, l4);
 L154:;
-l17 = get64(b, l3 + 2680);
-l2 = get64(b, l3 + 2664);
-l4 = get64(b, l3 + 2672);
+l17 = get64(b, l3 + 2568);
+l2 = get64(b, l3 + 2552);
+l4 = get64(b, l3 + 2560);
 if (!l4) { goto L155; }
 l1 = l2;
 L156:;
@@ -2937,16 +2935,16 @@ if (!l17) { goto L9; }
 rattle_dealloc(b, l2);
 goto L9;
 L112:;
-l2 = get64(b, l3 + 2664);
+l2 = get64(b, l3 + 2552);
 l1 = l2 + (l12 * 24ull);
 put64(b, l1 + 16, l9);
 put64(b, l1 + 8, l7);
 put64(b, l1, l4);
 l12 = l12 + 1ull;
-put64(b, l3 + 2672, l12);
+put64(b, l3 + 2560, l12);
 l13 = l13 + 1ull;
 if (l13 != l14) { goto L111; }
-l30 = (u32)(!get64(b, l3 + 2680));
+l31 = (u32)(!get64(b, l3 + 2568));
 L109:;
 l17 = get64(b, l3 + 248);
 l16 = get64(b, l3 + 272);
@@ -2960,25 +2958,48 @@ if (!l1) { goto L165; }
 rattle_dealloc(b, l16);
 L165:;
 l4 = 0ull;
+put64(b, l3 + 1808, 0ull);
 put64(b, l3 + 1816, 0ull);
 put64(b, l3 + 1824, 0ull);
 put64(b, l3 + 1832, 0ull);
-put64(b, l3 + 1840, 0ull);
-l35 = 0u;
-fill(b, l3 + 1704ull, 0u, 107u);
-fill(b, l3 + 2424ull, 0u, 112u);
+put64(b, l3 + 1744, 0ull);
+put64(b, l3 + 1752, 0ull);
+put64(b, l3 + 1760, 0ull);
+put64(b, l3 + 1768, 0ull);
+put64(b, l3 + 1776, 0ull);
+put64(b, l3 + 1784, 0ull);
+put64(b, l3 + 1792, 0ull);
+l36 = 0u;
+put32(b, l3 + 1799, 0u);
+put64(b, l3 + 1704, 0ull);
+put64(b, l3 + 1712, 0ull);
+put64(b, l3 + 1720, 0ull);
+put64(b, l3 + 1728, 0ull);
+put64(b, l3 + 1736, 0ull);
 copy(b, l3 + 328ull, l3 + 2312ull, 112u);
-fill(b, l3 + 1848ull, 0u, 107u);
+put64(b, l3 + 1880, 0ull);
+put64(b, l3 + 1888, 0ull);
+put64(b, l3 + 1896, 0ull);
+put64(b, l3 + 1904, 0ull);
+put64(b, l3 + 1912, 0ull);
+put64(b, l3 + 1920, 0ull);
+put64(b, l3 + 1928, 0ull);
+put32(b, l3 + 1935, 0u);
+put64(b, l3 + 1840, 0ull);
+put64(b, l3 + 1848, 0ull);
+put64(b, l3 + 1856, 0ull);
+put64(b, l3 + 1864, 0ull);
+put64(b, l3 + 1872, 0ull);
 fill(b, l3 + 1016ull, 0u, 128u);
-f32(b, l3 + 1016ull, l3 + 328ull, l32);
-put64(b, l3 + 1960, get64(b, l3 + 1050));
-put64(b, l3 + 1968, get64(b, l3 + 1058));
-put64(b, l3 + 1976, get64(b, l3 + 1066));
-put64(b, l3 + 1982, get64(b, l3 + 1072));
+f32(b, l3 + 1016ull, l3 + 328ull, l33);
+put64(b, l3 + 1944, get64(b, l3 + 1050));
+put64(b, l3 + 1952, get64(b, l3 + 1058));
+put64(b, l3 + 1960, get64(b, l3 + 1066));
+put64(b, l3 + 1966, get64(b, l3 + 1072));
 l1 = get64(b, l3 + 1024);
-if (get8(b, l3 + 1016)) { goto L168; }
-l35 = get8(b, l3 + 1049);
-l32 = get8(b, l3 + 1048);
+if (get8(b, l3 + 1016)) { goto L167; }
+l36 = get8(b, l3 + 1049);
+l33 = get8(b, l3 + 1048);
 l16 = get64(b, l3 + 1040);
 l14 = get64(b, l3 + 1032);
 l8 = get64(b, l3 + 1080);
@@ -2988,323 +3009,369 @@ l17 = get64(b, l3 + 1104);
 l4 = get64(b, l3 + 1112);
 l7 = get64(b, l3 + 1120);
 l11 = get64(b, l3 + 1128);
-l34 = get32(b, l3 + 1136);
+l35 = get32(b, l3 + 1136);
 fill(b, l3 + 328ull, 0u, 112u);
-fill(b, l3 + 2136ull, 0u, 96u);
+fill(b, l3 + 2200ull, 0u, 96u);
 fill(b, l3 + 1016ull, 0u, 120u);
-fill(b, l3 + 2664ull, 0u, 112u);
-put64(b, l3 + 2128, 0ull);
-put64(b, l3 + 2120, 0ull);
+fill(b, l3 + 2552ull, 0u, 112u);
 put64(b, l3 + 2112, 0ull);
-put64(b, l3 + 2088, 0ull);
-put64(b, l3 + 2096, 0ull);
 put64(b, l3 + 2104, 0ull);
-put64(b, l3 + 2064, 0ull);
+put64(b, l3 + 2096, 0ull);
 put64(b, l3 + 2072, 0ull);
 put64(b, l3 + 2080, 0ull);
-put64(b, l3 + 2040, 0ull);
+put64(b, l3 + 2088, 0ull);
 put64(b, l3 + 2048, 0ull);
 put64(b, l3 + 2056, 0ull);
-put64(b, l3 + 2016, 0ull);
+put64(b, l3 + 2064, 0ull);
 put64(b, l3 + 2024, 0ull);
 put64(b, l3 + 2032, 0ull);
-put64(b, l3 + 1992, 0ull);
+put64(b, l3 + 2040, 0ull);
 put64(b, l3 + 2000, 0ull);
 put64(b, l3 + 2008, 0ull);
-put64(b, l3 + 2254, get64(b, l3 + 1982));
-put64(b, l3 + 2248, get64(b, l3 + 1976));
-put64(b, l3 + 2240, get64(b, l3 + 1968));
-put64(b, l3 + 2232, get64(b, l3 + 1960));
-put64(b, l3 + 2296, 0ull);
-put64(b, l3 + 2304, 0ull);
-put64(b, l3 + 2280, 0ull);
-put64(b, l3 + 2272, 0ull);
-put64(b, l3 + 2264, 0ull);
-put64(b, l3 + 2288, l3 + 2776ull);
-if (!(l34 & 1u)) { goto L172; }
-l9 = (u64)(l34 >> 1);
-if (l13 <= l9) { goto L172; }
-if (!get64(b, l8 + (l9 * 120ull))) { goto L172; }
-if (l4 <= l9) { goto L172; }
-f33(b, l3 + 2264ull, l17 + (l9 * 24ull));
-if (get8(b, l3 + 2264) != 1u) { goto L172; }
-l6 = get64(b, l3 + 2280);
-if (l6 != 18446744073709551615ull) { goto L175; }
+put64(b, l3 + 2016, 0ull);
+put64(b, l3 + 1976, 0ull);
+put64(b, l3 + 1984, 0ull);
+put64(b, l3 + 1992, 0ull);
+put64(b, l3 + 2142, get64(b, l3 + 1966));
+put64(b, l3 + 2136, get64(b, l3 + 1960));
+put64(b, l3 + 2128, get64(b, l3 + 1952));
+put64(b, l3 + 2120, get64(b, l3 + 1944));
+put64(b, l3 + 2184, 0ull);
+put64(b, l3 + 2192, 0ull);
+put64(b, l3 + 2168, 0ull);
+put64(b, l3 + 2160, 0ull);
+put64(b, l3 + 2152, 0ull);
+put64(b, l3 + 2176, l3 + 2664ull);
+if (!(l35 & 1u)) { goto L171; }
+l9 = (u64)(l35 >> 1);
+if (l13 <= l9) { goto L171; }
+if (!get64(b, l8 + (l9 * 120ull))) { goto L171; }
+if (l4 <= l9) { goto L171; }
+f33(b, l3 + 2152ull, l17 + (l9 * 24ull));
+if (get8(b, l3 + 2152) != 1u) { goto L171; }
+l6 = get64(b, l3 + 2168);
+if (l6 != 18446744073709551615ull) { goto L174; }
 l9 = 0ull;
-l19 = l3 + 2776ull;
-goto L174;
-L175:;
+l19 = l3 + 2664ull;
+goto L173;
+L174:;
 l9 = 0ull;
-l20 = get64(b, l3 + 2272);
-if (!get64(b, l20 + 8ull)) { goto L176; }
+l20 = get64(b, l3 + 2160);
+if (!get64(b, l20 + 8ull)) { goto L175; }
 l5 = get64(b, l20);
-if (get8(b, l5) != 1u) { goto L176; }
+if (get8(b, l5) != 1u) { goto L175; }
 l9 = get64(b, l5 + 8ull);
-L176:;
-t6 = f34(b, l3 + 2288ull);
-if (!t6) { goto L173; }
+L175:;
+t6 = f34(b, l3 + 2176ull);
+if (!t6) { goto L172; }
 l5 = 3ull;
-l19 = get64(b, l3 + 2288);
-l10 = get64(b, l3 + 2296);
+l19 = get64(b, l3 + 2176);
+l10 = get64(b, l3 + 2184);
 put64(b, l19 + (l10 << 3), l9);
 l9 = l10 + 1ull;
-put64(b, l3 + 2296, l9);
-if (!l6) { goto L174; }
+put64(b, l3 + 2184, l9);
+if (!l6) { goto L173; }
 l10 = 80ull;
-L177:;
+L176:;
 l18 = 0ull;
-if (get64(b, l20 + 8ull) <= l5) { goto L178; }
+if (get64(b, l20 + 8ull) <= l5) { goto L177; }
 l21 = get64(b, l20) + l10;
-if (get8(b, l21 + 18446744073709551608ull) != 1u) { goto L178; }
+if (get8(b, l21 + 18446744073709551608ull) != 1u) { goto L177; }
 l18 = get64(b, l21);
+L177:;
+if (get64(b, l3 + 2192) != l9) { goto L178; }
+t7 = f34(b, l3 + 2176ull);
+if (!t7) { goto L172; }
+l19 = get64(b, l3 + 2176);
+l9 = get64(b, l3 + 2184);
 L178:;
-if (get64(b, l3 + 2304) != l9) { goto L179; }
-t7 = f34(b, l3 + 2288ull);
-if (!t7) { goto L173; }
-l19 = get64(b, l3 + 2288);
-l9 = get64(b, l3 + 2296);
-L179:;
 put64(b, l19 + (l9 << 3), l18);
 l9 = l9 + 1ull;
-put64(b, l3 + 2296, l9);
+put64(b, l3 + 2184, l9);
 l5 = l5 + 2ull;
 l10 = l10 + 48ull;
 l6 = l6 + 18446744073709551615ull;
-if (!(u32)(!l6)) { goto L177; }
-l19 = get64(b, l3 + 2288);
-L174:;
-l21 = get64(b, l3 + 2304);
-if (l13 > 1152921504606846975ull) { goto L171; }
+if (!(u32)(!l6)) { goto L176; }
+l19 = get64(b, l3 + 2176);
+L173:;
+l21 = get64(b, l3 + 2192);
+if (l13 > 1152921504606846975ull) { goto L170; }
 l6 = l13 << 3;
 rattle_alloc(b, l3 + 56ull, l6, 8ull);
-if (!(((u32)get64(b, l3 + 56)) & 1u)) { goto L171; }
+if (!(((u32)get64(b, l3 + 56)) & 1u)) { goto L170; }
 l20 = get64(b, l3 + 64);
 l18 = 0ull;
-if (l13 == 1ull) { goto L180; }
+if (l13 == 1ull) { goto L179; }
 l6 = l6 + 18446744073709551608ull;
-if (!l6) { goto L181; }
+if (!l6) { goto L180; }
 fill(b, l20, 0u, l6);
-L181:;
-l18 = l13 + 18446744073709551615ull;
 L180:;
+l18 = l13 + 18446744073709551615ull;
+L179:;
 put64(b, l20 + (l18 << 3), 0ull);
-if (!l9) { goto L182; }
+if (!l9) { goto L181; }
 l6 = ((l9 << 3) + l19) + 18446744073709551608ull;
-L183:;
+L182:;
 l10 = l9;
 l9 = l10 + 18446744073709551615ull;
 l5 = get64(b, l6);
-if (l5 > 4294967295ull) { goto L184; }
-if (!(l5 & 1ull)) { goto L184; }
+if (l5 > 4294967295ull) { goto L183; }
+if (!(l5 & 1ull)) { goto L183; }
 l5 = l5 >> 1;
-if (l18 < l5) { goto L184; }
+if (l18 < l5) { goto L183; }
 put64(b, l20 + (l5 << 3), l10);
-L184:;
+L183:;
 l6 = l6 + 18446744073709551608ull;
-if (!(u32)(!l9)) { goto L183; }
-L182:;
-f35(b, l3 + 1016ull, l32, l35);
-if (get8(b, l3 + 1016)) { goto L170; }
+if (!(u32)(!l9)) { goto L182; }
+L181:;
+f35(b, l3 + 1016ull, l33, l36);
+if (get8(b, l3 + 1016)) { goto L169; }
 copy(b, l3 + 328ull, (l3 + 1016ull) + 8ull, 112u);
-l22 = l3 + 408ull;
-l23 = (l3 + 2288ull) + 8ull;
-l24 = 0ull;
-L185:;
-l9 = l8 + (l24 * 120ull);
-l25 = get64(b, l9);
-copy(b, l3 + 2136ull, l9 + 8ull, 96u);
-l9 = l17 + (l24 * 24ull);
+l22 = l3 + 400ull;
+l23 = l3 + 408ull;
+l24 = (l3 + 2176ull) + 8ull;
+l25 = 0ull;
+L184:;
+l9 = l8 + (l25 * 120ull);
+l26 = get64(b, l9);
+copy(b, l3 + 2200ull, l9 + 8ull, 96u);
+l9 = l17 + (l25 * 24ull);
 l18 = get64(b, l9 + 8);
 put64(b, l9 + 8, 0ull);
-l26 = get64(b, l9 + 16);
+l27 = get64(b, l9 + 16);
 put64(b, l9 + 16, 0ull);
-l27 = get64(b, l9);
-put64(b, l9, l3 + 2776ull);
-if (l25 != 514ull) { goto L186; }
-l9 = get64(b, l20 + (l24 << 3));
-if (!l9) { goto L186; }
+l28 = get64(b, l9);
+put64(b, l9, l3 + 2664ull);
+if (l26 != 514ull) { goto L185; }
+l9 = get64(b, l20 + (l25 << 3));
+if (!l9) { goto L185; }
 l9 = l9 + 18446744073709551615ull;
-if (l9 >= l12) { goto L186; }
+if (l9 >= l12) { goto L185; }
 l9 = l2 + (l9 * 24ull);
 l10 = get64(b, l9 + 8ull);
-if (!l10) { goto L186; }
+if (!l10) { goto L185; }
 l5 = get64(b, l9);
-l9 = l27 + 64ull;
+l9 = l28 + 64ull;
 l6 = 2ull;
-L187:;
-if (l6 >= l18) { goto L188; }
-l28 = l9 + 18446744073709551608ull;
-l29 = get64(b, l28);
-put64(b, l28, (u64)get8(b, l5));
-put64(b, l23, l29);
-l28 = get64(b, l9);
+L186:;
+if (l6 >= l18) { goto L187; }
+l29 = l9 + 18446744073709551608ull;
+l30 = get64(b, l29);
+put64(b, l29, (u64)get8(b, l5));
+put64(b, l24, l30);
+l29 = get64(b, l9);
 put64(b, l9, 0ull);
-put64(b, l23 + 8, l28);
-l28 = l9 + 18446744073709551600ull;
-l29 = (u64)get8(b, l28);
-put64(b, l28, 1ull);
-put64(b, l3 + 2288, l29);
-f36(b, l3 + 2288ull);
-L188:;
+put64(b, l24 + 8, l29);
+l29 = l9 + 18446744073709551600ull;
+l30 = (u64)get8(b, l29);
+put64(b, l29, 1ull);
+put64(b, l3 + 2176, l30);
+f36(b, l3 + 2176ull);
+L187:;
 l6 = l6 + 2ull;
 l9 = l9 + 48ull;
 l5 = l5 + 1ull;
 l10 = l10 + 18446744073709551615ull;
-if (l10 != 0ull) { goto L187; }
-L186:;
+if (l10 != 0ull) { goto L186; }
+L185:;
 l10 = get64(b, l3 + 416);
 l9 = l10;
 l5 = get64(b, l3 + 392);
-if (get64(b, l3 + 400) != l5) { goto L189; }
+if (get64(b, l3 + 400) != l5) { goto L188; }
 t8 = f37(b, l3 + 384ull);
-if (!t8) { goto L169; }
+if (!t8) { goto L168; }
 l9 = get64(b, l3 + 416);
 l5 = get64(b, l3 + 392);
-L189:;
+L188:;
 l6 = get64(b, l3 + 384) + (l5 * 120ull);
-put64(b, l6, l25);
-copy(b, l6 + 8ull, l3 + 2136ull, 96u);
+put64(b, l6, l26);
+copy(b, l6 + 8ull, l3 + 2200ull, 96u);
 put64(b, l6 + 112, 0ull);
 put64(b, l6 + 104, 0ull);
 put64(b, l3 + 392, l5 + 1ull);
-if (get64(b, l3 + 424) != l9) { goto L190; }
+if (get64(b, l3 + 424) != l9) { goto L189; }
 t9 = f38(b, l3 + 408ull);
 if (!t9) { goto L166; }
 l9 = get64(b, l3 + 416);
-L190:;
+L189:;
 l6 = get64(b, l3 + 408) + (l9 * 24ull);
-put64(b, l6 + 16, l26);
+put64(b, l6 + 16, l27);
 put64(b, l6 + 8, l18);
-put64(b, l6, l27);
+put64(b, l6, l28);
 put64(b, l3 + 416, l9 + 1ull);
-l24 = l24 + 1ull;
-if (l24 != l13) { goto L185; }
-put8(b, l3 + 2689, l35);
-put8(b, l3 + 2688, l32);
-put64(b, l3 + 2680, l16);
-put64(b, l3 + 2672, l14);
-put64(b, l3 + 2664, l1);
-put64(b, l3 + 2690, get64(b, l3 + 2232));
-put64(b, l3 + 2698, get64(b, l3 + 2240));
-put64(b, l3 + 2706, get64(b, l3 + 2248));
-put64(b, l3 + 2712, get64(b, l3 + 2254));
-put64(b, l3 + 2768, l11);
-put64(b, l3 + 2760, l7);
-put64(b, l3 + 2752, l4);
-put64(b, l3 + 2744, l17);
-put64(b, l3 + 2736, l15);
-put64(b, l3 + 2728, l13);
-put64(b, l3 + 2720, l8);
-f39(b, l3 + 328ull, l3 + 2664ull);
+l25 = l25 + 1ull;
+if (l25 != l13) { goto L184; }
+put8(b, l3 + 2577, l36);
+put8(b, l3 + 2576, l33);
+put64(b, l3 + 2568, l16);
+put64(b, l3 + 2560, l14);
+put64(b, l3 + 2552, l1);
+put64(b, l3 + 2578, get64(b, l3 + 2120));
+put64(b, l3 + 2586, get64(b, l3 + 2128));
+put64(b, l3 + 2594, get64(b, l3 + 2136));
+put64(b, l3 + 2600, get64(b, l3 + 2142));
+put64(b, l3 + 2656, l11);
+put64(b, l3 + 2648, l7);
+put64(b, l3 + 2640, l4);
+put64(b, l3 + 2632, l17);
+put64(b, l3 + 2624, l15);
+put64(b, l3 + 2616, l13);
+put64(b, l3 + 2608, l8);
+f39(b, l3 + 328ull, l3 + 2552ull);
 rattle_dealloc(b, l20);
-if (!l21) { goto L191; }
+if (!l21) { goto L190; }
 rattle_dealloc(b, l19);
-L191:;
-l34 = get32(b, l3 + 328);
-l35 = get8(b, l3 + 332);
-copy(b, l3 + 1848ull, (l3 + 328ull) | 5ull, 107u);
-copy(b, l3 + 1704ull, l3 + 1848ull, 107u);
-put8(b, l3 + 2428, l35);
-put32(b, l3 + 2424, l34);
-copy(b, (l3 + 2424ull) | 5ull, l3 + 1704ull, 107u);
-f40(b, l3 + 1816ull, l3 + 2424ull);
-goto L167;
-L173:;
-if (!get64(b, l3 + 2304)) { goto L172; }
-rattle_dealloc(b, get64(b, l3 + 2288));
+L190:;
+put64(b, l3 + 1880, get64(b, l3 + 333));
+put64(b, l3 + 1888, get64(b, l3 + 341));
+put64(b, l3 + 1896, get64(b, l3 + 349));
+put64(b, l3 + 1904, get64(b, l3 + 357));
+put64(b, l3 + 1912, get64(b, l3 + 365));
+put64(b, l3 + 1920, get64(b, l3 + 373));
+put64(b, l3 + 1928, get64(b, l3 + 381));
+put32(b, l3 + 1935, get32(b, l3 + 388));
+l35 = get32(b, l3 + 328);
+l36 = get8(b, l3 + 332);
+put64(b, l3 + 1840, get64(b, l22));
+put64(b, l3 + 1848, get64(b, l22 + 8));
+put64(b, l3 + 1856, get64(b, l22 + 16));
+put64(b, l3 + 1864, get64(b, l22 + 24));
+put64(b, l3 + 1872, get64(b, l22 + 32));
+l1 = get64(b, l3 + 392);
+put32(b, l3 + 1799, get32(b, l3 + 1935));
+put64(b, l3 + 1792, get64(b, l3 + 1928));
+put64(b, l3 + 1784, get64(b, l3 + 1920));
+put64(b, l3 + 1776, get64(b, l3 + 1912));
+put64(b, l3 + 1768, get64(b, l3 + 1904));
+put64(b, l3 + 1760, get64(b, l3 + 1896));
+put64(b, l3 + 1752, get64(b, l3 + 1888));
+put64(b, l3 + 1744, get64(b, l3 + 1880));
+put64(b, l3 + 1736, get64(b, l3 + 1872));
+put64(b, l3 + 1728, get64(b, l3 + 1864));
+put64(b, l3 + 1720, get64(b, l3 + 1856));
+put64(b, l3 + 1712, get64(b, l3 + 1848));
+put64(b, l3 + 1704, get64(b, l3 + 1840));
+put64(b, l3 + 328, 0ull);
+put64(b, l3 + 336, 0ull);
+put64(b, l3 + 344, 0ull);
+put64(b, l3 + 352, 0ull);
+put8(b, l3 + 1020, l36);
+put32(b, l3 + 1016, l35);
+put64(b, l3 + 1021, get64(b, l3 + 1744));
+put64(b, l3 + 1029, get64(b, l3 + 1752));
+put64(b, l3 + 1037, get64(b, l3 + 1760));
+put64(b, l3 + 1045, get64(b, l3 + 1768));
+put64(b, l3 + 1053, get64(b, l3 + 1776));
+put64(b, l3 + 1061, get64(b, l3 + 1784));
+put64(b, l3 + 1069, get64(b, l3 + 1792));
+put32(b, l3 + 1076, get32(b, l3 + 1799));
+put64(b, l3 + 1080, l1);
+put64(b, l3 + 1120, get64(b, l3 + 1736));
+put64(b, l3 + 1112, get64(b, l3 + 1728));
+put64(b, l3 + 1104, get64(b, l3 + 1720));
+put64(b, l3 + 1096, get64(b, l3 + 1712));
+put64(b, l3 + 1088, get64(b, l3 + 1704));
+f40(b, l3 + 328ull, l3 + 1016ull, (u32)(l1 > 9999ull));
+l4 = get64(b, l3 + 352);
+l36 = get8(b, l3 + 344);
+l35 = get8(b, l3 + 336);
+l33 = get8(b, l3 + 328);
+goto L14;
 L172:;
-if (!l16) { goto L192; }
-rattle_dealloc(b, l1);
-L192:;
-put64(b, l3 + 2128, get64(b, l3 + 2254));
-put64(b, l3 + 2120, get64(b, l3 + 2246));
-put64(b, l3 + 2112, get64(b, l3 + 2238));
-f41(b, l3 + 2112ull);
-if (!l15) { goto L193; }
-rattle_dealloc(b, l8);
-L193:;
-if (!l4) { goto L194; }
-l1 = l17;
-L195:;
-put64(b, l3 + 2304, get64(b, l1 + 16));
-put64(b, l3 + 2296, get64(b, l1 + 8));
-put64(b, l3 + 2288, get64(b, l1));
-l1 = l1 + 24ull;
-f41(b, l3 + 2288ull);
-l4 = l4 + 18446744073709551615ull;
-if (l4 != 0ull) { goto L195; }
-L194:;
-if (!l7) { goto L15; }
-rattle_dealloc(b, l17);
-goto L15;
+if (!get64(b, l3 + 2192)) { goto L171; }
+rattle_dealloc(b, get64(b, l3 + 2176));
 L171:;
-if (!l21) { goto L196; }
-rattle_dealloc(b, l19);
-L196:;
-if (!l16) { goto L197; }
+if (!l16) { goto L191; }
 rattle_dealloc(b, l1);
-L197:;
-put64(b, l3 + 2104, get64(b, l3 + 2254));
-put64(b, l3 + 2096, get64(b, l3 + 2246));
-put64(b, l3 + 2088, get64(b, l3 + 2238));
-f41(b, l3 + 2088ull);
-if (!l15) { goto L198; }
+L191:;
+put64(b, l3 + 2112, get64(b, l3 + 2142));
+put64(b, l3 + 2104, get64(b, l3 + 2134));
+put64(b, l3 + 2096, get64(b, l3 + 2126));
+f41(b, l3 + 2096ull);
+if (!l15) { goto L192; }
 rattle_dealloc(b, l8);
-L198:;
+L192:;
+if (!l4) { goto L193; }
 l1 = l17;
-L199:;
-put64(b, l3 + 2304, get64(b, l1 + 16));
-put64(b, l3 + 2296, get64(b, l1 + 8));
-put64(b, l3 + 2288, get64(b, l1));
+L194:;
+put64(b, l3 + 2192, get64(b, l1 + 16));
+put64(b, l3 + 2184, get64(b, l1 + 8));
+put64(b, l3 + 2176, get64(b, l1));
 l1 = l1 + 24ull;
-f41(b, l3 + 2288ull);
+f41(b, l3 + 2176ull);
 l4 = l4 + 18446744073709551615ull;
-if (l4 != 0ull) { goto L199; }
+if (l4 != 0ull) { goto L194; }
+L193:;
 if (!l7) { goto L15; }
 rattle_dealloc(b, l17);
 goto L15;
 L170:;
-rattle_dealloc(b, l20);
-if (!l21) { goto L200; }
+if (!l21) { goto L195; }
 rattle_dealloc(b, l19);
-L200:;
-if (!l16) { goto L201; }
+L195:;
+if (!l16) { goto L196; }
 rattle_dealloc(b, l1);
-L201:;
-put64(b, l3 + 2080, get64(b, l3 + 2254));
-put64(b, l3 + 2072, get64(b, l3 + 2246));
-put64(b, l3 + 2064, get64(b, l3 + 2238));
-f41(b, l3 + 2064ull);
-if (!l15) { goto L202; }
+L196:;
+put64(b, l3 + 2088, get64(b, l3 + 2142));
+put64(b, l3 + 2080, get64(b, l3 + 2134));
+put64(b, l3 + 2072, get64(b, l3 + 2126));
+f41(b, l3 + 2072ull);
+if (!l15) { goto L197; }
 rattle_dealloc(b, l8);
-L202:;
-put64(b, l3 + 2056, l7);
-put64(b, l3 + 2048, l4);
-put64(b, l3 + 2040, l17);
-f42(b, l3 + 2040ull);
+L197:;
+l1 = l17;
+L198:;
+put64(b, l3 + 2192, get64(b, l1 + 16));
+put64(b, l3 + 2184, get64(b, l1 + 8));
+put64(b, l3 + 2176, get64(b, l1));
+l1 = l1 + 24ull;
+f41(b, l3 + 2176ull);
+l4 = l4 + 18446744073709551615ull;
+if (l4 != 0ull) { goto L198; }
+if (!l7) { goto L15; }
+rattle_dealloc(b, l17);
 goto L15;
 L169:;
-put64(b, l3 + 2304, l26);
-put64(b, l3 + 2296, l18);
-put64(b, l3 + 2288, l27);
-f43(b, l3 + 2288ull);
-goto L16;
+rattle_dealloc(b, l20);
+if (!l21) { goto L199; }
+rattle_dealloc(b, l19);
+L199:;
+if (!l16) { goto L200; }
+rattle_dealloc(b, l1);
+L200:;
+put64(b, l3 + 2064, get64(b, l3 + 2142));
+put64(b, l3 + 2056, get64(b, l3 + 2134));
+put64(b, l3 + 2048, get64(b, l3 + 2126));
+f41(b, l3 + 2048ull);
+if (!l15) { goto L201; }
+rattle_dealloc(b, l8);
+L201:;
+put64(b, l3 + 2040, l7);
+put64(b, l3 + 2032, l4);
+put64(b, l3 + 2024, l17);
+f42(b, l3 + 2024ull);
+goto L15;
 L168:;
-l32 = 1u;
-l34 = 0u;
-if (get8(b, l3 + 1020) & 255u) { goto L14; }
-f18(b, l3 + 1816ull, (u32)l1, (u32)(l1 >> 32));
+put64(b, l3 + 2192, l27);
+put64(b, l3 + 2184, l18);
+put64(b, l3 + 2176, l28);
+f43(b, l3 + 2176ull);
+goto L16;
 L167:;
-l4 = get64(b, l3 + 1840);
-l35 = get8(b, l3 + 1832);
-l34 = get8(b, l3 + 1824);
-l32 = get8(b, l3 + 1816);
+l33 = 1u;
+l35 = 0u;
+if (get8(b, l3 + 1020) & 255u) { goto L14; }
+f18(b, l3 + 1808ull, (u32)l1, (u32)(l1 >> 32));
+l4 = get64(b, l3 + 1832);
+l36 = get8(b, l3 + 1824);
+l35 = get8(b, l3 + 1816);
+l33 = get8(b, l3 + 1808);
 goto L14;
 L166:;
-put64(b, l3 + 2280, l26);
-put64(b, l3 + 2272, l18);
-put64(b, l3 + 2264, l27);
-f43(b, l3 + 2264ull);
+put64(b, l3 + 2168, l27);
+put64(b, l3 + 2160, l18);
+put64(b, l3 + 2152, l28);
+f43(b, l3 + 2152ull);
 l13 = get64(b, l3 + 392);
 put64(b, l3 + 392, (l13 < l10) ? l13 : l10);
 goto L16;
@@ -3312,69 +3379,69 @@ L18:;
 l4 = 0ull;
 goto L2;
 L17:;
-l34 = (u32)l1;
+l35 = (u32)l1;
 goto L11;
 L16:;
-if (!get64(b, l3 + 344)) { goto L203; }
+if (!get64(b, l3 + 344)) { goto L202; }
 rattle_dealloc(b, get64(b, l3 + 328));
-L203:;
+L202:;
 f41(b, l3 + 360ull);
-if (!get64(b, l3 + 400)) { goto L204; }
+if (!get64(b, l3 + 400)) { goto L203; }
 rattle_dealloc(b, get64(b, l3 + 384));
-L204:;
-f42(b, l22);
+L203:;
+f42(b, l23);
 rattle_dealloc(b, l20);
-if (!l21) { goto L205; }
+if (!l21) { goto L204; }
 rattle_dealloc(b, l19);
-L205:;
-if (!l16) { goto L206; }
+L204:;
+if (!l16) { goto L205; }
 rattle_dealloc(b, l1);
-L206:;
-put64(b, l3 + 2032, get64(b, l3 + 2254));
-put64(b, l3 + 2024, get64(b, l3 + 2246));
-put64(b, l3 + 2016, get64(b, l3 + 2238));
-f41(b, l3 + 2016ull);
-if (!l15) { goto L207; }
+L205:;
+put64(b, l3 + 2016, get64(b, l3 + 2142));
+put64(b, l3 + 2008, get64(b, l3 + 2134));
+put64(b, l3 + 2000, get64(b, l3 + 2126));
+f41(b, l3 + 2000ull);
+if (!l15) { goto L206; }
 rattle_dealloc(b, l8);
-L207:;
-put64(b, l3 + 2008, l7);
-put64(b, l3 + 2000, l4);
-put64(b, l3 + 1992, l17);
-f42(b, l3 + 1992ull);
+L206:;
+put64(b, l3 + 1992, l7);
+put64(b, l3 + 1984, l4);
+put64(b, l3 + 1976, l17);
+f42(b, l3 + 1976ull);
 L15:;
-l32 = 1u;
-l4 = get64(b, l3 + 1840);
-l35 = get8(b, l3 + 1832);
-l34 = get8(b, l3 + 1824);
+l33 = 1u;
+l4 = get64(b, l3 + 1832);
+l36 = get8(b, l3 + 1824);
+l35 = get8(b, l3 + 1816);
 L14:;
-if (!l12) { goto L208; }
+if (!l12) { goto L207; }
 l1 = l2;
-L209:;
-if (!get64(b, l1 + 16ull)) { goto L210; }
+L208:;
+if (!get64(b, l1 + 16ull)) { goto L209; }
 rattle_dealloc(b, get64(b, l1));
-L210:;
+L209:;
 l1 = l1 + 24ull;
 l12 = l12 + 18446744073709551615ull;
-if (l12 != 0ull) { goto L209; }
-L208:;
-if (l30) { goto L12; }
+if (l12 != 0ull) { goto L208; }
+L207:;
+if (l31) { goto L12; }
 rattle_dealloc(b, l2);
 goto L12;
 L13:;
-if (l35 & 255u) { goto L211; }
+if (l36 & 255u) { goto L210; }
 put64(b, l3 + 1040, 0ull);
 put64(b, l3 + 1032, 0ull);
 put64(b, l3 + 1024, 0ull);
 put64(b, l3 + 1016, 0ull);
-l1 = (((u64)l33) & 255ull) << 3;
-f19(b, l3 + 1016ull, get64(b, l1 + 1063544), get64(b, l1 + 1063456), l30, l31);
+l1 = (((u64)l34) & 255ull) << 3;
+f19(b, l3 + 1016ull, get64(b, l1 + 1063544), get64(b, l1 + 1063456), l31, l32);
 l4 = get64(b, l3 + 1040);
-l35 = get8(b, l3 + 1032);
-l34 = get8(b, l3 + 1024);
-l32 = get8(b, l3 + 1016);
-if (!get64(b, l3 + 2328)) { goto L212; }
+l36 = get8(b, l3 + 1032);
+l35 = get8(b, l3 + 1024);
+l33 = get8(b, l3 + 1016);
+if (!get64(b, l3 + 2328)) { goto L211; }
 rattle_dealloc(b, get64(b, l3 + 2312));
-L212:;
+L211:;
 put64(b, l3 + 136, get64(b, l3 + 2360));
 put64(b, l3 + 128, get64(b, l3 + 2352));
 put64(b, l3 + 120, get64(b, l3 + 2344));
@@ -3382,27 +3449,27 @@ f28(b, l3 + 120ull);
 l16 = get64(b, l3 + 2408);
 l2 = get64(b, l3 + 2400);
 l17 = get64(b, l3 + 2392);
-if (!get64(b, l3 + 2384)) { goto L213; }
+if (!get64(b, l3 + 2384)) { goto L212; }
 rattle_dealloc(b, get64(b, l3 + 2368));
-L213:;
-if (!l2) { goto L214; }
+L212:;
+if (!l2) { goto L213; }
 l1 = l17;
-L215:;
+L214:;
 put64(b, l3 + 1032, get64(b, l1 + 16));
 put64(b, l3 + 1024, get64(b, l1 + 8));
 put64(b, l3 + 1016, get64(b, l1));
 l1 = l1 + 24ull;
 f28(b, l3 + 1016ull);
 l2 = l2 + 18446744073709551615ull;
-if (l2 != 0ull) { goto L215; }
-L214:;
+if (l2 != 0ull) { goto L214; }
+L213:;
 if (!l16) { goto L12; }
 rattle_dealloc(b, l17);
 goto L12;
-L211:;
-if (!get64(b, l3 + 2328)) { goto L216; }
+L210:;
+if (!get64(b, l3 + 2328)) { goto L215; }
 rattle_dealloc(b, get64(b, l3 + 2312));
-L216:;
+L215:;
 put64(b, l3 + 112, get64(b, l3 + 2360));
 put64(b, l3 + 104, get64(b, l3 + 2352));
 put64(b, l3 + 96, get64(b, l3 + 2344));
@@ -3410,220 +3477,220 @@ f28(b, l3 + 96ull);
 l17 = get64(b, l3 + 2408);
 l4 = get64(b, l3 + 2400);
 l2 = get64(b, l3 + 2392);
-if (!get64(b, l3 + 2384)) { goto L217; }
+if (!get64(b, l3 + 2384)) { goto L216; }
 rattle_dealloc(b, get64(b, l3 + 2368));
-L217:;
-if (!l4) { goto L218; }
+L216:;
+if (!l4) { goto L217; }
 l1 = l2;
-L219:;
+L218:;
 put64(b, l3 + 1032, get64(b, l1 + 16));
 put64(b, l3 + 1024, get64(b, l1 + 8));
 put64(b, l3 + 1016, get64(b, l1));
 l1 = l1 + 24ull;
 f28(b, l3 + 1016ull);
 l4 = l4 + 18446744073709551615ull;
-if (l4 != 0ull) { goto L219; }
-L218:;
+if (l4 != 0ull) { goto L218; }
+L217:;
 if (!l17) { goto L9; }
 rattle_dealloc(b, l2);
 goto L9;
 L12:;
-if (l32 & 255u) { goto L9; }
+if (l33 & 255u) { goto L9; }
 L11:;
-l32 = 0u;
+l33 = 0u;
 L10:;
-l30 = 0u;
+l31 = 0u;
 goto L1;
 L9:;
 l4 = 0ull;
-l34 = 0u;
-l32 = 1u;
+l35 = 0u;
+l33 = 1u;
 goto L3;
 L8:;
-l35 = get8(b, l3 + 2688);
-l9 = get64(b, l3 + 2680);
-l30 = get8(b, l3 + 2672);
-if (get8(b, l3 + 2664)) { goto L7; }
-if (!(l30 & 255u)) { goto L225; }
+l36 = get8(b, l3 + 2576);
+l9 = get64(b, l3 + 2568);
+l31 = get8(b, l3 + 2560);
+if (get8(b, l3 + 2552)) { goto L7; }
+if (!(l31 & 255u)) { goto L224; }
 l1 = get64(b, l9 + 8ull);
-if (l1 < 164000001ull) { goto L226; }
-l31 = 8u;
-l35 = 0u;
+if (l1 < 164000001ull) { goto L225; }
+l32 = 8u;
+l36 = 0u;
 l4 = 0ull;
-if ((l30 & 255u) != 1u) { goto L5; }
+if ((l31 & 255u) != 1u) { goto L5; }
 l2 = get64(b, l9);
 l1 = get64(b, l9 + 16);
 rattle_dealloc(b, l9);
 if (!l1) { goto L5; }
 rattle_dealloc(b, l2);
 goto L5;
-L226:;
-if (l33 & 255u) { goto L224; }
-l31 = 0u;
-l4 = l9;
-l35 = l30;
-goto L5;
 L225:;
-l35 = 0u;
-if (!(l33 & 255u)) { goto L227; }
-l36 = 0u;
-goto L223;
-L227:;
+if (l34 & 255u) { goto L223; }
+l32 = 0u;
 l4 = l9;
-l31 = 0u;
+l36 = l31;
 goto L5;
 L224:;
-l36 = (u32)((l30 & 255u) == 1u);
-if (l7 != l1) { goto L223; }
-l4 = get64(b, l9);
-if (l7 > 3ull) { goto L229; }
-l1 = 0ull;
-L230:;
-if (get8(b, l6 + l1) != get8(b, l4 + l1)) { goto L228; }
-l1 = l1 + 1ull;
-if (l7 != l1) { goto L230; }
+l36 = 0u;
+if (!(l34 & 255u)) { goto L226; }
+l37 = 0u;
 goto L222;
-L229:;
-if (get8(b, l6) != get8(b, l4)) { goto L223; }
-if ((get8(b, l6 + 1ull) & 255u) != (get8(b, l4 + 1ull) & 255u)) { goto L223; }
-if ((get8(b, l6 + 2ull) & 255u) != (get8(b, l4 + 2ull) & 255u)) { goto L223; }
-if ((get8(b, l6 + 3ull) & 255u) != (get8(b, l4 + 3ull) & 255u)) { goto L223; }
-t10 = f44(b, l6, l7, l4);
-if (!t10) { goto L223; }
-goto L222;
-L228:;
-if (l1 >= l7) { goto L222; }
+L226:;
+l4 = l9;
+l32 = 0u;
+goto L5;
 L223:;
+l37 = (u32)((l31 & 255u) == 1u);
+if (l7 != l1) { goto L222; }
+l4 = get64(b, l9);
+if (l7 > 3ull) { goto L228; }
+l1 = 0ull;
+L229:;
+if (get8(b, l6 + l1) != get8(b, l4 + l1)) { goto L227; }
+l1 = l1 + 1ull;
+if (l7 != l1) { goto L229; }
+goto L221;
+L228:;
+if (get8(b, l6) != get8(b, l4)) { goto L222; }
+if ((get8(b, l6 + 1ull) & 255u) != (get8(b, l4 + 1ull) & 255u)) { goto L222; }
+if ((get8(b, l6 + 2ull) & 255u) != (get8(b, l4 + 2ull) & 255u)) { goto L222; }
+if ((get8(b, l6 + 3ull) & 255u) != (get8(b, l4 + 3ull) & 255u)) { goto L222; }
+t10 = f44(b, l6, l7, l4);
+if (!t10) { goto L222; }
+goto L221;
+L227:;
+if (l1 >= l7) { goto L221; }
+L222:;
 put64(b, l3 + 1032, 0ull);
 put64(b, l3 + 1024, 0ull);
 put64(b, l3 + 1040, 0ull);
 put64(b, l3 + 1048, 0ull);
-put64(b, l3 + 1016, l3 + 2776ull);
+put64(b, l3 + 1016, l3 + 2664ull);
 t11 = f45(b, l3 + 1016ull, l6, l7, 0u);
-if (t11 & 255u) { goto L232; }
+if (t11 & 255u) { goto L231; }
 t12 = f45(b, l3 + 1016ull, l6, l7, 1u);
-if (t12 & 255u) { goto L232; }
+if (t12 & 255u) { goto L231; }
 t13 = f45(b, l3 + 1016ull, l6, l7, 2u);
-if (t13 & 255u) { goto L232; }
+if (t13 & 255u) { goto L231; }
 t14 = f45(b, l3 + 1016ull, l6, l7, 3u);
-if (t14 & 255u) { goto L232; }
+if (t14 & 255u) { goto L231; }
 t15 = f45(b, l3 + 1016ull, l6, l7, 4u);
-if (t15 & 255u) { goto L232; }
+if (t15 & 255u) { goto L231; }
 t16 = f45(b, l3 + 1016ull, l6, l7, 5u);
-if (t16 & 255u) { goto L232; }
+if (t16 & 255u) { goto L231; }
 t17 = f45(b, l3 + 1016ull, l6, l7, 6u);
-if (t17 & 255u) { goto L232; }
+if (t17 & 255u) { goto L231; }
 t18 = f45(b, l3 + 1016ull, l6, l7, 7u);
-if (t18 & 255u) { goto L232; }
+if (t18 & 255u) { goto L231; }
 t19 = f45(b, l3 + 1016ull, l6, l7, 8u);
-if (t19 & 255u) { goto L232; }
+if (t19 & 255u) { goto L231; }
 t20 = f45(b, l3 + 1016ull, l6, l7, 9u);
-if (t20 & 255u) { goto L232; }
+if (t20 & 255u) { goto L231; }
 t21 = f45(b, l3 + 1016ull, l6, l7, 10u);
-if (t21 & 255u) { goto L232; }
+if (t21 & 255u) { goto L231; }
 t22 = f45(b, l3 + 1016ull, l6, l7, 11u);
-if (t22 & 255u) { goto L232; }
+if (t22 & 255u) { goto L231; }
 t23 = f45(b, l3 + 1016ull, l6, l7, 12u);
-if (t23 & 255u) { goto L232; }
+if (t23 & 255u) { goto L231; }
 l1 = get64(b, l3 + 1032);
 l2 = get64(b, l3 + 1016);
-l35 = get8(b, l3 + 1040);
-if (l35) { goto L233; }
+l36 = get8(b, l3 + 1040);
+if (l36) { goto L232; }
 l4 = 0ull;
-l35 = 0u;
-if (!l1) { goto L231; }
+l36 = 0u;
+if (!l1) { goto L230; }
 rattle_dealloc(b, l2);
-goto L231;
-L233:;
+goto L230;
+L232:;
 l4 = get64(b, l3 + 1048);
 put64(b, l4 + 8, get64(b, l3 + 1024));
 l17 = get64(b, l4 + 16);
 put64(b, l4 + 16, l1);
 l1 = get64(b, l4);
 put64(b, l4, l2);
-if (!l17) { goto L231; }
+if (!l17) { goto L230; }
 rattle_dealloc(b, l1);
-goto L231;
-L232:;
-if (!get64(b, l3 + 1032)) { goto L234; }
+goto L230;
+L231:;
+if (!get64(b, l3 + 1032)) { goto L233; }
 rattle_dealloc(b, get64(b, l3 + 1016));
-L234:;
+L233:;
 l4 = 0ull;
-l31 = 0u;
-if (get8(b, l3 + 1040) == 1u) { goto L236; }
-l33 = 0u;
-goto L235;
-L236:;
+l32 = 0u;
+if (get8(b, l3 + 1040) == 1u) { goto L235; }
+l34 = 0u;
+goto L234;
+L235:;
 l1 = get64(b, l3 + 1048);
 l17 = get64(b, l1);
 l2 = get64(b, l1 + 16);
 rattle_dealloc(b, l1);
-if (!l2) { goto L237; }
+if (!l2) { goto L236; }
 rattle_dealloc(b, l17);
-L237:;
-l33 = 0u;
-l31 = 0u;
-L235:;
-l35 = 0u;
-if (l36) { goto L221; }
-goto L220;
-L231:;
-l33 = 1u;
-l31 = 1u;
-if (l36) { goto L221; }
-goto L220;
-L222:;
+L236:;
+l34 = 0u;
+l32 = 0u;
+L234:;
+l36 = 0u;
+if (l37) { goto L220; }
+goto L219;
+L230:;
+l34 = 1u;
+l32 = 1u;
+if (l37) { goto L220; }
+goto L219;
+L221:;
 rattle_alloc(b, l3 + 32ull, 10ull, 1ull);
-if (!(((u32)get64(b, l3 + 32)) & 1u)) { goto L239; }
+if (!(((u32)get64(b, l3 + 32)) & 1u)) { goto L238; }
 l1 = get64(b, l3 + 40);
-if ((l1 - 1049030ull) > 9ull) { goto L241; }
+if ((l1 - 1049030ull) > 9ull) { goto L240; }
 put16(b, l1 + 8, 2676u);
 put64(b, l1, 8462115684185304681ull);
-goto L240;
-L241:;
+goto L239;
+L240:;
 put16(b, l1 + 8, get16(b, 1049038u));
 put64(b, l1, get64(b, 1049030u));
-L240:;
+L239:;
 rattle_alloc(b, l3 + 16ull, 24ull, 8ull);
-l35 = 1u;
-if (((u32)get64(b, l3 + 16)) & 1u) { goto L242; }
+l36 = 1u;
+if (((u32)get64(b, l3 + 16)) & 1u) { goto L241; }
 rattle_dealloc(b, l1);
-if ((l30 & 255u) == 1u) { goto L238; }
+if ((l31 & 255u) == 1u) { goto L237; }
 goto L6;
-L242:;
+L241:;
 l4 = get64(b, l3 + 24);
 put64(b, l4 + 16, 10ull);
 put64(b, l4 + 8, 10ull);
 put64(b, l4, l1);
-l31 = 0u;
-l33 = 1u;
-if ((l30 & 255u) == 1u) { goto L221; }
+l32 = 0u;
+l34 = 1u;
+if ((l31 & 255u) == 1u) { goto L220; }
 goto L5;
-L239:;
-if ((l30 & 255u) != 1u) { goto L6; }
 L238:;
-l35 = 0u;
+if ((l31 & 255u) != 1u) { goto L6; }
+L237:;
+l36 = 0u;
 l4 = 0ull;
-l31 = 0u;
-l33 = 0u;
-L221:;
+l32 = 0u;
+l34 = 0u;
+L220:;
 l2 = get64(b, l9);
 l1 = get64(b, l9 + 16);
 rattle_dealloc(b, l9);
-if (!l1) { goto L220; }
+if (!l1) { goto L219; }
 rattle_dealloc(b, l2);
-L220:;
-if (!l33) { goto L6; }
+L219:;
+if (!l34) { goto L6; }
 goto L5;
 L7:;
-if (l30 & 255u) { goto L6; }
+if (l31 & 255u) { goto L6; }
 put64(b, l3 + 344, 0ull);
 put64(b, l3 + 336, 0ull);
 put64(b, l3 + 352, 0ull);
 put64(b, l3 + 360, 0ull);
-put64(b, l3 + 328, l3 + 2776ull);
+put64(b, l3 + 328, l3 + 2664ull);
 t24 = f46(b, l3 + 328ull, 1048956ull, 16ull);
-if (t24 & 255u) { goto L243; }
+if (t24 & 255u) { goto L242; }
 put64(b, l3 + 1048, 0ull);
 put64(b, l3 + 1040, 0ull);
 put64(b, l3 + 1032, 0ull);
@@ -3631,21 +3698,21 @@ put64(b, l3 + 1024, 0ull);
 put64(b, l3 + 1016, 0ull);
 f47(b, l3, l3 + 1016ull, l9);
 l1 = get64(b, l3 + 8);
-l30 = (u32)(!l1);
-if (l30) { goto L244; }
+l31 = (u32)(!l1);
+if (l31) { goto L243; }
 l16 = get64(b, l3);
 l8 = get64(b, l3 + 336);
-if ((get64(b, l3 + 344) - l8) < l1) { goto L245; }
+if ((get64(b, l3 + 344) - l8) < l1) { goto L244; }
 l12 = l8 + l1;
 l13 = get64(b, l3 + 328);
 l15 = l13 + l8;
-if ((l15 - l16) >= l1) { goto L247; }
+if ((l15 - l16) >= l1) { goto L246; }
 l17 = l1 & 3ull;
 l4 = 0ull;
-if (l1 < 4ull) { goto L248; }
+if (l1 < 4ull) { goto L247; }
 l7 = l1 & 18446744073709551612ull;
 l4 = 0ull;
-L249:;
+L248:;
 l1 = l15 + l4;
 l2 = l16 + l4;
 put8(b, l1, get8(b, l2));
@@ -3653,53 +3720,53 @@ put8(b, l1 + 1ull, get8(b, l2 + 1ull));
 put8(b, l1 + 2ull, get8(b, l2 + 2ull));
 put8(b, l1 + 3ull, get8(b, l2 + 3ull));
 l4 = l4 + 4ull;
-if (l7 != l4) { goto L249; }
-if (!l17) { goto L246; }
-L248:;
+if (l7 != l4) { goto L248; }
+if (!l17) { goto L245; }
+L247:;
 l1 = l16 + l4;
 l4 = l13 + (l4 + l8);
-L250:;
+L249:;
 put8(b, l4, get8(b, l1));
 l4 = l4 + 1ull;
 l1 = l1 + 1ull;
 l17 = l17 + 18446744073709551615ull;
-if (l17 != 0ull) { goto L250; }
-goto L246;
-L247:;
-if (l30) { goto L246; }
-copy(b, l15, l16, l1);
+if (l17 != 0ull) { goto L249; }
+goto L245;
 L246:;
-put64(b, l3 + 336, l12);
-goto L244;
+if (l31) { goto L245; }
+copy(b, l15, l16, l1);
 L245:;
-t25 = f46(b, l3 + 328ull, l16, l1);
-if (t25 & 255u) { goto L243; }
+put64(b, l3 + 336, l12);
+goto L243;
 L244:;
+t25 = f46(b, l3 + 328ull, l16, l1);
+if (t25 & 255u) { goto L242; }
+L243:;
 l1 = get64(b, l3 + 336);
-if (get64(b, l3 + 344) == l1) { goto L252; }
+if (get64(b, l3 + 344) == l1) { goto L251; }
 put8(b, get64(b, l3 + 328) + l1, 32u);
 put64(b, l3 + 336, l1 + 1ull);
-goto L251;
-L252:;
-t26 = f46(b, l3 + 328ull, 1048972ull, 1ull);
-if (t26 & 255u) { goto L243; }
+goto L250;
 L251:;
-l6 = ((u64)l35) & 255ull;
+t26 = f46(b, l3 + 328ull, 1048972ull, 1ull);
+if (t26 & 255u) { goto L242; }
+L250:;
+l6 = ((u64)l36) & 255ull;
 l1 = l6 << 3;
 l17 = get64(b, l1 + 1062064);
 l13 = get64(b, l3 + 344);
 l12 = get64(b, l3 + 336);
 l8 = get64(b, l1 + 1061976);
-if ((l13 - l12) < l8) { goto L254; }
+if ((l13 - l12) < l8) { goto L253; }
 l7 = l12 + l8;
 l9 = get64(b, l3 + 328);
 l16 = l9 + l12;
-if ((l16 - l17) >= l8) { goto L256; }
+if ((l16 - l17) >= l8) { goto L255; }
 l1 = 0ull;
-if ((l35 & 255u) == 2u) { goto L257; }
+if ((l36 & 255u) == 2u) { goto L256; }
 l15 = l8 & 18446744073709551612ull;
 l1 = 0ull;
-L258:;
+L257:;
 l4 = l16 + l1;
 l2 = l17 + l1;
 put8(b, l4, get8(b, l2));
@@ -3707,65 +3774,65 @@ put8(b, l4 + 1ull, get8(b, l2 + 1ull));
 put8(b, l4 + 2ull, get8(b, l2 + 2ull));
 put8(b, l4 + 3ull, get8(b, l2 + 3ull));
 l1 = l1 + 4ull;
-if (l15 != l1) { goto L258; }
-if (((1ull << (l6 & 63)) & 1602ull) != 0ull) { goto L255; }
-L257:;
+if (l15 != l1) { goto L257; }
+if (((1ull << (l6 & 63)) & 1602ull) != 0ull) { goto L254; }
+L256:;
 l2 = l8 & 3ull;
 l4 = l17 + l1;
 l1 = l9 + (l1 + l12);
-L259:;
+L258:;
 put8(b, l1, get8(b, l4));
 l1 = l1 + 1ull;
 l4 = l4 + 1ull;
 l2 = l2 + 18446744073709551615ull;
-if (l2 != 0ull) { goto L259; }
-goto L255;
-L256:;
-if (!l8) { goto L255; }
-copy(b, l16, l17, l8);
+if (l2 != 0ull) { goto L258; }
+goto L254;
 L255:;
-put64(b, l3 + 336, l7);
-goto L253;
+if (!l8) { goto L254; }
+copy(b, l16, l17, l8);
 L254:;
+put64(b, l3 + 336, l7);
+goto L252;
+L253:;
 t27 = f46(b, l3 + 328ull, l17, l8);
-if (t27 & 255u) { goto L243; }
+if (t27 & 255u) { goto L242; }
 l7 = get64(b, l3 + 336);
 l13 = get64(b, l3 + 344);
-L253:;
-if (l13 == l7) { goto L261; }
+L252:;
+if (l13 == l7) { goto L260; }
 l1 = get64(b, l3 + 328);
 put8(b, l1 + l7, 10u);
 put64(b, l3 + 336, l7 + 1ull);
-goto L260;
-L261:;
+goto L259;
+L260:;
 t28 = f46(b, l3 + 328ull, 1048715ull, 1ull);
-if (t28 & 255u) { goto L243; }
+if (t28 & 255u) { goto L242; }
 l1 = get64(b, l3 + 328);
 l13 = get64(b, l3 + 344);
-L260:;
-l35 = get8(b, l3 + 352);
-if (l35) { goto L263; }
+L259:;
+l36 = get8(b, l3 + 352);
+if (l36) { goto L262; }
 l4 = 0ull;
-if (!l13) { goto L262; }
+if (!l13) { goto L261; }
 rattle_dealloc(b, l1);
-l31 = 3u;
+l32 = 3u;
 goto L5;
-L263:;
+L262:;
 l4 = get64(b, l3 + 360);
 put64(b, l4 + 8, get64(b, l3 + 336));
 l2 = get64(b, l4 + 16);
 put64(b, l4 + 16, l13);
 l17 = get64(b, l4);
 put64(b, l4, l1);
-if (!l2) { goto L262; }
+if (!l2) { goto L261; }
 rattle_dealloc(b, l17);
-L262:;
-l31 = 3u;
+L261:;
+l32 = 3u;
 goto L5;
-L243:;
-if (!get64(b, l3 + 344)) { goto L264; }
+L242:;
+if (!get64(b, l3 + 344)) { goto L263; }
 rattle_dealloc(b, get64(b, l3 + 328));
-L264:;
+L263:;
 if (get8(b, l3 + 352) != 1u) { goto L6; }
 l1 = get64(b, l3 + 360);
 l2 = get64(b, l1);
@@ -3774,22 +3841,22 @@ rattle_dealloc(b, l1);
 if (!l4) { goto L6; }
 rattle_dealloc(b, l2);
 L6:;
-l35 = l34 & 255u;
-l32 = 1u;
+l36 = l35 & 255u;
+l33 = 1u;
 l4 = 0ull;
-l34 = 0u;
-if (l35 == 1u) { goto L4; }
+l35 = 0u;
+if (l36 == 1u) { goto L4; }
 goto L3;
 L5:;
-if ((l34 & 255u) != 1u) { goto L265; }
+if ((l35 & 255u) != 1u) { goto L264; }
 l2 = get64(b, l5);
 l1 = get64(b, l5 + 16);
 rattle_dealloc(b, l5);
-if (!l1) { goto L265; }
+if (!l1) { goto L264; }
 rattle_dealloc(b, l2);
-L265:;
-l30 = 0u;
-l34 = l31;
+L264:;
+l31 = 0u;
+l35 = l32;
 goto L1;
 L4:;
 l2 = get64(b, l5);
@@ -3798,20 +3865,20 @@ rattle_dealloc(b, l5);
 if (!l1) { goto L3; }
 rattle_dealloc(b, l2);
 L3:;
-l30 = 1u;
-l35 = 0u;
+l31 = 1u;
+l36 = 0u;
 goto L1;
 L2:;
-l32 = 1u;
-l30 = get8(b, l3 + 2537);
-l35 = 0u;
+l33 = 1u;
+l31 = get8(b, l3 + 2425);
+l36 = 0u;
 L1:;
-put8(b, l0, l32);
+put8(b, l0, l33);
 put64(b, l0 + 24ull, l4);
-put8(b, l0 + 8ull, l34);
-put8(b, l0 + 1ull, l30);
-put64(b, l0 + 16ull, ((u64)l35) & 255ull);
-SP = l3 + 2784ull;
+put8(b, l0 + 8ull, l35);
+put8(b, l0 + 1ull, l31);
+put64(b, l0 + 16ull, ((u64)l36) & 255ull);
+SP = l3 + 2672ull;
 }
 
 FN void f8(B b, u64 l0, u64 l1, u64 l2) {
@@ -4937,11 +5004,11 @@ SP = l2 + 1184ull;
 }
 
 FN void f16(B b, u64 l0, u64 l1, u32 l2) {
-u32 l13 = 0, l14 = 0, l15 = 0;
-u64 l3 = 0, l4 = 0, l5 = 0, l6 = 0, l7 = 0, l8 = 0, l9 = 0, l10 = 0, l11 = 0, l12 = 0;
+u32 l16 = 0, l17 = 0, l18 = 0;
+u64 l3 = 0, l4 = 0, l5 = 0, l6 = 0, l7 = 0, l8 = 0, l9 = 0, l10 = 0, l11 = 0, l12 = 0, l13 = 0, l14 = 0, l15 = 0;
 l3 = SP - 1632ull;
 SP = l3;
-l13 = 0u;
+l16 = 0u;
 fill(b, l3 + 80ull, 0u, 80u);
 fill(b, l3 + 160ull, 0u, 88u);
 put64(b, l3 + 264, 0ull);
@@ -5033,13 +5100,13 @@ put64(b, l3 + 920, 0ull);
 f24(b, l3 + 160ull, l3 + 248ull, l2);
 copy(b, l3 + 936ull, l3 + 248ull, 688u);
 f25(b, l3 + 936ull);
-l14 = get8(b, l3 + 160);
-l15 = get8(b, l3 + 164);
+l17 = get8(b, l3 + 160);
+l18 = get8(b, l3 + 164);
 l2 = get32(b, l3 + 168);
-l1 = get64(b, l3 + 172);
+l4 = get64(b, l3 + 172);
 copy(b, l3 + 12ull, l3 + 180ull, 68u);
-if (l14) { goto L2; }
-put64(b, l3 + 84, l1);
+if (l17) { goto L2; }
+put64(b, l3 + 84, l4);
 put32(b, l3 + 80, l2);
 copy(b, l3 + 92ull, l3 + 12ull, 68u);
 put64(b, l3 + 968, 0ull);
@@ -5050,100 +5117,147 @@ put64(b, l3 + 936, 0ull);
 f167(b, l3 + 936ull, l3 + 80ull);
 if (!get8(b, l3 + 936)) { goto L4; }
 if (!get8(b, l3 + 940)) { goto L5; }
-l14 = 1u;
-l13 = 0u;
-l1 = 0ull;
+l17 = 1u;
+l16 = 0u;
+l4 = 0ull;
 l2 = 0u;
-l15 = 0u;
+l18 = 0u;
 goto L3;
 L5:;
-l14 = 0u;
+l17 = 0u;
 l2 = 1u;
-l13 = get32(b, l3 + 952);
-l1 = get64(b, l3 + 944);
-l15 = 1u;
+l16 = get32(b, l3 + 952);
+l4 = get64(b, l3 + 944);
+l18 = 1u;
 goto L3;
 L4:;
-l4 = get64(b, l3 + 968);
-l5 = get64(b, l3 + 952);
-l6 = get64(b, l3 + 960);
-if (!l6) { goto L6; }
-l7 = 0ull;
+l5 = get64(b, l3 + 968);
+l6 = get64(b, l3 + 952);
+l7 = get64(b, l3 + 960);
+if (!l7) { goto L6; }
+l8 = 0ull;
 L7:;
-l1 = l5 + (l7 * 96ull);
-l8 = get64(b, l1 + 80);
-l9 = get64(b, l1 + 64);
-l10 = get64(b, l1 + 48);
-l11 = get64(b, l1 + 40);
-l12 = get64(b, l1 + 32);
+l1 = l6 + (l8 * 96ull);
+l9 = get64(b, l1 + 80);
+l10 = get64(b, l1 + 64);
+l11 = get64(b, l1 + 48);
+l12 = get64(b, l1 + 40);
+l13 = get64(b, l1 + 32);
 if (!get64(b, l1 + 24)) { goto L8; }
 rattle_dealloc(b, get64(b, l1 + 8));
 L8:;
-if (!l11) { goto L9; }
-l1 = l12;
+if (!l12) { goto L9; }
+l1 = l13;
 L10:;
 if (get8(b, l1)) { goto L11; }
 if (!get64(b, l1 + 24ull)) { goto L11; }
 rattle_dealloc(b, get64(b, l1 + 8ull));
 L11:;
 l1 = l1 + 32ull;
-l11 = l11 + 18446744073709551615ull;
-if (l11 != 0ull) { goto L10; }
+l12 = l12 + 18446744073709551615ull;
+if (l12 != 0ull) { goto L10; }
 L9:;
-if (!l10) { goto L12; }
-rattle_dealloc(b, l12);
+if (!l11) { goto L12; }
+rattle_dealloc(b, l13);
 L12:;
-if (!l8) { goto L13; }
-rattle_dealloc(b, l9);
+if (!l9) { goto L13; }
+rattle_dealloc(b, l10);
 L13:;
-l7 = l7 + 1ull;
-if (l7 != l6) { goto L7; }
+l8 = l8 + 1ull;
+if (l8 != l7) { goto L7; }
 L6:;
-l15 = 1u;
-l1 = 0ull;
-if (!l4) { goto L14; }
-rattle_dealloc(b, l5);
+l18 = 1u;
+l4 = 0ull;
+if (!l5) { goto L14; }
+rattle_dealloc(b, l6);
 L14:;
-l13 = 0u;
+l16 = 0u;
 l2 = 0u;
-l14 = 0u;
+l17 = 0u;
 L3:;
-f168(b, l3 + 88ull);
-if (!get64(b, l3 + 128)) { goto L15; }
-rattle_dealloc(b, get64(b, l3 + 112));
+l14 = get64(b, l3 + 104);
+l5 = get64(b, l3 + 88);
+l15 = get64(b, l3 + 96);
+if (!l15) { goto L15; }
+l6 = 0ull;
+L16:;
+l1 = l5 + (l6 << 5);
+l7 = get64(b, l1 + 24);
+l11 = get64(b, l1 + 8);
+l10 = get64(b, l1 + 16);
+if (!l10) { goto L17; }
+l8 = 0ull;
+L18:;
+l1 = l11 + (l8 * 104ull);
+l9 = get64(b, l1 + 96);
+l12 = get64(b, l1 + 88);
+l13 = get64(b, l1 + 80);
+if (!get8(b, l1 + 8)) { goto L19; }
+if (!get8(b, l1 + 24)) { goto L19; }
+if (!get64(b, l1 + 48)) { goto L19; }
+rattle_dealloc(b, get64(b, l1 + 32));
+L19:;
+if (!l12) { goto L20; }
+l1 = l13 + 16ull;
+L21:;
+if (!get8(b, l1 + 18446744073709551608ull)) { goto L22; }
+if (!get64(b, l1 + 16ull)) { goto L22; }
+rattle_dealloc(b, get64(b, l1));
+L22:;
+l1 = l1 + 64ull;
+l12 = l12 + 18446744073709551615ull;
+if (l12 != 0ull) { goto L21; }
+L20:;
+if (!l9) { goto L23; }
+rattle_dealloc(b, l13);
+L23:;
+l8 = l8 + 1ull;
+if (l8 != l10) { goto L18; }
+L17:;
+if (!l7) { goto L24; }
+rattle_dealloc(b, l11);
+L24:;
+l6 = l6 + 1ull;
+if (l6 != l15) { goto L16; }
 L15:;
+if (!l14) { goto L25; }
+rattle_dealloc(b, l5);
+L25:;
+if (!get64(b, l3 + 128)) { goto L26; }
+rattle_dealloc(b, get64(b, l3 + 112));
+L26:;
 if (!get64(b, l3 + 152)) { goto L1; }
 rattle_dealloc(b, get64(b, l3 + 136));
 goto L1;
 L2:;
-if (l15 & 255u) { goto L17; }
-l14 = 0u;
-goto L16;
-L17:;
+if (l18 & 255u) { goto L28; }
+l17 = 0u;
+goto L27;
+L28:;
 l2 = 0u;
-l14 = 1u;
-l1 = 0ull;
-l13 = 0u;
-L16:;
-l15 = 0u;
+l17 = 1u;
+l4 = 0ull;
+l16 = 0u;
+L27:;
+l18 = 0u;
 L1:;
-put8(b, l0, l14);
-put32(b, l0 + 20ull, l13);
-put64(b, l0 + 12ull, l1);
+put8(b, l0, l17);
+put32(b, l0 + 20ull, l16);
+put64(b, l0 + 12ull, l4);
 put32(b, l0 + 8ull, l2);
-put32(b, l0 + 4ull, l15);
+put32(b, l0 + 4ull, l18);
 SP = l3 + 1632ull;
 }
 
 FN void f17(B b, u64 l0, u64 l1, u32 l2, u64 l3) {
-u32 l15 = 0, l16 = 0, l17 = 0, t0, t1, t2, t3, t4;
-u64 l4 = 0, l5 = 0, l6 = 0, l7 = 0, l8 = 0, l9 = 0, l10 = 0, l11 = 0, l12 = 0, l13 = 0, l14 = 0;
-l4 = SP - 1664ull;
+u32 l14 = 0, l15 = 0, l16 = 0, t0, t1, t2, t3, t4;
+u64 l4 = 0, l5 = 0, l6 = 0, l7 = 0, l8 = 0, l9 = 0, l10 = 0, l11 = 0, l12 = 0, l13 = 0;
+l4 = SP - 1904ull;
 SP = l4;
 put64(b, l4 + 480, 0ull);
 put64(b, l4 + 488, 0ull);
 put64(b, l4 + 496, 0ull);
-l15 = get8(b, l3);
+l14 = get8(b, l3);
 fill(b, l4 + 369ull, 0u, 111u);
 put64(b, l4 + 360, 0ull);
 put64(b, l4 + 352, 0ull);
@@ -5162,40 +5276,40 @@ put64(b, l4 + 48, 0ull);
 put64(b, l4 + 40, 0ull);
 put64(b, l4 + 24, 0ull);
 put64(b, l4 + 31, 0ull);
-fill(b, l4 + 1008ull, 0u, 128u);
-f180(b, l4 + 1008ull, l1, l2);
-l16 = get8(b, l4 + 1020);
-l17 = get32(b, l4 + 1016);
-if (get8(b, l4 + 1008)) { goto L11; }
-l5 = get64(b, l4 + 1112);
-l6 = get64(b, l4 + 1104);
-l7 = get64(b, l4 + 1096);
-l3 = get64(b, l4 + 1088);
-l8 = get64(b, l4 + 1072);
-if (!get64(b, l4 + 1032)) { goto L12; }
-rattle_dealloc(b, (((((u64)l16) & 255ull) << 32) | ((u64)l17)) | (((u64)get8(b, l4 + 1023ull) << 56) | ((u64)get16(b, l4 + 1021) << 40)));
+fill(b, l4 + 888ull, 0u, 128u);
+f179(b, l4 + 888ull, l1, l2);
+l15 = get8(b, l4 + 900);
+l16 = get32(b, l4 + 896);
+if (get8(b, l4 + 888)) { goto L11; }
+l5 = get64(b, l4 + 992);
+l6 = get64(b, l4 + 984);
+l7 = get64(b, l4 + 976);
+l3 = get64(b, l4 + 968);
+l8 = get64(b, l4 + 952);
+if (!get64(b, l4 + 912)) { goto L12; }
+rattle_dealloc(b, (((((u64)l15) & 255ull) << 32) | ((u64)l16)) | (((u64)get8(b, l4 + 903ull) << 56) | ((u64)get16(b, l4 + 901) << 40)));
 L12:;
-f22(b, l4 + 1048ull);
+f22(b, l4 + 928ull);
 if (!l3) { goto L13; }
 rattle_dealloc(b, l8);
 L13:;
 if (!l6) { goto L14; }
 l3 = l7;
 L15:;
-put64(b, l4 + 1416, get64(b, l3 + 16));
-put64(b, l4 + 1408, get64(b, l3 + 8));
-put64(b, l4 + 1400, get64(b, l3));
+put64(b, l4 + 1184, get64(b, l3 + 16));
+put64(b, l4 + 1176, get64(b, l3 + 8));
+put64(b, l4 + 1168, get64(b, l3));
 l3 = l3 + 24ull;
-f22(b, l4 + 1400ull);
+f22(b, l4 + 1168ull);
 l6 = l6 + 18446744073709551615ull;
 if (l6 != 0ull) { goto L15; }
 L14:;
 if (!l5) { goto L16; }
 rattle_dealloc(b, l7);
 L16:;
-l16 = 0u;
-fill(b, l4 + 1008ull, 0u, 136u);
-fill(b, l4 + 889ull, 0u, 119u);
+l15 = 0u;
+fill(b, l4 + 1032ull, 0u, 136u);
+fill(b, l4 + 888ull, 0u, 143u);
 l7 = 0ull;
 put64(b, l4 + 880, 0ull);
 put64(b, l4 + 872, 0ull);
@@ -5216,7 +5330,7 @@ put64(b, l4 + 528, 0ull);
 put64(b, l4 + 536, 0ull);
 put64(b, l4 + 544, 0ull);
 put64(b, l4 + 552, 0ull);
-if ((l15 & 255u) == 3u) { goto L10; }
+if ((l14 & 255u) == 3u) { goto L10; }
 fill(b, l4 + 369ull, 0u, 111u);
 put64(b, l4 + 360, 0ull);
 put64(b, l4 + 352, 0ull);
@@ -5230,9 +5344,9 @@ L11:;
 put64(b, l4 + 480, 0ull);
 put64(b, l4 + 488, 0ull);
 put64(b, l4 + 496, 0ull);
-l2 = get8(b, l4 + 1012);
-put8(b, l0 + 16ull, l2 ? 0u : l16);
-put32(b, l0 + 12ull, l2 ? 0u : l17);
+l2 = get8(b, l4 + 892);
+put8(b, l0 + 16ull, l2 ? 0u : l15);
+put32(b, l0 + 12ull, l2 ? 0u : l16);
 put32(b, l0 + 8ull, 0u);
 put8(b, l0, l2);
 fill(b, l0 + 17ull, 0u, 111u);
@@ -5243,16 +5357,18 @@ put64(b, l0 + 136ull, get64(b, l4 + 488));
 put64(b, l0 + 128ull, get64(b, l4 + 480));
 goto L1;
 L10:;
-fill(b, l4 + 1266ull, 0u, 118u);
-fill(b, l4 + 1147ull, 0u, 119u);
-put64(b, l4 + 1544, 0ull);
-put64(b, l4 + 1536, 0ull);
-put64(b, l4 + 1528, 0ull);
-put64(b, l4 + 1520, 0ull);
+fill(b, l4 + 1528ull, 0u, 96u);
+fill(b, l4 + 1425ull, 0u, 103u);
+fill(b, l4 + 1306ull, 0u, 118u);
+fill(b, l4 + 1168ull, 0u, 136u);
+put64(b, l4 + 1784, 0ull);
+put64(b, l4 + 1776, 0ull);
+put64(b, l4 + 1768, 0ull);
+put64(b, l4 + 1760, 0ull);
 l6 = get64(b, l1 + 64ull);
 if (!(u32)(!l6)) { goto L24; }
-l8 = l4 + 1656ull;
-l5 = 0ull;
+l5 = l4 + 1896ull;
+l6 = 0ull;
 l3 = 0ull;
 goto L23;
 L24:;
@@ -5260,132 +5376,130 @@ if ((s64)l6 < (s64)0ull) { goto L2; }
 rattle_alloc(b, l4 + 8ull, l6, 1ull);
 if (!(((u32)get64(b, l4 + 8)) & 1u)) { goto L2; }
 l7 = get64(b, l4 + 16);
-put64(b, l4 + 1648, l6);
+put64(b, l4 + 1888, l6);
 l3 = 0ull;
-put64(b, l4 + 1640, 0ull);
-put64(b, l4 + 1632, l7);
+put64(b, l4 + 1880, 0ull);
+put64(b, l4 + 1872, l7);
 L25:;
-if (get64(b, l4 + 1648) != l3) { goto L26; }
-t0 = f27(b, l4 + 1632ull);
+if (get64(b, l4 + 1888) != l3) { goto L26; }
+t0 = f27(b, l4 + 1872ull);
 if (!t0) { goto L22; }
-l7 = get64(b, l4 + 1632);
-l3 = get64(b, l4 + 1640);
+l7 = get64(b, l4 + 1872);
+l3 = get64(b, l4 + 1880);
 L26:;
 put8(b, l7 + l3, 0u);
 l3 = l3 + 1ull;
-put64(b, l4 + 1640, l3);
+put64(b, l4 + 1880, l3);
 l6 = l6 + 18446744073709551615ull;
 if (!(u32)(!l6)) { goto L25; }
 l7 = get64(b, l1 + 64ull);
-l5 = get64(b, l4 + 1648);
-l8 = get64(b, l4 + 1632);
+l6 = get64(b, l4 + 1888);
+l5 = get64(b, l4 + 1872);
 L23:;
-f181(b, l4 + 1520ull, l7);
-if (get8(b, l4 + 1520)) { goto L21; }
-put64(b, l4 + 1488, get64(b, l4 + 1544));
-put64(b, l4 + 1480, get64(b, l4 + 1536));
-put64(b, l4 + 1472, get64(b, l4 + 1528));
-l9 = 0ull;
-put64(b, l4 + 1432, 0ull);
-put64(b, l4 + 1416, l5);
-put64(b, l4 + 1408, l3);
-put64(b, l4 + 1400, l8);
-put64(b, l4 + 1440, 0ull);
-put64(b, l4 + 1456, 0ull);
-put64(b, l4 + 1464, 0ull);
-l16 = 1u;
+f180(b, l4 + 1760ull, l7);
+if (get8(b, l4 + 1760)) { goto L21; }
+put64(b, l4 + 1728, get64(b, l4 + 1784));
+put64(b, l4 + 1720, get64(b, l4 + 1776));
+put64(b, l4 + 1712, get64(b, l4 + 1768));
+put64(b, l4 + 1672, 0ull);
+put64(b, l4 + 1656, l6);
+put64(b, l4 + 1648, l3);
+put64(b, l4 + 1640, l5);
+put64(b, l4 + 1680, 0ull);
+put64(b, l4 + 1696, 0ull);
+put64(b, l4 + 1704, 0ull);
 l6 = get64(b, l1 + 64ull);
-put64(b, l4 + 1424, l4 + 1656ull);
-put64(b, l4 + 1448, l4 + 1656ull);
+put64(b, l4 + 1664, l4 + 1896ull);
+put64(b, l4 + 1688, l4 + 1896ull);
 if (!(l2 & 1u)) { goto L18; }
 l7 = (u64)(l2 >> 1);
 if (l6 <= l7) { goto L18; }
-l10 = get64(b, l1 + 56ull);
-if (!get64(b, l10 + (l7 * 120ull))) { goto L18; }
+l9 = get64(b, l1 + 56ull);
+if (!get64(b, l9 + (l7 * 120ull))) { goto L18; }
 if (get64(b, l1 + 88ull) <= l7) { goto L18; }
-l5 = 0ull;
-l11 = get64(b, l1 + 80ull) + (l7 * 24ull);
-if (!get64(b, l11 + 8ull)) { goto L27; }
-l7 = get64(b, l11);
+l8 = 0ull;
+l10 = get64(b, l1 + 80ull) + (l7 * 24ull);
+if (!get64(b, l10 + 8ull)) { goto L27; }
+l7 = get64(b, l10);
 if (get8(b, l7) != 1u) { goto L27; }
-l5 = get64(b, l7 + 8ull);
+l8 = get64(b, l7 + 8ull);
 L27:;
-if (!(l5 & 1ull)) { goto L28; }
-l7 = (u64)((s64)l5 >> 63) ^ l5;
+if (!(l8 & 1ull)) { goto L28; }
+l7 = (u64)((s64)l8 >> 63) ^ l8;
 if ((l6 << 1) <= l7) { goto L28; }
-if ((s64)l5 < (s64)0ull) { goto L28; }
+if ((s64)l8 < (s64)0ull) { goto L28; }
 if (l7 > 4294967295ull) { goto L28; }
-l7 = (l5 >> 1) & 2147483647ull;
+l7 = (l8 >> 1) & 2147483647ull;
 if (l6 <= l7) { goto L28; }
 if (l7 >= l3) { goto L28; }
-if (!get64(b, l10 + (l7 * 120ull))) { goto L28; }
-put8(b, l8 + l7, 1u);
+if (!get64(b, l9 + (l7 * 120ull))) { goto L28; }
+put8(b, l5 + l7, 1u);
 L28:;
-t1 = f182(b, l4 + 1400ull, l1, l2, 2u, l11, 2ull);
+t1 = f181(b, l4 + 1640ull, l1, l2, 2u, l10, 2ull);
 if (t1 & 255u) { goto L3; }
 l3 = 0ull;
-put64(b, l4 + 1544, 0ull);
-put64(b, l4 + 1536, 0ull);
-put64(b, l4 + 1528, 0ull);
-put64(b, l4 + 1520, 0ull);
-l6 = get64(b, l11 + 8ull);
+put64(b, l4 + 1784, 0ull);
+put64(b, l4 + 1776, 0ull);
+put64(b, l4 + 1768, 0ull);
+put64(b, l4 + 1760, 0ull);
+l6 = get64(b, l10 + 8ull);
 if (l6 < 3ull) { goto L29; }
-l7 = get64(b, l11);
+l7 = get64(b, l10);
 if (get8(b, l7 + 48ull) != 1u) { goto L29; }
 l3 = get64(b, l7 + 56ull);
 l3 = ((s64)l3 > (s64)0ull) ? l3 : 0ull;
 l3 = (l6 < l3) ? l6 : l3;
 L29:;
-f183(b, l4 + 1520ull, l11, 3ull, 2ull, l3);
-if (get8(b, l4 + 1520)) { goto L3; }
-l12 = get64(b, l4 + 1544);
-l9 = get64(b, l4 + 1528);
-l5 = get64(b, l4 + 1536);
-if (l5 != get64(b, l4 + 1432)) { goto L5; }
-l6 = get64(b, l4 + 1424);
+f182(b, l4 + 1760ull, l10, 3ull, 2ull, l3);
+if (get8(b, l4 + 1760)) { goto L3; }
+l11 = get64(b, l4 + 1784);
+l12 = get64(b, l4 + 1768);
+l5 = get64(b, l4 + 1776);
+if (l5 != get64(b, l4 + 1672)) { goto L5; }
+l6 = get64(b, l4 + 1664);
 l13 = 0ull;
-put64(b, l4 + 1528, 0ull);
-put64(b, l4 + 1536, 0ull);
-put64(b, l4 + 1520, l4 + 1656ull);
+put64(b, l4 + 1768, 0ull);
+put64(b, l4 + 1776, 0ull);
+put64(b, l4 + 1760, l4 + 1896ull);
 if (!(u32)(!l5)) { goto L20; }
-l10 = l4 + 1656ull;
-l17 = 1u;
+l9 = l4 + 1896ull;
+l16 = 1u;
 l3 = 0ull;
 goto L19;
 L22:;
-if (!get64(b, l4 + 1648)) { goto L2; }
-rattle_dealloc(b, get64(b, l4 + 1632));
+if (!get64(b, l4 + 1888)) { goto L2; }
+rattle_dealloc(b, get64(b, l4 + 1872));
 goto L2;
 L21:;
-if (!l5) { goto L2; }
-rattle_dealloc(b, l8);
+if (!l6) { goto L2; }
+rattle_dealloc(b, l5);
 goto L2;
 L20:;
-l10 = l4 + 1656ull;
+l9 = l4 + 1896ull;
 l3 = 0ull;
-l7 = l9;
+l7 = l12;
 L30:;
 if (get8(b, l6) != 1u) { goto L31; }
 l8 = get64(b, l7);
-if (get64(b, l4 + 1536) != l3) { goto L32; }
-t2 = f34(b, l4 + 1520ull);
+if (get64(b, l4 + 1776) != l3) { goto L32; }
+t2 = f34(b, l4 + 1760ull);
 if (!t2) { goto L6; }
-l10 = get64(b, l4 + 1520);
-l3 = get64(b, l4 + 1528);
+l9 = get64(b, l4 + 1760);
+l3 = get64(b, l4 + 1768);
 L32:;
-put64(b, l10 + (l3 << 3), l8);
+put64(b, l9 + (l3 << 3), l8);
 l3 = l3 + 1ull;
-put64(b, l4 + 1528, l3);
+put64(b, l4 + 1768, l3);
 L31:;
 l7 = l7 + 8ull;
 l6 = l6 + 1ull;
 l5 = l5 + 18446744073709551615ull;
 if (!(u32)(!l5)) { goto L30; }
-l17 = (u32)(!get64(b, l4 + 1536));
-l10 = get64(b, l4 + 1520);
+l16 = (u32)(!get64(b, l4 + 1776));
+l9 = get64(b, l4 + 1760);
 L19:;
-if (!get64(b, l11 + 8ull)) { goto L33; }
-l6 = get64(b, l11);
+if (!get64(b, l10 + 8ull)) { goto L33; }
+l6 = get64(b, l10);
 if (get8(b, l6) != 1u) { goto L33; }
 l13 = get64(b, l6 + 8ull);
 L33:;
@@ -5394,18 +5508,18 @@ l6 = (u64)((s64)l13 >> 63) ^ l13;
 if ((l7 << 1) <= l6) { goto L35; }
 if ((s64)l13 < (s64)0ull) { goto L35; }
 if (l6 > 4294967295ull) { goto L35; }
-l16 = (u32)l13;
-if (!(l16 & 1u)) { goto L35; }
+l15 = (u32)l13;
+if (!(l15 & 1u)) { goto L35; }
 l6 = (l13 >> 1) & 2147483647ull;
 if (l7 <= l6) { goto L35; }
 if (!get64(b, get64(b, l1 + 56ull) + (l6 * 120ull))) { goto L35; }
 if (get64(b, l1 + 88ull) <= l6) { goto L35; }
-t3 = f182(b, l4 + 1400ull, l1, l16, 1u, get64(b, l1 + 80ull) + (l6 * 24ull), 0ull);
+t3 = f181(b, l4 + 1640ull, l1, l15, 1u, get64(b, l1 + 80ull) + (l6 * 24ull), 0ull);
 if (t3 & 255u) { goto L34; }
 L35:;
-l15 = 1u;
+l14 = 1u;
 if (!l3) { goto L36; }
-l7 = l10;
+l7 = l9;
 L37:;
 l8 = get64(b, l1 + 64ull);
 l6 = get64(b, l7);
@@ -5413,249 +5527,239 @@ l5 = (u64)((s64)l6 >> 63) ^ l6;
 if ((l8 << 1) <= l5) { goto L38; }
 if ((s64)l6 < (s64)0ull) { goto L38; }
 if (l5 > 4294967295ull) { goto L38; }
-l16 = (u32)l6;
-if (!(l16 & 1u)) { goto L38; }
+l15 = (u32)l6;
+if (!(l15 & 1u)) { goto L38; }
 l6 = (l6 >> 1) & 2147483647ull;
 if (l8 <= l6) { goto L38; }
 if (!get64(b, get64(b, l1 + 56ull) + (l6 * 120ull))) { goto L38; }
 if (get64(b, l1 + 88ull) <= l6) { goto L38; }
-t4 = f182(b, l4 + 1400ull, l1, l16, 1u, get64(b, l1 + 80ull) + (l6 * 24ull), 0ull);
+t4 = f181(b, l4 + 1640ull, l1, l15, 1u, get64(b, l1 + 80ull) + (l6 * 24ull), 0ull);
 if (!(t4 & 255u)) { goto L38; }
-l15 = 0u;
+l14 = 0u;
 goto L36;
 L38:;
 l7 = l7 + 8ull;
 l3 = l3 + 18446744073709551615ull;
 if (l3 != 0ull) { goto L37; }
 L36:;
-if (l17) { goto L39; }
-rattle_dealloc(b, l10);
-L39:;
-if (!l12) { goto L40; }
+if (l16) { goto L39; }
 rattle_dealloc(b, l9);
+L39:;
+if (!l11) { goto L40; }
+rattle_dealloc(b, l12);
 L40:;
-if (!l15) { goto L3; }
-l16 = (u32)(!get64(b, l4 + 1440));
-l11 = get64(b, l4 + 1488);
-l6 = get64(b, l4 + 1480);
-l7 = get64(b, l4 + 1472);
-l10 = get64(b, l4 + 1464);
-l9 = get64(b, l4 + 1456);
-l13 = get64(b, l4 + 1448);
-l12 = get64(b, l4 + 1424);
-l5 = get64(b, l4 + 1416);
-l8 = get64(b, l4 + 1400);
+if (!l14) { goto L3; }
+copy(b, l4 + 1432ull, l4 + 1640ull, 96u);
 goto L17;
 L34:;
-if (l17) { goto L41; }
-rattle_dealloc(b, l10);
+if (l16) { goto L41; }
+rattle_dealloc(b, l9);
 L41:;
-if (!l12) { goto L3; }
+if (!l11) { goto L3; }
 goto L4;
 L18:;
-l11 = get64(b, l4 + 1488);
-l6 = get64(b, l4 + 1480);
-l7 = get64(b, l4 + 1472);
-l12 = l4 + 1656ull;
-l13 = l12;
-l10 = 0ull;
+copy(b, l4 + 1432ull, l4 + 1640ull, 96u);
 L17:;
-fill(b, l4 + 1400ull, 0u, 120u);
-put64(b, l4 + 1392, 0ull);
-put64(b, l4 + 1384, 0ull);
-f184(b, l4 + 1400ull, l1);
-if (get8(b, l4 + 1400)) { goto L48; }
-copy(b, l4 + 1520ull, l4 + 1408ull, 112u);
-f185(b, l4 + 1384ull, l4 + 1520ull, l1, l7, l6);
-if (!get8(b, l4 + 1384)) { goto L49; }
-if (!get64(b, l4 + 1536)) { goto L50; }
-rattle_dealloc(b, get64(b, l4 + 1520));
-L50:;
-f186(b, l4 + 1552ull);
-l14 = get64(b, l4 + 1616);
-l1 = get64(b, l4 + 1608);
-l9 = get64(b, l4 + 1600);
-if (!get64(b, l4 + 1592)) { goto L51; }
-rattle_dealloc(b, get64(b, l4 + 1576));
-L51:;
-if (!l1) { goto L52; }
-l3 = l9;
-L53:;
-put64(b, l4 + 1648, get64(b, l3 + 16));
-put64(b, l4 + 1640, get64(b, l3 + 8));
-put64(b, l4 + 1632, get64(b, l3));
+copy(b, l4 + 1528ull, l4 + 1432ull, 96u);
+fill(b, l4 + 1640ull, 0u, 120u);
+put64(b, l4 + 1632, 0ull);
+put64(b, l4 + 1624, 0ull);
+f183(b, l4 + 1640ull, l1);
+if (get8(b, l4 + 1640)) { goto L43; }
+copy(b, l4 + 1760ull, l4 + 1648ull, 112u);
+f184(b, l4 + 1624ull, l4 + 1760ull, l1, l4 + 1600ull);
+if (!get8(b, l4 + 1624)) { goto L42; }
+if (!get64(b, l4 + 1776)) { goto L44; }
+rattle_dealloc(b, get64(b, l4 + 1760));
+L44:;
+f185(b, l4 + 1792ull);
+l7 = get64(b, l4 + 1856);
+l6 = get64(b, l4 + 1848);
+l1 = get64(b, l4 + 1840);
+if (!get64(b, l4 + 1832)) { goto L45; }
+rattle_dealloc(b, get64(b, l4 + 1816));
+L45:;
+if (!l6) { goto L46; }
+l3 = l1;
+L47:;
+put64(b, l4 + 1888, get64(b, l3 + 16));
+put64(b, l4 + 1880, get64(b, l3 + 8));
+put64(b, l4 + 1872, get64(b, l3));
 l3 = l3 + 24ull;
-f186(b, l4 + 1632ull);
-l1 = l1 + 18446744073709551615ull;
-if (l1 != 0ull) { goto L53; }
-L52:;
-if (!l14) { goto L54; }
-rattle_dealloc(b, l9);
-L54:;
-fill(b, l4 + 1272ull, 0u, 112u);
-goto L47;
+f185(b, l4 + 1872ull);
+l6 = l6 + 18446744073709551615ull;
+if (l6 != 0ull) { goto L47; }
+L46:;
+if (!l7) { goto L43; }
+rattle_dealloc(b, l1);
+L43:;
+l3 = get64(b, l4 + 1592);
+l1 = get64(b, l4 + 1576);
+l6 = get64(b, l4 + 1568);
+l7 = get64(b, l4 + 1552);
+if (!get64(b, l4 + 1544)) { goto L48; }
+rattle_dealloc(b, get64(b, l4 + 1528));
+L48:;
+if (!l6) { goto L49; }
+rattle_dealloc(b, l7);
 L49:;
-l3 = l4 + 1272ull;
-copy(b, l3, l4 + 1520ull, 112u);
-l1 = l4 + 1154ull;
-copy(b, l1, l3, 112u);
-if (!l5) { goto L55; }
-rattle_dealloc(b, l8);
-L55:;
-if (l16) { goto L56; }
-rattle_dealloc(b, l12);
-L56:;
-if (!l6) { goto L57; }
-l3 = l7;
-L58:;
-if (!get8(b, l3)) { goto L59; }
-put64(b, l4 + 1416, get64(b, l3 + 24ull));
-put64(b, l4 + 1408, get64(b, l3 + 16ull));
-put64(b, l4 + 1400, get64(b, l3 + 8ull));
-f187(b, l4 + 1400ull);
-L59:;
+if (!l3) { goto L50; }
+rattle_dealloc(b, l1);
+L50:;
+l7 = get64(b, l4 + 1616);
+l1 = get64(b, l4 + 1600);
+l6 = get64(b, l4 + 1608);
+if (!l6) { goto L51; }
+l3 = l1;
+L52:;
+if (!get8(b, l3)) { goto L53; }
+put64(b, l4 + 1656, get64(b, l3 + 24ull));
+put64(b, l4 + 1648, get64(b, l3 + 16ull));
+put64(b, l4 + 1640, get64(b, l3 + 8ull));
+f186(b, l4 + 1640ull);
+L53:;
 l3 = l3 + 32ull;
 l6 = l6 + 18446744073709551615ull;
-if (l6 != 0ull) { goto L58; }
+if (l6 != 0ull) { goto L52; }
+L51:;
+if (!l7) { goto L2; }
+rattle_dealloc(b, l1);
+goto L2;
+L42:;
+l3 = l4 + 1312ull;
+copy(b, l3, l4 + 1760ull, 112u);
+copy(b, l4 + 1168ull, l3, 112u);
+put64(b, l4 + 1296, get64(b, l4 + 1496));
+put64(b, l4 + 1288, get64(b, l4 + 1488));
+put64(b, l4 + 1280, get64(b, l4 + 1480));
+if (!get64(b, l4 + 1544)) { goto L54; }
+rattle_dealloc(b, get64(b, l4 + 1528));
+L54:;
+if (!get64(b, l4 + 1568)) { goto L55; }
+rattle_dealloc(b, get64(b, l4 + 1552));
+L55:;
+l7 = get64(b, l4 + 1616);
+l1 = get64(b, l4 + 1600);
+l6 = get64(b, l4 + 1608);
+if (!l6) { goto L56; }
+l3 = l1;
 L57:;
-if (!l11) { goto L60; }
-rattle_dealloc(b, l7);
-L60:;
-l3 = l4 + 896ull;
-copy(b, l3, l1, 112u);
-copy(b, l4 + 1008ull, l3, 112u);
-put64(b, l4 + 1136, l10);
-put64(b, l4 + 1128, l9);
-put64(b, l4 + 1120, l13);
-f16(b, l4 + 864ull, l4 + 1008ull, l2);
-if (get8(b, l4 + 864)) { goto L46; }
-l17 = get8(b, l4 + 868);
-if (l17 & 255u) { goto L44; }
+if (!get8(b, l3)) { goto L58; }
+put64(b, l4 + 1656, get64(b, l3 + 24ull));
+put64(b, l4 + 1648, get64(b, l3 + 16ull));
+put64(b, l4 + 1640, get64(b, l3 + 8ull));
+f186(b, l4 + 1640ull);
+L58:;
+l3 = l3 + 32ull;
+l6 = l6 + 18446744073709551615ull;
+if (l6 != 0ull) { goto L57; }
+L56:;
+if (!l7) { goto L59; }
+rattle_dealloc(b, l1);
+L59:;
+l3 = l4 + 895ull;
+copy(b, l3, l4 + 1168ull, 136u);
+copy(b, l4 + 1032ull, l3, 136u);
+f16(b, l4 + 864ull, l4 + 1032ull, l2);
+if (get8(b, l4 + 864)) { goto L64; }
+l16 = get8(b, l4 + 868);
+if (l16 & 255u) { goto L62; }
 copy(b, l4 + 753ull, l4 + 601ull, 111u);
 put64(b, l4 + 744, get64(b, l4 + 592));
 put64(b, l4 + 736, get64(b, l4 + 584));
 put64(b, l4 + 728, get64(b, l4 + 576));
 put64(b, l4 + 712, get64(b, l4 + 563));
 put32(b, l4 + 720, get32(b, l4 + 571));
-put64(b, l4 + 528, get64(b, l4 + 1032));
-put64(b, l4 + 536, get64(b, l4 + 1040));
-put64(b, l4 + 544, get64(b, l4 + 1048));
-put64(b, l4 + 552, get64(b, l4 + 1056));
-l7 = get64(b, l4 + 1104);
-l6 = get64(b, l4 + 1096);
-l1 = get64(b, l4 + 1088);
-l3 = get64(b, l4 + 1080);
-l5 = get64(b, l4 + 1064);
-if (!get64(b, l4 + 1024)) { goto L61; }
-rattle_dealloc(b, get64(b, l4 + 1008));
-L61:;
-f22(b, l4 + 536ull);
-if (!l3) { goto L62; }
-rattle_dealloc(b, l5);
-L62:;
-if (!l6) { goto L63; }
-l3 = l1;
-L64:;
-put64(b, l4 + 1416, get64(b, l3 + 16));
-put64(b, l4 + 1408, get64(b, l3 + 8));
-put64(b, l4 + 1400, get64(b, l3));
-l3 = l3 + 24ull;
-f22(b, l4 + 1400ull);
-l6 = l6 + 18446744073709551615ull;
-if (l6 != 0ull) { goto L64; }
-L63:;
-if (!l7) { goto L65; }
-rattle_dealloc(b, l1);
+put64(b, l4 + 528, get64(b, l4 + 1056));
+put64(b, l4 + 536, get64(b, l4 + 1064));
+put64(b, l4 + 544, get64(b, l4 + 1072));
+put64(b, l4 + 552, get64(b, l4 + 1080));
+l7 = get64(b, l4 + 1128);
+l6 = get64(b, l4 + 1120);
+l1 = get64(b, l4 + 1112);
+l3 = get64(b, l4 + 1104);
+l5 = get64(b, l4 + 1088);
+if (!get64(b, l4 + 1048)) { goto L65; }
+rattle_dealloc(b, get64(b, l4 + 1032));
 L65:;
-if (!(u32)(!get64(b, l4 + 1136))) { goto L45; }
-goto L43;
-L48:;
-fill(b, l4 + 1272ull, 0u, 112u);
-L47:;
-if (!l5) { goto L66; }
-rattle_dealloc(b, l8);
-L66:;
-if (l16) { goto L67; }
-rattle_dealloc(b, l12);
-L67:;
-if (!l10) { goto L68; }
-rattle_dealloc(b, l13);
-L68:;
-if (!l6) { goto L69; }
-l3 = l7;
-L70:;
-if (!get8(b, l3)) { goto L71; }
-put64(b, l4 + 1416, get64(b, l3 + 24ull));
-put64(b, l4 + 1408, get64(b, l3 + 16ull));
-put64(b, l4 + 1400, get64(b, l3 + 8ull));
-f187(b, l4 + 1400ull);
-L71:;
-l3 = l3 + 32ull;
-l6 = l6 + 18446744073709551615ull;
-if (l6 != 0ull) { goto L70; }
-L69:;
-if (!l11) { goto L2; }
-rattle_dealloc(b, l7);
-goto L2;
-L46:;
-put64(b, l4 + 528, get64(b, l4 + 1032));
-put64(b, l4 + 536, get64(b, l4 + 1040));
-put64(b, l4 + 544, get64(b, l4 + 1048));
-put64(b, l4 + 552, get64(b, l4 + 1056));
-l7 = get64(b, l4 + 1104);
-l6 = get64(b, l4 + 1096);
-l1 = get64(b, l4 + 1088);
-l3 = get64(b, l4 + 1080);
-l5 = get64(b, l4 + 1064);
-if (!get64(b, l4 + 1024)) { goto L72; }
-rattle_dealloc(b, get64(b, l4 + 1008));
-L72:;
 f22(b, l4 + 536ull);
-if (!l3) { goto L73; }
+if (!l3) { goto L66; }
 rattle_dealloc(b, l5);
-L73:;
-if (!l6) { goto L74; }
+L66:;
+if (!l6) { goto L67; }
 l3 = l1;
-L75:;
-put64(b, l4 + 1416, get64(b, l3 + 16));
-put64(b, l4 + 1408, get64(b, l3 + 8));
-put64(b, l4 + 1400, get64(b, l3));
+L68:;
+put64(b, l4 + 1184, get64(b, l3 + 16));
+put64(b, l4 + 1176, get64(b, l3 + 8));
+put64(b, l4 + 1168, get64(b, l3));
 l3 = l3 + 24ull;
-f22(b, l4 + 1400ull);
+f22(b, l4 + 1168ull);
 l6 = l6 + 18446744073709551615ull;
-if (l6 != 0ull) { goto L75; }
-L74:;
-if (!l7) { goto L76; }
+if (l6 != 0ull) { goto L68; }
+L67:;
+if (!l7) { goto L69; }
 rattle_dealloc(b, l1);
-L76:;
-if (!get64(b, l4 + 1136)) { goto L2; }
-rattle_dealloc(b, get64(b, l4 + 1120));
+L69:;
+if (!(u32)(!get64(b, l4 + 1160))) { goto L63; }
+goto L61;
+L64:;
+put64(b, l4 + 528, get64(b, l4 + 1056));
+put64(b, l4 + 536, get64(b, l4 + 1064));
+put64(b, l4 + 544, get64(b, l4 + 1072));
+put64(b, l4 + 552, get64(b, l4 + 1080));
+l7 = get64(b, l4 + 1128);
+l6 = get64(b, l4 + 1120);
+l1 = get64(b, l4 + 1112);
+l3 = get64(b, l4 + 1104);
+l5 = get64(b, l4 + 1088);
+if (!get64(b, l4 + 1048)) { goto L70; }
+rattle_dealloc(b, get64(b, l4 + 1032));
+L70:;
+f22(b, l4 + 536ull);
+if (!l3) { goto L71; }
+rattle_dealloc(b, l5);
+L71:;
+if (!l6) { goto L72; }
+l3 = l1;
+L73:;
+put64(b, l4 + 1184, get64(b, l3 + 16));
+put64(b, l4 + 1176, get64(b, l3 + 8));
+put64(b, l4 + 1168, get64(b, l3));
+l3 = l3 + 24ull;
+f22(b, l4 + 1168ull);
+l6 = l6 + 18446744073709551615ull;
+if (l6 != 0ull) { goto L73; }
+L72:;
+if (!l7) { goto L74; }
+rattle_dealloc(b, l1);
+L74:;
+if (!get64(b, l4 + 1160)) { goto L2; }
+rattle_dealloc(b, get64(b, l4 + 1144));
 goto L2;
-L45:;
-rattle_dealloc(b, get64(b, l4 + 1120));
-goto L43;
-L44:;
-l2 = get8(b, l4 + 1008);
-l16 = get8(b, l4 + 872);
-copy(b, l4 + 753ull, (l4 + 1008ull) | 1ull, 111u);
-l3 = (l4 + 1008ull) + 112ull;
-put64(b, l4 + 744, get64(b, l3 + 16));
-put64(b, l4 + 736, get64(b, l3 + 8));
-put64(b, l4 + 728, get64(b, l3));
+L63:;
+rattle_dealloc(b, get64(b, l4 + 1144));
+goto L61;
+L62:;
+l2 = get8(b, l4 + 1032);
+l15 = get8(b, l4 + 872);
+copy(b, l4 + 753ull, (l4 + 1032ull) | 1ull, 111u);
+put64(b, l4 + 744, get64(b, l4 + 1160));
+put64(b, l4 + 736, get64(b, l4 + 1152));
+put64(b, l4 + 728, get64(b, l4 + 1144));
 put64(b, l4 + 712, get64(b, l4 + 876));
 put32(b, l4 + 720, get32(b, l4 + 884));
-goto L42;
-L43:;
+goto L60;
+L61:;
 l2 = 0u;
-l16 = 0u;
-L42:;
+l15 = 0u;
+L60:;
 copy(b, l4 + 369ull, l4 + 753ull, 111u);
 put64(b, l4 + 360, get64(b, l4 + 744));
 put64(b, l4 + 352, get64(b, l4 + 736));
 put64(b, l4 + 344, get64(b, l4 + 728));
 put64(b, l4 + 328, get64(b, l4 + 712));
 put32(b, l4 + 336, get32(b, l4 + 720));
-if ((l17 & 255u) != 1u) { goto L8; }
+if ((l16 & 255u) != 1u) { goto L8; }
 L9:;
 copy(b, l4 + 217ull, l4 + 369ull, 111u);
 put64(b, l4 + 208, get64(b, l4 + 360));
@@ -5663,7 +5767,7 @@ put64(b, l4 + 200, get64(b, l4 + 352));
 put64(b, l4 + 192, get64(b, l4 + 344));
 put64(b, l4 + 176, get64(b, l4 + 328));
 put32(b, l4 + 184, get32(b, l4 + 336));
-l17 = 2u;
+l16 = 2u;
 goto L7;
 L8:;
 copy(b, l4 + 217ull, l4 + 65ull, 111u);
@@ -5673,15 +5777,15 @@ put64(b, l4 + 192, get64(b, l4 + 40));
 put64(b, l4 + 176, get64(b, l4 + 27));
 put32(b, l4 + 184, get32(b, l4 + 35));
 l2 = 0u;
-l17 = 1u;
-l16 = 0u;
+l16 = 1u;
+l15 = 0u;
 L7:;
 put8(b, l0, 0u);
 put8(b, l0 + 16ull, l2);
 put32(b, l0 + 12ull, 0u);
-put32(b, l0 + 8ull, l17);
+put32(b, l0 + 8ull, l16);
 copy(b, l0 + 17ull, l4 + 217ull, 111u);
-put32(b, l0 + 152ull, l16);
+put32(b, l0 + 152ull, l15);
 put64(b, l0 + 144ull, get64(b, l4 + 208));
 put64(b, l0 + 136ull, get64(b, l4 + 200));
 put64(b, l0 + 128ull, get64(b, l4 + 192));
@@ -5689,49 +5793,49 @@ put64(b, l0 + 156ull, get64(b, l4 + 176));
 put32(b, l0 + 164ull, get32(b, l4 + 184));
 goto L1;
 L6:;
-if (!get64(b, l4 + 1536)) { goto L5; }
-rattle_dealloc(b, get64(b, l4 + 1520));
+if (!get64(b, l4 + 1776)) { goto L5; }
+rattle_dealloc(b, get64(b, l4 + 1760));
 L5:;
-if (!l12) { goto L3; }
+if (!l11) { goto L3; }
 L4:;
-rattle_dealloc(b, l9);
+rattle_dealloc(b, l12);
 L3:;
-l3 = get64(b, l4 + 1464);
-l1 = get64(b, l4 + 1448);
-l6 = get64(b, l4 + 1440);
-l7 = get64(b, l4 + 1424);
-if (!get64(b, l4 + 1416)) { goto L77; }
-rattle_dealloc(b, get64(b, l4 + 1400));
-L77:;
-if (!l6) { goto L78; }
+l3 = get64(b, l4 + 1704);
+l1 = get64(b, l4 + 1688);
+l6 = get64(b, l4 + 1680);
+l7 = get64(b, l4 + 1664);
+if (!get64(b, l4 + 1656)) { goto L75; }
+rattle_dealloc(b, get64(b, l4 + 1640));
+L75:;
+if (!l6) { goto L76; }
 rattle_dealloc(b, l7);
-L78:;
-if (!l3) { goto L79; }
+L76:;
+if (!l3) { goto L77; }
 rattle_dealloc(b, l1);
-L79:;
-l7 = get64(b, l4 + 1488);
-l1 = get64(b, l4 + 1472);
-l6 = get64(b, l4 + 1480);
-if (!l6) { goto L80; }
+L77:;
+l7 = get64(b, l4 + 1728);
+l1 = get64(b, l4 + 1712);
+l6 = get64(b, l4 + 1720);
+if (!l6) { goto L78; }
 l3 = l1;
-L81:;
-if (!get8(b, l3)) { goto L82; }
-put64(b, l4 + 1536, get64(b, l3 + 24ull));
-put64(b, l4 + 1528, get64(b, l3 + 16ull));
-put64(b, l4 + 1520, get64(b, l3 + 8ull));
-f187(b, l4 + 1520ull);
-L82:;
+L79:;
+if (!get8(b, l3)) { goto L80; }
+put64(b, l4 + 1776, get64(b, l3 + 24ull));
+put64(b, l4 + 1768, get64(b, l3 + 16ull));
+put64(b, l4 + 1760, get64(b, l3 + 8ull));
+f186(b, l4 + 1760ull);
+L80:;
 l3 = l3 + 32ull;
 l6 = l6 + 18446744073709551615ull;
-if (l6 != 0ull) { goto L81; }
-L80:;
+if (l6 != 0ull) { goto L79; }
+L78:;
 if (!l7) { goto L2; }
 rattle_dealloc(b, l1);
 L2:;
 put8(b, l0, 1u);
 fill(b, l0 + 8ull, 0u, 160u);
 L1:;
-SP = l4 + 1664ull;
+SP = l4 + 1904ull;
 }
 
 FN void f18(B b, u64 l0, u32 l1, u32 l2) {
@@ -6039,7 +6143,7 @@ put64(b, l6 + 40, 0ull);
 put64(b, l6 + 32, 0ull);
 put64(b, l6 + 24, 0ull);
 put64(b, l6 + 16, 0ull);
-f180(b, l6 + 48ull, l1, l30);
+f179(b, l6 + 48ull, l1, l30);
 if (get8(b, l6 + 48)) { goto L8; }
 copy(b, l6 + 176ull, l6 + 56ull, 120u);
 l7 = 0ull;
@@ -6054,7 +6158,7 @@ put64(b, l6 + 1264, 0ull);
 put64(b, l6 + 1272, 0ull);
 put64(b, l6 + 1240, l6 + 2616ull);
 if (!l4) { goto L10; }
-t0 = f374(b, l6 + 1240ull, l3, l4);
+t0 = f372(b, l6 + 1240ull, l3, l4);
 if (t0 & 255u) { goto L11; }
 l2 = get64(b, l6 + 1256);
 l1 = get64(b, l6 + 1240);
@@ -6178,7 +6282,7 @@ put64(b, l6 + 384, 0ull);
 put64(b, l6 + 376, 0ull);
 put64(b, l6 + 360, 0ull);
 put32(b, l6 + 368, 0u);
-f193(b, l6 + 408ull, l6 + 176ull, l27, l28);
+f192(b, l6 + 408ull, l6 + 176ull, l27, l28);
 l27 = 1u;
 l26 = 0u;
 if (get8(b, l6 + 408)) { goto L2; }
@@ -6317,7 +6421,7 @@ put64(b, l6 + 968, 0ull);
 put64(b, l6 + 976, 0ull);
 put64(b, l6 + 984, 0ull);
 put64(b, l6 + 952, l6 + 2616ull);
-t3 = f374(b, l6 + 952ull, l3, l4);
+t3 = f372(b, l6 + 952ull, l3, l4);
 if (t3 & 255u) { goto L25; }
 if (l5 != l12) { goto L26; }
 if (!l12) { goto L24; }
@@ -6342,7 +6446,7 @@ put64(b, l6 + 1968, l6 + 2616ull);
 put64(b, l6 + 1256, l6 + 1928ull);
 put64(b, l6 + 1248, l6 + 992ull);
 put64(b, l6 + 1152, l6 + 2616ull);
-t4 = f375(b, l6 + 952ull, l6 + 1152ull, l6 + 1240ull, l5, 0u, l13 + (l11 * 152ull));
+t4 = f373(b, l6 + 952ull, l6 + 1152ull, l6 + 1240ull, l5, 0u, l13 + (l11 * 152ull));
 l31 = t4;
 if (!get64(b, l6 + 1168)) { goto L28; }
 rattle_dealloc(b, get64(b, l6 + 1152));
@@ -6409,7 +6513,7 @@ L38:;
 put64(b, l6 + 832, get64(b, l6 + 1016));
 put64(b, l6 + 824, get64(b, l6 + 1008));
 put64(b, l6 + 816, get64(b, l6 + 1000));
-f376(b, l6 + 816ull);
+f374(b, l6 + 816ull);
 if (!get64(b, l6 + 1040)) { goto L39; }
 rattle_dealloc(b, get64(b, l6 + 1024));
 L39:;
@@ -6431,7 +6535,7 @@ L41:;
 put64(b, l6 + 856, get64(b, l6 + 1016));
 put64(b, l6 + 848, get64(b, l6 + 1008));
 put64(b, l6 + 840, get64(b, l6 + 1000));
-f376(b, l6 + 840ull);
+f374(b, l6 + 840ull);
 if (!get64(b, l6 + 1040)) { goto L42; }
 rattle_dealloc(b, get64(b, l6 + 1024));
 L42:;
@@ -6460,14 +6564,14 @@ L43:;
 put64(b, l6 + 808, get64(b, l6 + 1016));
 put64(b, l6 + 800, get64(b, l6 + 1008));
 put64(b, l6 + 792, get64(b, l6 + 1000));
-f376(b, l6 + 792ull);
+f374(b, l6 + 792ull);
 if (!get64(b, l6 + 1040)) { goto L45; }
 rattle_dealloc(b, get64(b, l6 + 1024));
 L45:;
 if (!get64(b, l6 + 1064)) { goto L46; }
 rattle_dealloc(b, get64(b, l6 + 1048));
 L46:;
-f377(b, l6 + 760ull, l6 + 600ull, l31, l5);
+f375(b, l6 + 760ull, l6 + 600ull, l31, l5);
 l7 = get64(b, l6 + 784);
 l31 = get8(b, l6 + 776);
 l26 = get8(b, l6 + 768);
@@ -6487,7 +6591,7 @@ put64(b, l6 + 1928, get64(b, l6 + 312));
 L47:;
 put32(b, l6 + 368, get32(b, l6 + 1936));
 put64(b, l6 + 360, get64(b, l6 + 1928));
-f194(b, l6 + 376ull, l6 + 360ull, l6 + 584ull);
+f193(b, l6 + 376ull, l6 + 360ull, l6 + 584ull);
 l7 = get64(b, l6 + 400);
 l31 = get8(b, l6 + 392);
 l26 = get8(b, l6 + 384);
@@ -6660,7 +6764,7 @@ if (!l8) { goto L76; }
 rattle_dealloc(b, get64(b, l6 + 1240));
 L76:;
 if (get8(b, l6 + 1264) != 1u) { goto L4; }
-f378(b, get64(b, l6 + 1272));
+f376(b, get64(b, l6 + 1272));
 L4:;
 l7 = 0ull;
 l26 = 0u;
@@ -6668,7 +6772,7 @@ l27 = 1u;
 l31 = 0u;
 goto L2;
 L3:;
-f377(b, l6 + 328ull, l6 + 176ull, l31, l5);
+f375(b, l6 + 328ull, l6 + 176ull, l31, l5);
 l7 = get64(b, l6 + 352);
 l31 = get8(b, l6 + 344);
 l26 = get8(b, l6 + 336);
@@ -6810,142 +6914,186 @@ L8:;
 }
 
 FN void f23(B b, u64 l0, u64 l1, u32 l2, u64 l3, u64 l4, u32 l5, u32 l6) {
-u32 l30 = 0, l31 = 0, l32 = 0, l33 = 0, l34 = 0, l35 = 0;
-u64 l7 = 0, l8 = 0, l9 = 0, l10 = 0, l11 = 0, l12 = 0, l13 = 0, l14 = 0, l15 = 0, l16 = 0, l17 = 0, l18 = 0, l19 = 0, l20 = 0, l21 = 0, l22 = 0, l23 = 0, l24 = 0, l25 = 0, l26 = 0, l27 = 0, l28 = 0, l29 = 0;
-l7 = SP - 800ull;
+u32 l31 = 0, l32 = 0, l33 = 0, l34 = 0, l35 = 0, l36 = 0;
+u64 l7 = 0, l8 = 0, l9 = 0, l10 = 0, l11 = 0, l12 = 0, l13 = 0, l14 = 0, l15 = 0, l16 = 0, l17 = 0, l18 = 0, l19 = 0, l20 = 0, l21 = 0, l22 = 0, l23 = 0, l24 = 0, l25 = 0, l26 = 0, l27 = 0, l28 = 0, l29 = 0, l30 = 0;
+l7 = SP - 640ull;
 SP = l7;
-put64(b, l7 + 136, get64(b, l3 + 4ull));
-put32(b, l7 + 144, get32(b, l3 + 12ull));
-put64(b, l7 + 120, get64(b, l4 + 4ull));
-put32(b, l7 + 128, get32(b, l4 + 12ull));
-l30 = get8(b, l3);
-l31 = get8(b, l4);
-copy(b, l7 + 536ull, l1, 112u);
-l32 = 0u;
-fill(b, l7 + 344ull, 0u, 128u);
-f32(b, l7 + 344ull, l7 + 536ull, l2);
-l33 = get8(b, l7 + 356);
-l34 = get32(b, l7 + 352);
-l35 = get8(b, l7 + 348);
-l2 = get8(b, l7 + 344);
-copy(b, l7 + 5ull, l7 + 357ull, 115u);
+put64(b, l7 + 120, get64(b, l3 + 4ull));
+put32(b, l7 + 128, get32(b, l3 + 12ull));
+put64(b, l7 + 104, get64(b, l4 + 4ull));
+put32(b, l7 + 112, get32(b, l4 + 12ull));
+l31 = get8(b, l3);
+l32 = get8(b, l4);
+copy(b, l7 + 376ull, l1, 112u);
+l33 = 0u;
+fill(b, l7 + 184ull, 0u, 128u);
+f32(b, l7 + 184ull, l7 + 376ull, l2);
+put64(b, l7 + 40, get64(b, l7 + 197));
+put64(b, l7 + 48, get64(b, l7 + 205));
+put64(b, l7 + 56, get64(b, l7 + 213));
+put64(b, l7 + 64, get64(b, l7 + 221));
+put64(b, l7 + 72, get64(b, l7 + 229));
+put64(b, l7 + 80, get64(b, l7 + 237));
+put64(b, l7 + 88, get64(b, l7 + 245));
+put32(b, l7 + 95, get32(b, l7 + 252));
+l34 = get8(b, l7 + 196);
+l35 = get32(b, l7 + 192);
+l36 = get8(b, l7 + 188);
+l2 = get8(b, l7 + 184);
+put64(b, l7, get64(b, l7 + 264));
+put64(b, l7 + 8, get64(b, l7 + 272));
+put64(b, l7 + 16, get64(b, l7 + 280));
+put64(b, l7 + 24, get64(b, l7 + 288));
+put64(b, l7 + 32, get64(b, l7 + 296));
 if (l2) { goto L2; }
-put64(b, l7 + 264, 0ull);
-put64(b, l7 + 272, 0ull);
-put64(b, l7 + 280, 0ull);
-put64(b, l7 + 288, 0ull);
-fill(b, l7 + 152ull, 0u, 112u);
-if (l30 & 255u) { goto L3; }
-put8(b, l7 + 156, l33);
-put32(b, l7 + 152, l34);
-copy(b, (l7 + 152ull) | 5ull, l7 + 5ull, 107u);
-f40(b, l7 + 264ull, l7 + 152ull);
-l3 = get64(b, l7 + 288);
-l32 = get8(b, l7 + 280);
-l2 = get8(b, l7 + 272);
-l30 = get8(b, l7 + 264);
+l3 = get64(b, l7 + 256);
+if (l31 & 255u) { goto L3; }
+put64(b, l7 + 376, 0ull);
+put64(b, l7 + 384, 0ull);
+put64(b, l7 + 392, 0ull);
+put64(b, l7 + 400, 0ull);
+put8(b, l7 + 188, l34);
+put32(b, l7 + 184, l35);
+put64(b, l7 + 189, get64(b, l7 + 40));
+put64(b, l7 + 197, get64(b, l7 + 48));
+put64(b, l7 + 205, get64(b, l7 + 56));
+put64(b, l7 + 213, get64(b, l7 + 64));
+put64(b, l7 + 221, get64(b, l7 + 72));
+put64(b, l7 + 229, get64(b, l7 + 80));
+put64(b, l7 + 237, get64(b, l7 + 88));
+put32(b, l7 + 244, get32(b, l7 + 95));
+put64(b, l7 + 256, get64(b, l7));
+put64(b, l7 + 264, get64(b, l7 + 8));
+put64(b, l7 + 272, get64(b, l7 + 16));
+put64(b, l7 + 280, get64(b, l7 + 24));
+put64(b, l7 + 288, get64(b, l7 + 32));
+put64(b, l7 + 248, l3);
+f40(b, l7 + 376ull, l7 + 184ull, (u32)(l3 > 9999ull));
+l8 = get64(b, l7 + 400);
+l33 = get8(b, l7 + 392);
+l2 = get8(b, l7 + 384);
+l31 = get8(b, l7 + 376);
 goto L1;
 L3:;
-if ((l31 & 255u) != 1u) { goto L5; }
-put32(b, l7 + 304, get32(b, l7 + 128));
-put64(b, l7 + 296, get64(b, l7 + 120));
+l4 = get64(b, l7 + 304);
+if ((l32 & 255u) != 1u) { goto L5; }
+put32(b, l7 + 144, get32(b, l7 + 112));
+put64(b, l7 + 136, get64(b, l7 + 104));
 goto L4;
 L5:;
-put32(b, l7 + 304, get32(b, l7 + 144));
-put64(b, l7 + 296, get64(b, l7 + 136));
+put32(b, l7 + 144, get32(b, l7 + 128));
+put64(b, l7 + 136, get64(b, l7 + 120));
 L4:;
-fill(b, l7 + 344ull, 0u, 176u);
-put64(b, l7 + 336, 0ull);
-put64(b, l7 + 328, 0ull);
-put64(b, l7 + 320, 0ull);
-put64(b, l7 + 312, 0ull);
-put8(b, l7 + 540, l33);
-put32(b, l7 + 536, l34);
-copy(b, (l7 + 536ull) | 5ull, l7 + 5ull, 115u);
-f193(b, l7 + 344ull, l7 + 536ull, l5, l6);
-if (get8(b, l7 + 344)) { goto L7; }
-l1 = get64(b, l7 + 368);
-l32 = get32(b, l7 + 364);
-l2 = get8(b, l7 + 360);
-if (get8(b, l7 + 352)) { goto L6; }
-l8 = get64(b, l7 + 512);
-l9 = get64(b, l7 + 496);
-l10 = get64(b, l7 + 488);
-l11 = get64(b, l7 + 480);
-l12 = get64(b, l7 + 472);
-l13 = get64(b, l7 + 632);
-l4 = get64(b, l7 + 624);
-l14 = get64(b, l7 + 616);
-l3 = get64(b, l7 + 608);
-l15 = get64(b, l7 + 592);
-l16 = get64(b, l7 + 536);
-l17 = get64(b, l7 + 552);
-put64(b, l7 + 680, get64(b, l7 + 584));
-put64(b, l7 + 672, get64(b, l7 + 576));
-put64(b, l7 + 664, get64(b, l7 + 568));
-put64(b, l7 + 656, get64(b, l7 + 560));
-if (!l17) { goto L8; }
-rattle_dealloc(b, l16);
+fill(b, l7 + 184ull, 0u, 176u);
+put64(b, l7 + 176, 0ull);
+put64(b, l7 + 168, 0ull);
+put64(b, l7 + 160, 0ull);
+put64(b, l7 + 152, 0ull);
+put8(b, l7 + 380, l34);
+put32(b, l7 + 376, l35);
+put64(b, l7 + 381, get64(b, l7 + 40));
+put64(b, l7 + 389, get64(b, l7 + 48));
+put64(b, l7 + 397, get64(b, l7 + 56));
+put64(b, l7 + 405, get64(b, l7 + 64));
+put64(b, l7 + 413, get64(b, l7 + 72));
+put64(b, l7 + 421, get64(b, l7 + 80));
+put64(b, l7 + 429, get64(b, l7 + 88));
+put32(b, l7 + 436, get32(b, l7 + 95));
+put64(b, l7 + 440, l3);
+put64(b, l7 + 488, l4);
+put64(b, l7 + 448, get64(b, l7));
+put64(b, l7 + 456, get64(b, l7 + 8));
+put64(b, l7 + 464, get64(b, l7 + 16));
+put64(b, l7 + 472, get64(b, l7 + 24));
+put64(b, l7 + 480, get64(b, l7 + 32));
+f192(b, l7 + 184ull, l7 + 376ull, l5, l6);
+if (get8(b, l7 + 184)) { goto L7; }
+l1 = get64(b, l7 + 208);
+l33 = get32(b, l7 + 204);
+l2 = get8(b, l7 + 200);
+if (get8(b, l7 + 192)) { goto L6; }
+l9 = get64(b, l7 + 352);
+l10 = get64(b, l7 + 336);
+l11 = get64(b, l7 + 328);
+l12 = get64(b, l7 + 320);
+l13 = get64(b, l7 + 312);
+l14 = get64(b, l7 + 472);
+l4 = get64(b, l7 + 464);
+l15 = get64(b, l7 + 456);
+l3 = get64(b, l7 + 448);
+l16 = get64(b, l7 + 432);
+l17 = get64(b, l7 + 376);
+l18 = get64(b, l7 + 392);
+put64(b, l7 + 520, get64(b, l7 + 424));
+put64(b, l7 + 512, get64(b, l7 + 416));
+put64(b, l7 + 504, get64(b, l7 + 408));
+put64(b, l7 + 496, get64(b, l7 + 400));
+if (!l18) { goto L8; }
+rattle_dealloc(b, l17);
 L8:;
-f22(b, l7 + 664ull);
+f22(b, l7 + 504ull);
 if (!l3) { goto L9; }
-rattle_dealloc(b, l15);
+rattle_dealloc(b, l16);
 L9:;
 if (!l4) { goto L10; }
-l3 = l14;
+l3 = l15;
 L11:;
-put64(b, l7 + 784, get64(b, l3 + 16));
-put64(b, l7 + 776, get64(b, l3 + 8));
-put64(b, l7 + 768, get64(b, l3));
+put64(b, l7 + 624, get64(b, l3 + 16));
+put64(b, l7 + 616, get64(b, l3 + 8));
+put64(b, l7 + 608, get64(b, l3));
 l3 = l3 + 24ull;
-f22(b, l7 + 768ull);
+f22(b, l7 + 608ull);
 l4 = l4 + 18446744073709551615ull;
 if (l4 != 0ull) { goto L11; }
 L10:;
-l4 = l7 + 376ull;
-l3 = l7 + 361ull;
-if (!l13) { goto L12; }
-rattle_dealloc(b, l14);
+l4 = l7 + 216ull;
+l3 = l7 + 201ull;
+if (!l14) { goto L12; }
+rattle_dealloc(b, l15);
 L12:;
-l18 = 0ull;
-put64(b, l7 + 768, 0ull);
-put64(b, l7 + 776, 0ull);
-put64(b, l7 + 784, 0ull);
-put64(b, l7 + 792, 0ull);
-put8(b, l7 + 656, l2);
-put64(b, l7 + 664, l1);
-put32(b, l7 + 660, l32);
-put16(b, l7 + 657, get16(b, l3));
-put8(b, l7 + 659, get8(b, l3 + 2));
-copy(b, l7 + 672ull, l4, 96u);
-f40(b, l7 + 768ull, l7 + 656ull);
-if (!l11) { goto L13; }
+put8(b, l7 + 496, l2);
+put64(b, l7 + 504, l1);
+put32(b, l7 + 500, l33);
+put16(b, l7 + 497, get16(b, l3));
+put8(b, l7 + 499, get8(b, l3 + 2));
+copy(b, l7 + 512ull, l4, 96u);
+l19 = 0ull;
+put64(b, l7 + 632, 0ull);
+put64(b, l7 + 624, 0ull);
+put64(b, l7 + 616, 0ull);
+put64(b, l7 + 608, 0ull);
+f40(b, l7 + 608ull, l7 + 496ull, 1u);
+l8 = get64(b, l7 + 632);
+l33 = get8(b, l7 + 624);
+l2 = get8(b, l7 + 616);
+l31 = get8(b, l7 + 608);
+if (!l12) { goto L13; }
 L14:;
-l3 = l12 + (l18 * 152ull);
-l19 = get64(b, l3 + 144);
-l14 = get64(b, l3 + 136);
-l20 = get64(b, l3 + 128);
-l21 = get64(b, l3 + 120);
-l22 = get64(b, l3 + 104);
-l23 = get64(b, l3 + 96);
-l24 = get64(b, l3 + 80);
-l25 = get64(b, l3 + 72);
-l26 = get64(b, l3 + 56);
-l27 = get64(b, l3 + 48);
-l28 = get64(b, l3 + 32);
-l29 = get64(b, l3 + 24);
-l15 = get64(b, l3 + 8);
-l16 = get64(b, l3 + 16);
-if (!l16) { goto L15; }
+l3 = l13 + (l19 * 152ull);
+l20 = get64(b, l3 + 144);
+l15 = get64(b, l3 + 136);
+l21 = get64(b, l3 + 128);
+l22 = get64(b, l3 + 120);
+l23 = get64(b, l3 + 104);
+l24 = get64(b, l3 + 96);
+l25 = get64(b, l3 + 80);
+l26 = get64(b, l3 + 72);
+l27 = get64(b, l3 + 56);
+l28 = get64(b, l3 + 48);
+l29 = get64(b, l3 + 32);
+l30 = get64(b, l3 + 24);
+l16 = get64(b, l3 + 8);
+l17 = get64(b, l3 + 16);
+if (!l17) { goto L15; }
 l1 = 0ull;
 L16:;
-l3 = l15 + (l1 * 40ull);
+l3 = l16 + (l1 * 40ull);
 if (!get8(b, l3)) { goto L17; }
-l17 = get64(b, l3 + 32ull);
-l13 = get64(b, l3 + 16ull);
+l18 = get64(b, l3 + 32ull);
+l14 = get64(b, l3 + 16ull);
 l4 = get64(b, l3 + 24ull);
 if (!l4) { goto L18; }
-l3 = l13 + 24ull;
+l3 = l14 + 24ull;
 L19:;
 if (!get64(b, l3)) { goto L20; }
 rattle_dealloc(b, get64(b, l3 + 18446744073709551600ull));
@@ -6954,154 +7102,149 @@ l3 = l3 + 32ull;
 l4 = l4 + 18446744073709551615ull;
 if (l4 != 0ull) { goto L19; }
 L18:;
-if (!l17) { goto L17; }
-rattle_dealloc(b, l13);
+if (!l18) { goto L17; }
+rattle_dealloc(b, l14);
 L17:;
 l1 = l1 + 1ull;
-if (l1 != l16) { goto L16; }
+if (l1 != l17) { goto L16; }
 L15:;
-if (!l29) { goto L21; }
-rattle_dealloc(b, l15);
+if (!l30) { goto L21; }
+rattle_dealloc(b, l16);
 L21:;
-if (!l27) { goto L22; }
-rattle_dealloc(b, l28);
+if (!l28) { goto L22; }
+rattle_dealloc(b, l29);
 L22:;
-if (!l25) { goto L23; }
-rattle_dealloc(b, l26);
+if (!l26) { goto L23; }
+rattle_dealloc(b, l27);
 L23:;
-if (!l23) { goto L24; }
-rattle_dealloc(b, l24);
+if (!l24) { goto L24; }
+rattle_dealloc(b, l25);
 L24:;
-if (!l21) { goto L25; }
-rattle_dealloc(b, l22);
+if (!l22) { goto L25; }
+rattle_dealloc(b, l23);
 L25:;
-if (!l14) { goto L26; }
-l3 = l20 + 24ull;
+if (!l15) { goto L26; }
+l3 = l21 + 24ull;
 L27:;
 if (!get64(b, l3)) { goto L28; }
 rattle_dealloc(b, get64(b, l3 + 18446744073709551600ull));
 L28:;
 l3 = l3 + 32ull;
-l14 = l14 + 18446744073709551615ull;
-if (l14 != 0ull) { goto L27; }
+l15 = l15 + 18446744073709551615ull;
+if (l15 != 0ull) { goto L27; }
 L26:;
-if (!l19) { goto L29; }
-rattle_dealloc(b, l20);
+if (!l20) { goto L29; }
+rattle_dealloc(b, l21);
 L29:;
-l18 = l18 + 1ull;
-if (l18 != l11) { goto L14; }
+l19 = l19 + 1ull;
+if (l19 != l12) { goto L14; }
 L13:;
-if (!l10) { goto L30; }
-rattle_dealloc(b, l12);
+if (!l11) { goto L30; }
+rattle_dealloc(b, l13);
 L30:;
-if (!l8) { goto L31; }
-rattle_dealloc(b, l9);
-L31:;
-l3 = get64(b, l7 + 792);
-l32 = get8(b, l7 + 784);
-l2 = get8(b, l7 + 776);
-l30 = get8(b, l7 + 768);
+if (!l9) { goto L1; }
+rattle_dealloc(b, l10);
 goto L1;
 L7:;
-put64(b, l7 + 656, get64(b, l7 + 560));
-put64(b, l7 + 664, get64(b, l7 + 568));
-put64(b, l7 + 672, get64(b, l7 + 576));
-put64(b, l7 + 680, get64(b, l7 + 584));
-l14 = get64(b, l7 + 632);
-l4 = get64(b, l7 + 624);
-l1 = get64(b, l7 + 616);
-l3 = get64(b, l7 + 608);
-l13 = get64(b, l7 + 592);
-if (!get64(b, l7 + 552)) { goto L32; }
-rattle_dealloc(b, get64(b, l7 + 536));
+put64(b, l7 + 496, get64(b, l7 + 400));
+put64(b, l7 + 504, get64(b, l7 + 408));
+put64(b, l7 + 512, get64(b, l7 + 416));
+put64(b, l7 + 520, get64(b, l7 + 424));
+l15 = get64(b, l7 + 472);
+l4 = get64(b, l7 + 464);
+l1 = get64(b, l7 + 456);
+l3 = get64(b, l7 + 448);
+l14 = get64(b, l7 + 432);
+if (!get64(b, l7 + 392)) { goto L31; }
+rattle_dealloc(b, get64(b, l7 + 376));
+L31:;
+f22(b, l7 + 504ull);
+if (!l3) { goto L32; }
+rattle_dealloc(b, l14);
 L32:;
-f22(b, l7 + 664ull);
-if (!l3) { goto L33; }
-rattle_dealloc(b, l13);
-L33:;
-if (!l4) { goto L34; }
+if (!l4) { goto L33; }
 l3 = l1;
-L35:;
-put64(b, l7 + 784, get64(b, l3 + 16));
-put64(b, l7 + 776, get64(b, l3 + 8));
-put64(b, l7 + 768, get64(b, l3));
-l3 = l3 + 24ull;
-f22(b, l7 + 768ull);
-l4 = l4 + 18446744073709551615ull;
-if (l4 != 0ull) { goto L35; }
 L34:;
-l30 = 1u;
-l32 = 0u;
-l3 = 0ull;
-if (!(u32)(!l14)) { goto L36; }
+put64(b, l7 + 624, get64(b, l3 + 16));
+put64(b, l7 + 616, get64(b, l3 + 8));
+put64(b, l7 + 608, get64(b, l3));
+l3 = l3 + 24ull;
+f22(b, l7 + 608ull);
+l4 = l4 + 18446744073709551615ull;
+if (l4 != 0ull) { goto L34; }
+L33:;
+l8 = 0ull;
 l2 = 0u;
+l31 = 1u;
+if (!(u32)(!l15)) { goto L35; }
+l33 = 0u;
 goto L1;
-L36:;
+L35:;
 rattle_dealloc(b, l1);
-l2 = 0u;
+l33 = 0u;
 goto L1;
 L6:;
-put64(b, l7 + 528, l1);
-put32(b, l7 + 524, l32);
-put32(b, l7 + 520, l2);
-l17 = get64(b, l7 + 536);
-l15 = get64(b, l7 + 592);
-l3 = get64(b, l7 + 608);
-l1 = get64(b, l7 + 616);
-l4 = get64(b, l7 + 624);
-l14 = get64(b, l7 + 632);
-l13 = get64(b, l7 + 552);
-put64(b, l7 + 680, get64(b, l7 + 584));
-put64(b, l7 + 672, get64(b, l7 + 576));
-put64(b, l7 + 664, get64(b, l7 + 568));
-put64(b, l7 + 656, get64(b, l7 + 560));
-if (!l13) { goto L37; }
-rattle_dealloc(b, l17);
+put64(b, l7 + 368, l1);
+put32(b, l7 + 364, l33);
+put32(b, l7 + 360, l2);
+l18 = get64(b, l7 + 376);
+l16 = get64(b, l7 + 432);
+l3 = get64(b, l7 + 448);
+l1 = get64(b, l7 + 456);
+l4 = get64(b, l7 + 464);
+l15 = get64(b, l7 + 472);
+l14 = get64(b, l7 + 392);
+put64(b, l7 + 520, get64(b, l7 + 424));
+put64(b, l7 + 512, get64(b, l7 + 416));
+put64(b, l7 + 504, get64(b, l7 + 408));
+put64(b, l7 + 496, get64(b, l7 + 400));
+if (!l14) { goto L36; }
+rattle_dealloc(b, l18);
+L36:;
+f22(b, l7 + 504ull);
+if (!l3) { goto L37; }
+rattle_dealloc(b, l16);
 L37:;
-f22(b, l7 + 664ull);
-if (!l3) { goto L38; }
-rattle_dealloc(b, l15);
-L38:;
-if (!l4) { goto L39; }
+if (!l4) { goto L38; }
 l3 = l1;
-L40:;
-put64(b, l7 + 784, get64(b, l3 + 16));
-put64(b, l7 + 776, get64(b, l3 + 8));
-put64(b, l7 + 768, get64(b, l3));
-l3 = l3 + 24ull;
-f22(b, l7 + 768ull);
-l4 = l4 + 18446744073709551615ull;
-if (l4 != 0ull) { goto L40; }
 L39:;
-if (!l14) { goto L41; }
+put64(b, l7 + 624, get64(b, l3 + 16));
+put64(b, l7 + 616, get64(b, l3 + 8));
+put64(b, l7 + 608, get64(b, l3));
+l3 = l3 + 24ull;
+f22(b, l7 + 608ull);
+l4 = l4 + 18446744073709551615ull;
+if (l4 != 0ull) { goto L39; }
+L38:;
+if (!l15) { goto L40; }
 rattle_dealloc(b, l1);
-L41:;
-f194(b, l7 + 312ull, l7 + 296ull, l7 + 520ull);
-l3 = get64(b, l7 + 336);
-l32 = get8(b, l7 + 328);
-l2 = get8(b, l7 + 320);
-l30 = get8(b, l7 + 312);
+L40:;
+f193(b, l7 + 152ull, l7 + 136ull, l7 + 360ull);
+l8 = get64(b, l7 + 176);
+l33 = get8(b, l7 + 168);
+l2 = get8(b, l7 + 160);
+l31 = get8(b, l7 + 152);
 goto L1;
 L2:;
-l3 = 0ull;
-put64(b, l7 + 368, 0ull);
-put64(b, l7 + 360, 0ull);
-put64(b, l7 + 352, 0ull);
-put64(b, l7 + 344, 0ull);
-l30 = 1u;
+l8 = 0ull;
+put64(b, l7 + 208, 0ull);
+put64(b, l7 + 200, 0ull);
+put64(b, l7 + 192, 0ull);
+put64(b, l7 + 184, 0ull);
+l31 = 1u;
 l2 = 0u;
-if (l35 & 255u) { goto L1; }
-f18(b, l7 + 344ull, l34, l33);
-l3 = get64(b, l7 + 368);
-l32 = get8(b, l7 + 360);
-l2 = get8(b, l7 + 352);
-l30 = get8(b, l7 + 344);
+if (l36 & 255u) { goto L1; }
+f18(b, l7 + 184ull, l35, l34);
+l8 = get64(b, l7 + 208);
+l33 = get8(b, l7 + 200);
+l2 = get8(b, l7 + 192);
+l31 = get8(b, l7 + 184);
 L1:;
-put8(b, l0, l30);
-put64(b, l0 + 24ull, l3);
+put8(b, l0, l31);
+put64(b, l0 + 24ull, l8);
 put8(b, l0 + 8ull, l2);
-put64(b, l0 + 16ull, ((u64)l32) & 255ull);
-SP = l7 + 800ull;
+put64(b, l0 + 16ull, ((u64)l33) & 255ull);
+SP = l7 + 640ull;
 }
 
 FN void f24(B b, u64 l0, u64 l1, u32 l2) {
@@ -9229,132 +9372,132 @@ L5:;
 SP = l2 + 112ull;
 }
 
-FN void f40(B b, u64 l0, u64 l1) {
-u32 l10 = 0, l11 = 0, l12 = 0;
-u64 l2 = 0, l3 = 0, l4 = 0, l5 = 0, l6 = 0, l7 = 0, l8 = 0, l9 = 0;
-l2 = SP - 704ull;
-SP = l2;
-copy(b, l2 + 8ull, l1, 112u);
-if (get64(b, l2 + 72) < 10000ull) { goto L2; }
-copy(b, l2 + 120ull, l1, 112u);
-put64(b, l2 + 232, 0ull);
-put64(b, l2 + 240, 0ull);
-put64(b, l2 + 248, 0ull);
-fill(b, l2 + 312ull, 0u, 392u);
-f152(b, l2 + 312ull, l2 + 120ull);
-l3 = get64(b, l2 + 120);
-l1 = get64(b, l2 + 136);
-put64(b, l2 + 280, get64(b, l2 + 168));
-put64(b, l2 + 272, get64(b, l2 + 160));
-put64(b, l2 + 264, get64(b, l2 + 152));
-put64(b, l2 + 256, get64(b, l2 + 144));
-l4 = get64(b, l2 + 216);
-l5 = get64(b, l2 + 208);
-l6 = get64(b, l2 + 200);
-l7 = get64(b, l2 + 192);
-l8 = get64(b, l2 + 176);
+FN void f40(B b, u64 l0, u64 l1, u32 l2) {
+u32 l11 = 0, l12 = 0;
+u64 l3 = 0, l4 = 0, l5 = 0, l6 = 0, l7 = 0, l8 = 0, l9 = 0, l10 = 0;
+l3 = SP - 704ull;
+SP = l3;
+copy(b, l3 + 8ull, l1, 112u);
+if (!l2) { goto L2; }
+copy(b, l3 + 120ull, l1, 112u);
+put64(b, l3 + 232, 0ull);
+put64(b, l3 + 240, 0ull);
+put64(b, l3 + 248, 0ull);
+fill(b, l3 + 312ull, 0u, 392u);
+f152(b, l3 + 312ull, l3 + 120ull);
+l4 = get64(b, l3 + 120);
+l1 = get64(b, l3 + 136);
+put64(b, l3 + 280, get64(b, l3 + 168));
+put64(b, l3 + 272, get64(b, l3 + 160));
+put64(b, l3 + 264, get64(b, l3 + 152));
+put64(b, l3 + 256, get64(b, l3 + 144));
+l5 = get64(b, l3 + 216);
+l6 = get64(b, l3 + 208);
+l7 = get64(b, l3 + 200);
+l8 = get64(b, l3 + 192);
+l9 = get64(b, l3 + 176);
 if (!l1) { goto L3; }
-rattle_dealloc(b, l3);
+rattle_dealloc(b, l4);
 L3:;
-f153(b, l2 + 264ull);
-if (!l7) { goto L4; }
-rattle_dealloc(b, l8);
+f153(b, l3 + 264ull);
+if (!l8) { goto L4; }
+rattle_dealloc(b, l9);
 L4:;
-if (!l5) { goto L5; }
-l1 = l6;
+if (!l6) { goto L5; }
+l1 = l7;
 L6:;
-put64(b, l2 + 304, get64(b, l1 + 16));
-put64(b, l2 + 296, get64(b, l1 + 8));
-put64(b, l2 + 288, get64(b, l1));
+put64(b, l3 + 304, get64(b, l1 + 16));
+put64(b, l3 + 296, get64(b, l1 + 8));
+put64(b, l3 + 288, get64(b, l1));
 l1 = l1 + 24ull;
-f153(b, l2 + 288ull);
-l5 = l5 + 18446744073709551615ull;
-if (l5 != 0ull) { goto L6; }
+f153(b, l3 + 288ull);
+l6 = l6 + 18446744073709551615ull;
+if (l6 != 0ull) { goto L6; }
 L5:;
-if (!l4) { goto L7; }
-rattle_dealloc(b, l6);
+if (!l5) { goto L7; }
+rattle_dealloc(b, l7);
 L7:;
-if (get8(b, l2 + 312)) { goto L8; }
-f154(b, l2 + 232ull, l2 + 320ull);
-l6 = get64(b, l2 + 248);
-l10 = get8(b, l2 + 240);
-l11 = get8(b, l2 + 233);
-l12 = get8(b, l2 + 232);
+if (get8(b, l3 + 312)) { goto L8; }
+f154(b, l3 + 232ull, l3 + 320ull);
+l7 = get64(b, l3 + 248);
+l2 = get8(b, l3 + 240);
+l11 = get8(b, l3 + 233);
+l12 = get8(b, l3 + 232);
 goto L1;
 L8:;
-l6 = 0ull;
-l10 = 0u;
+l7 = 0ull;
+l2 = 0u;
 l12 = 1u;
-l11 = get8(b, l2 + 313);
+l11 = get8(b, l3 + 313);
 goto L1;
 L2:;
-l6 = 0ull;
-put64(b, l2 + 120, 0ull);
-put64(b, l2 + 128, 0ull);
-put64(b, l2 + 136, 0ull);
-l10 = 0u;
-fill(b, l2 + 312ull, 0u, 392u);
-f152(b, l2 + 312ull, l2 + 8ull);
-if (get8(b, l2 + 312)) { goto L10; }
-f154(b, l2 + 120ull, l2 + 320ull);
-l6 = get64(b, l2 + 136);
-l10 = get8(b, l2 + 128);
-l11 = get8(b, l2 + 121);
-l12 = get8(b, l2 + 120);
+l7 = 0ull;
+put64(b, l3 + 120, 0ull);
+put64(b, l3 + 128, 0ull);
+put64(b, l3 + 136, 0ull);
+l2 = 0u;
+fill(b, l3 + 312ull, 0u, 392u);
+f152(b, l3 + 312ull, l3 + 8ull);
+if (get8(b, l3 + 312)) { goto L10; }
+f154(b, l3 + 120ull, l3 + 320ull);
+l7 = get64(b, l3 + 136);
+l2 = get8(b, l3 + 128);
+l11 = get8(b, l3 + 121);
+l12 = get8(b, l3 + 120);
 goto L9;
 L10:;
 l12 = 1u;
-l11 = get8(b, l2 + 313);
+l11 = get8(b, l3 + 313);
 L9:;
-if (get8(b, l2 + 112)) { goto L1; }
-l7 = get64(b, l2 + 104);
-l5 = get64(b, l2 + 96);
-l4 = get64(b, l2 + 88);
-l1 = get64(b, l2 + 80);
-l8 = get64(b, l2 + 64);
-l9 = get64(b, l2 + 8);
-l3 = get64(b, l2 + 24);
-put64(b, l2 + 336, get64(b, l2 + 56));
-put64(b, l2 + 328, get64(b, l2 + 48));
-put64(b, l2 + 320, get64(b, l2 + 40));
-put64(b, l2 + 312, get64(b, l2 + 32));
-if (!l3) { goto L11; }
-rattle_dealloc(b, l9);
+if (get8(b, l3 + 112)) { goto L1; }
+l8 = get64(b, l3 + 104);
+l6 = get64(b, l3 + 96);
+l5 = get64(b, l3 + 88);
+l1 = get64(b, l3 + 80);
+l9 = get64(b, l3 + 64);
+l10 = get64(b, l3 + 8);
+l4 = get64(b, l3 + 24);
+put64(b, l3 + 336, get64(b, l3 + 56));
+put64(b, l3 + 328, get64(b, l3 + 48));
+put64(b, l3 + 320, get64(b, l3 + 40));
+put64(b, l3 + 312, get64(b, l3 + 32));
+if (!l4) { goto L11; }
+rattle_dealloc(b, l10);
 L11:;
-f155(b, l2 + 320ull);
+f155(b, l3 + 320ull);
 if (!l1) { goto L12; }
-rattle_dealloc(b, l8);
+rattle_dealloc(b, l9);
 L12:;
-if (!l5) { goto L13; }
-l1 = l4;
+if (!l6) { goto L13; }
+l1 = l5;
 L14:;
-put64(b, l2 + 136, get64(b, l1 + 16));
-put64(b, l2 + 128, get64(b, l1 + 8));
-put64(b, l2 + 120, get64(b, l1));
+put64(b, l3 + 136, get64(b, l1 + 16));
+put64(b, l3 + 128, get64(b, l1 + 8));
+put64(b, l3 + 120, get64(b, l1));
 l1 = l1 + 24ull;
-f155(b, l2 + 120ull);
-l5 = l5 + 18446744073709551615ull;
-if (l5 != 0ull) { goto L14; }
+f155(b, l3 + 120ull);
+l6 = l6 + 18446744073709551615ull;
+if (l6 != 0ull) { goto L14; }
 L13:;
-if (!l7) { goto L1; }
-rattle_dealloc(b, l4);
+if (!l8) { goto L1; }
+rattle_dealloc(b, l5);
 L1:;
 if (l12 & 255u) { goto L16; }
 l12 = 0u;
 l11 = 0u;
 goto L15;
 L16:;
-l10 = 0u;
+l2 = 0u;
 l12 = l11 & 255u;
 l11 = l12 ? 0u : 8u;
 l12 = (u32)(l12 != 0u);
-l6 = 0ull;
+l7 = 0ull;
 L15:;
 put8(b, l0, l12);
-put64(b, l0 + 24ull, l6);
+put64(b, l0 + 24ull, l7);
 put8(b, l0 + 8ull, l11);
-put64(b, l0 + 16ull, ((u64)l10) & 255ull);
-SP = l2 + 704ull;
+put64(b, l0 + 16ull, ((u64)l2) & 255ull);
+SP = l3 + 704ull;
 }
 
 FN void f41(B b, u64 l0) {
@@ -21968,292 +22111,339 @@ return l6;
 FN void f130(B b, u64 l0, u64 l1, u64 l2) {
 u32 l12 = 0, l13 = 0, l14 = 0, l15 = 0, l16 = 0, t0;
 u64 l3 = 0, l4 = 0, l5 = 0, l6 = 0, l7 = 0, l8 = 0, l9 = 0, l10 = 0, l11 = 0;
-l3 = SP - 80ull;
+l3 = SP - 96ull;
 SP = l3;
-l12 = (u32)(!l2);
-if (l12) { goto L7; }
-l13 = get32(b, l1);
-l4 = l2 + 18446744073709551615ull;
-l14 = (u32)(!l4);
-if (!l14) { goto L9; }
-l15 = l13;
-goto L8;
-L9:;
-l5 = l2 + 18446744073709551614ull;
-l15 = l13;
-l6 = l4;
-l7 = l1;
-l8 = l4 & 3ull;
-if (!l8) { goto L10; }
+if (l2 < 2ull) { goto L9; }
+l4 = 1ull;
+l5 = l1;
 L11:;
-l7 = l7 + 4ull;
-l16 = get32(b, l7);
-l15 = (l15 < l16) ? l15 : l16;
-l6 = l6 + 18446744073709551615ull;
-l8 = l8 + 18446744073709551615ull;
-if (l8 != 0ull) { goto L11; }
+l6 = l5 + 4ull;
+if (get32(b, l6) <= get32(b, l5)) { goto L10; }
+l5 = l6;
+l4 = l4 + 1ull;
+if (l2 == l4) { goto L8; }
+goto L11;
 L10:;
-if (l5 < 3ull) { goto L12; }
-l7 = l7 + 16ull;
-L13:;
-l16 = get32(b, l7 + 18446744073709551604ull);
-l15 = (l15 < l16) ? l15 : l16;
-l16 = get32(b, l7 + 18446744073709551608ull);
-l15 = (l15 < l16) ? l15 : l16;
-l16 = get32(b, l7 + 18446744073709551612ull);
-l15 = (l15 < l16) ? l15 : l16;
-l16 = get32(b, l7);
-l15 = (l15 < l16) ? l15 : l16;
-l7 = l7 + 16ull;
-l6 = l6 + 18446744073709551612ull;
-if (l6 != 0ull) { goto L13; }
-L12:;
-l6 = l4;
-l7 = l1;
-l8 = l4 & 3ull;
-if (!l8) { goto L14; }
-L15:;
-l7 = l7 + 4ull;
-l16 = get32(b, l7);
-l13 = (l13 > l16) ? l13 : l16;
-l6 = l6 + 18446744073709551615ull;
-l8 = l8 + 18446744073709551615ull;
-if (l8 != 0ull) { goto L15; }
-L14:;
-if (l5 < 3ull) { goto L8; }
-l7 = l7 + 16ull;
-L16:;
-l16 = get32(b, l7 + 18446744073709551604ull);
-l13 = (l13 > l16) ? l13 : l16;
-l16 = get32(b, l7 + 18446744073709551608ull);
-l13 = (l13 > l16) ? l13 : l16;
-l16 = get32(b, l7 + 18446744073709551612ull);
-l13 = (l13 > l16) ? l13 : l16;
-l16 = get32(b, l7);
-l13 = (l13 > l16) ? l13 : l16;
-l7 = l7 + 16ull;
-l6 = l6 + 18446744073709551612ull;
-if (!(u32)(!l6)) { goto L16; }
-L8:;
-l9 = (u64)(l13 - l15);
-l5 = l9 + 1ull;
-if (l2 >= (l5 >> 3)) { goto L17; }
-l8 = l2 << 2;
-rattle_alloc(b, l3 + 16ull, l8, 4ull);
-l15 = 1u;
-l10 = 0ull;
-l7 = 0ull;
-l6 = 0ull;
-if (!(((u32)get64(b, l3 + 16)) & 1u)) { goto L2; }
-l10 = get64(b, l3 + 24);
-if ((l10 - l1) >= l8) { goto L19; }
-l5 = l2 & 3ull;
-l9 = 0ull;
-if (l4 < 3ull) { goto L20; }
-l4 = l2 & 18446744073709551612ull;
-l7 = 0ull;
-l9 = 0ull;
-L21:;
-l6 = l10 + l7;
-l8 = l1 + l7;
-put32(b, l6, get32(b, l8));
-put32(b, l6 + 4ull, get32(b, l8 + 4ull));
-put32(b, l6 + 8ull, get32(b, l8 + 8ull));
-put32(b, l6 + 12ull, get32(b, l8 + 12ull));
-l7 = l7 + 16ull;
-l9 = l9 + 4ull;
-if (l4 != l9) { goto L21; }
-if (!l5) { goto L18; }
-L20:;
-l6 = l9 << 2;
-l7 = l10 + l6;
-l6 = l1 + l6;
-L22:;
-put32(b, l7, get32(b, l6));
-l7 = l7 + 4ull;
-l6 = l6 + 4ull;
-l5 = l5 + 18446744073709551615ull;
-if (l5 != 0ull) { goto L22; }
-goto L18;
-L19:;
-if (!l8) { goto L18; }
-copy(b, l10, l1, l8);
-L18:;
-f131(b, l10, l2);
-l7 = 1ull;
-l15 = 0u;
-if (l2 != 1ull) { goto L23; }
-l6 = 1ull;
-goto L2;
-L23:;
-l5 = l2 + 18446744073709551615ull;
-l7 = 0ull;
-l6 = 0ull;
-L25:;
-l8 = l10 + l7;
-if (get32(b, l8 + 4ull) == get32(b, l8)) { goto L24; }
-l7 = l7 + 4ull;
-l6 = l6 + 1ull;
-if (l5 != l6) { goto L25; }
+l7 = l2 + 18446744073709551614ull;
+l12 = get32(b, l1);
+l8 = l2 + 18446744073709551615ull;
+l6 = l8 & 3ull;
+if (!(u32)(!l6)) { goto L5; }
+l13 = l12;
+l4 = l8;
+l5 = l1;
 goto L4;
-L24:;
-if ((l2 + 18446744073709551615ull) == l6) { goto L4; }
-l5 = 1ull;
-l1 = l6 + 1ull;
-if (l1 < l2) { goto L27; }
-l1 = l7;
-l8 = l6;
-goto L26;
-L27:;
+L9:;
+if (!(u32)(!l2)) { goto L7; }
+l5 = 0ull;
+l9 = l3 + 92ull;
+goto L3;
+L8:;
+if (l2 > 2305843009213693951ull) { goto L6; }
+L7:;
+l5 = l2 << 2;
+rattle_alloc(b, l3, l5, 4ull);
+if (!(((u32)get64(b, l3)) & 1u)) { goto L6; }
+l9 = get64(b, l3 + 8);
+if ((l9 - l1) >= l5) { goto L3; }
+l7 = l2 & 3ull;
+l8 = 0ull;
+if ((l2 + 18446744073709551615ull) < 3ull) { goto L12; }
+l10 = l2 & 18446744073709551612ull;
+l5 = 0ull;
+l8 = 0ull;
+L13:;
+l4 = l9 + l5;
+l6 = l1 + l5;
+put32(b, l4, get32(b, l6));
+put32(b, l4 + 4ull, get32(b, l6 + 4ull));
+put32(b, l4 + 8ull, get32(b, l6 + 8ull));
+put32(b, l4 + 12ull, get32(b, l6 + 12ull));
+l5 = l5 + 16ull;
+l8 = l8 + 4ull;
+if (l10 != l8) { goto L13; }
+if (!l7) { goto L2; }
+L12:;
+l5 = l8 << 2;
+L14:;
+put32(b, l9 + l5, get32(b, l1 + l5));
+l5 = l5 + 4ull;
+l7 = l7 + 18446744073709551615ull;
+if (l7 != 0ull) { goto L14; }
+goto L2;
+L6:;
+put8(b, l0, 1u);
+put64(b, l0 + 8ull, 0ull);
+put64(b, l0 + 16ull, 0ull);
+put64(b, l0 + 24ull, 0ull);
+goto L1;
+L5:;
+l13 = l12;
+l4 = l8;
+l5 = l1;
+L15:;
+l5 = l5 + 4ull;
+l14 = get32(b, l5);
+l13 = (l13 < l14) ? l13 : l14;
+l4 = l4 + 18446744073709551615ull;
+l6 = l6 + 18446744073709551615ull;
+if (l6 != 0ull) { goto L15; }
+L4:;
+if (l7 < 3ull) { goto L16; }
+l5 = l5 + 16ull;
+L17:;
+l14 = get32(b, l5 + 18446744073709551604ull);
+l13 = (l13 < l14) ? l13 : l14;
+l14 = get32(b, l5 + 18446744073709551608ull);
+l13 = (l13 < l14) ? l13 : l14;
+l14 = get32(b, l5 + 18446744073709551612ull);
+l13 = (l13 < l14) ? l13 : l14;
+l14 = get32(b, l5);
+l13 = (l13 < l14) ? l13 : l14;
+l5 = l5 + 16ull;
+l4 = l4 + 18446744073709551612ull;
+if (l4 != 0ull) { goto L17; }
+L16:;
+l4 = l8;
+l5 = l1;
+l6 = l8 & 3ull;
+if (!l6) { goto L18; }
+L19:;
+l5 = l5 + 4ull;
+l14 = get32(b, l5);
+l12 = (l12 > l14) ? l12 : l14;
+l4 = l4 + 18446744073709551615ull;
+l6 = l6 + 18446744073709551615ull;
+if (l6 != 0ull) { goto L19; }
+L18:;
+if (l7 < 3ull) { goto L20; }
+l5 = l5 + 16ull;
+L21:;
+l14 = get32(b, l5 + 18446744073709551604ull);
+l12 = (l12 > l14) ? l12 : l14;
+l14 = get32(b, l5 + 18446744073709551608ull);
+l12 = (l12 > l14) ? l12 : l14;
+l14 = get32(b, l5 + 18446744073709551612ull);
+l12 = (l12 > l14) ? l12 : l14;
+l14 = get32(b, l5);
+l12 = (l12 > l14) ? l12 : l14;
+l5 = l5 + 16ull;
+l4 = l4 + 18446744073709551612ull;
+if (l4 != 0ull) { goto L21; }
+L20:;
+l5 = (u64)(l12 - l13);
+l7 = l5 + 1ull;
+if (l2 >= (l7 >> 3)) { goto L22; }
+l7 = l2 << 2;
+rattle_alloc(b, l3 + 16ull, l7, 4ull);
 l13 = 1u;
-if ((l2 + 18446744073709551614ull) != l6) { goto L30; }
-l8 = l6;
+l6 = 0ull;
+l5 = 0ull;
+l4 = 0ull;
+if (!(((u32)get64(b, l3 + 16)) & 1u)) { goto L23; }
+l6 = get64(b, l3 + 24);
+if ((l6 - l1) >= l7) { goto L25; }
+l9 = l2 & 3ull;
+l10 = 0ull;
+if (l8 < 3ull) { goto L26; }
+l8 = l2 & 18446744073709551612ull;
+l5 = 0ull;
+l10 = 0ull;
+L27:;
+l4 = l6 + l5;
+l7 = l1 + l5;
+put32(b, l4, get32(b, l7));
+put32(b, l4 + 4ull, get32(b, l7 + 4ull));
+put32(b, l4 + 8ull, get32(b, l7 + 8ull));
+put32(b, l4 + 12ull, get32(b, l7 + 12ull));
+l5 = l5 + 16ull;
+l10 = l10 + 4ull;
+if (l8 != l10) { goto L27; }
+if (!l9) { goto L24; }
+L26:;
+l4 = l10 << 2;
+l5 = l6 + l4;
+l4 = l1 + l4;
+L28:;
+put32(b, l5, get32(b, l4));
+l5 = l5 + 4ull;
+l4 = l4 + 4ull;
+l9 = l9 + 18446744073709551615ull;
+if (l9 != 0ull) { goto L28; }
+goto L24;
+L25:;
+if (!l7) { goto L24; }
+copy(b, l6, l1, l7);
+L24:;
+f131(b, l6, l2);
+l7 = l2 + 18446744073709551615ull;
+l5 = 0ull;
+l4 = 0ull;
+L31:;
+l1 = l6 + l5;
+if (get32(b, l1 + 4ull) == get32(b, l1)) { goto L30; }
+l5 = l5 + 4ull;
+l4 = l4 + 1ull;
+if (l7 != l4) { goto L31; }
+l13 = 0u;
+l5 = l2;
 goto L29;
 L30:;
-l11 = ((l6 ^ 18446744073709551615ull) + l2) & 1ull;
-l1 = 0ull;
-l4 = 0ull - (((l6 ^ 18446744073709551615ull) + l2) & 18446744073709551614ull);
-l13 = 1u;
-l8 = l6;
-L31:;
-l5 = l10 + l7;
-l9 = l5 + 4ull;
-l16 = get32(b, l9);
-l12 = get32(b, l5);
-put32(b, l10 + (l8 << 2), l12);
-l14 = get32(b, l5 + 8ull);
-l8 = l8 + (((u64)l13) & 1ull);
-l13 = get32(b, l9);
-put32(b, l10 + (l8 << 2), l13);
-l8 = l8 + ((u64)(l16 != l12));
-l13 = (u32)(l14 != l13);
-l7 = l7 + 8ull;
-l1 = l1 + 18446744073709551614ull;
-if (l4 != l1) { goto L31; }
-if (!(u32)(!l11)) { goto L32; }
-l16 = l13;
-goto L28;
+l13 = 0u;
+if ((l2 + 18446744073709551615ull) != l4) { goto L32; }
+l5 = l2;
+goto L29;
 L32:;
-l6 = l6 - l1;
-l1 = l6 + 1ull;
-L29:;
-l7 = l1 << 2;
-l16 = get32(b, l10 + l7);
-l12 = get32(b, l10 + (l6 << 2));
-put32(b, l10 + (l8 << 2), l12);
-l16 = (u32)(l16 != l12);
-l8 = l8 + ((u64)l13);
-L28:;
-l1 = l8 << 2;
-l5 = (u64)l16;
-L26:;
-put32(b, l10 + l1, get32(b, l10 + l7));
-l7 = l8 + l5;
-goto L3;
-L17:;
-rattle_alloc(b, l3 + 32ull, l5, 1ull);
-l16 = 1u;
-l10 = 0ull;
-l6 = 0ull;
-l7 = 0ull;
-if (!(((u32)get64(b, l3 + 32)) & 1u)) { goto L5; }
-l8 = get64(b, l3 + 40);
-if (l13 == l15) { goto L33; }
-if (!l9) { goto L33; }
-fill(b, l8, 0u, l9);
-L33:;
-put8(b, l8 + l9, 0u);
-if (!l14) { goto L35; }
-l6 = 0ull;
-goto L34;
-L35:;
-l9 = l2 & 1ull;
-l10 = l2 & 18446744073709551614ull;
-l6 = 0ull;
-l7 = l1;
-L36:;
-put8(b, l8 + ((u64)(get32(b, l7) - l15)), 1u);
-put8(b, l8 + ((u64)(get32(b, l7 + 4ull) - l15)), 1u);
-l7 = l7 + 8ull;
-l6 = l6 + 2ull;
-if (l10 != l6) { goto L36; }
-if (!l9) { goto L6; }
+l7 = 1ull;
+l9 = l4 + 1ull;
+if (l9 < l2) { goto L34; }
+l9 = l5;
+l1 = l4;
+goto L33;
 L34:;
-put8(b, l8 + ((u64)(get32(b, l1 + (l6 << 2)) - l15)), 1u);
-goto L6;
-L7:;
-l5 = 0ull;
-l15 = 0u;
-l8 = l3 + 76ull;
-L6:;
-l7 = (l2 < l5) ? l2 : l5;
-if (!(u32)(!l7)) { goto L41; }
-l10 = l3 + 76ull;
-goto L40;
-L41:;
-rattle_alloc(b, l3, l7 << 2, 4ull);
-l16 = 1u;
-if (!(((u32)get64(b, l3)) & 1u)) { goto L39; }
-l10 = get64(b, l3 + 8);
-L40:;
-put64(b, l3 + 64, l7);
-l6 = 0ull;
-put64(b, l3 + 56, 0ull);
-put64(b, l3 + 48, l10);
-l16 = 0u;
-if (l12) { goto L5; }
-l6 = 0ull;
-l7 = 0ull;
-L42:;
-if (get8(b, l8 + l7) != 1u) { goto L43; }
-if (get64(b, l3 + 64) != l6) { goto L44; }
-t0 = f132(b, l3 + 48ull, 1ull);
-if (!t0) { goto L38; }
-l10 = get64(b, l3 + 48);
-l6 = get64(b, l3 + 56);
-L44:;
-put32(b, l10 + (l6 << 2), l15);
-l6 = l6 + 1ull;
-put64(b, l3 + 56, l6);
-L43:;
-l15 = l15 + 1u;
-l7 = l7 + 1ull;
-if (l5 != l7) { goto L42; }
-l7 = get64(b, l3 + 64);
-l10 = get64(b, l3 + 48);
-rattle_dealloc(b, l8);
-goto L5;
-L39:;
-rattle_dealloc(b, l8);
-l10 = 0ull;
-goto L37;
-L38:;
-if (!get64(b, l3 + 64)) { goto L45; }
-rattle_dealloc(b, get64(b, l3 + 48));
-L45:;
-rattle_dealloc(b, l8);
-l10 = 0ull;
-l16 = 1u;
+l12 = 1u;
+if ((l2 + 18446744073709551614ull) != l4) { goto L37; }
+l1 = l4;
+goto L36;
 L37:;
-l6 = 0ull;
-l7 = 0ull;
-L5:;
-put8(b, l0, l16);
-put64(b, l0 + 24ull, l7);
-put64(b, l0 + 16ull, l6);
-put64(b, l0 + 8ull, l10);
+l11 = ((l4 ^ 18446744073709551615ull) + l2) & 1ull;
+l9 = 0ull;
+l10 = 0ull - (((l4 ^ 18446744073709551615ull) + l2) & 18446744073709551614ull);
+l12 = 1u;
+l1 = l4;
+L38:;
+l7 = l6 + l5;
+l8 = l7 + 4ull;
+l14 = get32(b, l8);
+l15 = get32(b, l7);
+put32(b, l6 + (l1 << 2), l15);
+l16 = get32(b, l7 + 8ull);
+l1 = l1 + (((u64)l12) & 1ull);
+l12 = get32(b, l8);
+put32(b, l6 + (l1 << 2), l12);
+l1 = l1 + ((u64)(l14 != l15));
+l12 = (u32)(l16 != l12);
+l5 = l5 + 8ull;
+l9 = l9 + 18446744073709551614ull;
+if (l10 != l9) { goto L38; }
+if (!(u32)(!l11)) { goto L39; }
+l14 = l12;
+goto L35;
+L39:;
+l4 = l4 - l9;
+l9 = l4 + 1ull;
+L36:;
+l5 = l9 << 2;
+l14 = get32(b, l6 + l5);
+l15 = get32(b, l6 + (l4 << 2));
+put32(b, l6 + (l1 << 2), l15);
+l14 = (u32)(l14 != l15);
+l1 = l1 + ((u64)l12);
+L35:;
+l9 = l1 << 2;
+l7 = (u64)l14;
+L33:;
+put32(b, l6 + l9, get32(b, l6 + l5));
+l5 = l1 + l7;
+L29:;
+l4 = l2;
+L23:;
+put8(b, l0, l13);
+put64(b, l0 + 24ull, l4);
+put64(b, l0 + 16ull, l5);
+put64(b, l0 + 8ull, l6);
 goto L1;
-L4:;
-l7 = l2;
+L22:;
+rattle_alloc(b, l3 + 48ull, l7, 1ull);
+l14 = 1u;
+l9 = 0ull;
+l6 = 0ull;
+l10 = 0ull;
+if (!(((u32)get64(b, l3 + 48)) & 1u)) { goto L40; }
+l4 = get64(b, l3 + 56);
+if (l12 == l13) { goto L41; }
+if (!l5) { goto L41; }
+fill(b, l4, 0u, l5);
+L41:;
+put8(b, l4 + l5, 0u);
+if (!(u32)(!l8)) { goto L44; }
+l6 = 0ull;
+goto L43;
+L44:;
+l8 = l2 & 1ull;
+l9 = l2 & 18446744073709551614ull;
+l6 = 0ull;
+l5 = l1;
+L45:;
+put8(b, l4 + ((u64)(get32(b, l5) - l13)), 1u);
+put8(b, l4 + ((u64)(get32(b, l5 + 4ull) - l13)), 1u);
+l5 = l5 + 8ull;
+l6 = l6 + 2ull;
+if (l9 != l6) { goto L45; }
+if (!l8) { goto L42; }
+L43:;
+put8(b, l4 + ((u64)(get32(b, l1 + (l6 << 2)) - l13)), 1u);
+L42:;
+l5 = (l2 < l7) ? l2 : l7;
+rattle_alloc(b, l3 + 32ull, l5 << 2, 4ull);
+l14 = 1u;
+if (!(((u32)get64(b, l3 + 32)) & 1u)) { goto L48; }
+l2 = get64(b, l3 + 40);
+put64(b, l3 + 80, l5);
+l6 = 0ull;
+put64(b, l3 + 72, 0ull);
+put64(b, l3 + 64, l2);
+l5 = 0ull;
+L49:;
+if (get8(b, l4 + l5) != 1u) { goto L50; }
+if (get64(b, l3 + 80) != l6) { goto L51; }
+t0 = f132(b, l3 + 64ull, 1ull);
+if (!t0) { goto L47; }
+l2 = get64(b, l3 + 64);
+l6 = get64(b, l3 + 72);
+L51:;
+put32(b, l2 + (l6 << 2), l13);
+l6 = l6 + 1ull;
+put64(b, l3 + 72, l6);
+L50:;
+l13 = l13 + 1u;
+l5 = l5 + 1ull;
+if (l7 != l5) { goto L49; }
+l10 = get64(b, l3 + 80);
+l9 = get64(b, l3 + 64);
+rattle_dealloc(b, l4);
+l14 = 0u;
+goto L40;
+L48:;
+rattle_dealloc(b, l4);
+l9 = 0ull;
+goto L46;
+L47:;
+if (!get64(b, l3 + 80)) { goto L52; }
+rattle_dealloc(b, get64(b, l3 + 64));
+L52:;
+rattle_dealloc(b, l4);
+l9 = 0ull;
+l14 = 1u;
+L46:;
+l6 = 0ull;
+l10 = 0ull;
+L40:;
+put8(b, l0, l14);
+put64(b, l0 + 24ull, l10);
+put64(b, l0 + 16ull, l6);
+put64(b, l0 + 8ull, l9);
+goto L1;
 L3:;
-l6 = l2;
+if (!l5) { goto L2; }
+copy(b, l9, l1, l5);
 L2:;
-put8(b, l0, l15);
-put64(b, l0 + 24ull, l6);
-put64(b, l0 + 16ull, l7);
-put64(b, l0 + 8ull, l10);
+put8(b, l0, 0u);
+put64(b, l0 + 24ull, l2);
+put64(b, l0 + 16ull, l2);
+put64(b, l0 + 8ull, l9);
 L1:;
-SP = l3 + 80ull;
+SP = l3 + 96ull;
 }
 
 FN void f131(B b, u64 l0, u64 l1) {
@@ -29026,7 +29216,7 @@ l14 = 0ull;
 put64(b, l2 + 480, 0ull);
 put64(b, l2 + 472, 0ull);
 l38 = (u32)l11;
-f169(b, l2 + 472ull, l1, l38);
+f168(b, l2 + 472ull, l1, l38);
 l15 = l13 + (l12 << 5);
 l39 = get8(b, l2 + 472);
 if (l39 != 1u) { goto L20; }
@@ -29068,7 +29258,7 @@ put64(b, l2 + 496, 0ull);
 put64(b, l2 + 488, 0ull);
 put64(b, l2 + 480, 0ull);
 put64(b, l2 + 472, 0ull);
-f170(b, l2 + 472ull, l2 + 264ull);
+f169(b, l2 + 472ull, l2 + 264ull);
 if (!get8(b, l2 + 472)) { goto L33; }
 if (!get8(b, l2 + 476)) { goto L35; }
 l39 = 1u;
@@ -29102,7 +29292,7 @@ l38 = 0u;
 l40 = 0u;
 goto L40;
 L41:;
-f171(b, l2 + 392ull, l5);
+f170(b, l2 + 392ull, l5);
 if (get8(b, l2 + 392)) { goto L6; }
 l21 = get64(b, l2 + 440);
 l22 = get64(b, l2 + 432);
@@ -29125,7 +29315,7 @@ put64(b, l8, 0ull);
 put64(b, l8 + 8, 0ull);
 put8(b, l27, 1u);
 put64(b, l2 + 576, l2 + 600ull);
-t0 = f172(b, l2 + 576ull);
+t0 = f171(b, l2 + 576ull);
 if (!t0) { goto L39; }
 l12 = get64(b, l2 + 576);
 put64(b, l7, l12);
@@ -29158,7 +29348,7 @@ l29 = (u64)l37;
 if (get8(b, l27 + l29)) { goto L46; }
 l14 = get64(b, l2 + 504);
 if (get64(b, l2 + 512) != l14) { goto L47; }
-t1 = f172(b, l2 + 496ull);
+t1 = f171(b, l2 + 496ull);
 if (!t1) { goto L37; }
 l13 = get64(b, l2 + 528);
 l14 = get64(b, l2 + 504);
@@ -29204,7 +29394,7 @@ rattle_dealloc(b, l23);
 L40:;
 fill(b, l2 + 472ull, 0u, 80u);
 fill(b, l2 + 392ull, 0u, 80u);
-f173(b, l2 + 472ull, l5);
+f172(b, l2 + 472ull, l5);
 if (get8(b, l2 + 472)) { goto L9; }
 l30 = get64(b, l2 + 544);
 l26 = get64(b, l2 + 528);
@@ -29213,7 +29403,7 @@ l41 = get8(b, l2 + 512);
 l42 = get32(b, l2 + 496);
 l32 = get64(b, l2 + 488);
 l27 = get64(b, l2 + 480);
-f174(b, l2 + 392ull, l5);
+f173(b, l2 + 392ull, l5);
 if (get8(b, l2 + 392)) { goto L27; }
 l33 = get64(b, l2 + 464);
 l24 = get64(b, l2 + 448);
@@ -29442,7 +29632,7 @@ l13 = get64(b, l2 + 560);
 l37 = 0u;
 L76:;
 if (get64(b, l2 + 568) != l13) { goto L88; }
-t4 = f175(b, l2 + 552ull);
+t4 = f174(b, l2 + 552ull);
 if (!t4) { goto L28; }
 l13 = get64(b, l2 + 560);
 L88:;
@@ -29699,7 +29889,7 @@ l23 = (u64)get32(b, l27 + (((u64)(get32(b, get64(b, l5 + 56ull) + l22) - l37)) <
 if (l16 <= l23) { goto L19; }
 l29 = (u64)get32(b, l18 + (l23 << 2));
 if (get64(b, l2 + 488) != l14) { goto L133; }
-t5 = f176(b, l2 + 472ull);
+t5 = f175(b, l2 + 472ull);
 if (!t5) { goto L128; }
 l28 = get64(b, l2 + 472);
 l14 = get64(b, l2 + 480);
@@ -29780,7 +29970,7 @@ if (!l17) { goto L18; }
 rattle_dealloc(b, l18);
 goto L18;
 L108:;
-t6 = f177(b, l2 + 104ull);
+t6 = f176(b, l2 + 104ull);
 if (!t6) { goto L148; }
 l16 = get64(b, l2 + 112);
 goto L17;
@@ -29805,7 +29995,7 @@ L153:;
 if (!l19) { goto L154; }
 rattle_dealloc(b, l20);
 L154:;
-f178(b, l2 + 104ull);
+f177(b, l2 + 104ull);
 l14 = 0ull;
 l39 = 1u;
 l12 = 0ull;
@@ -29940,7 +30130,7 @@ l12 = l14 & 255ull;
 l14 = l13 & 4294967040ull;
 L3:;
 l14 = ((((u64)l37) << 32) | l14) | l12;
-f178(b, l2 + 104ull);
+f177(b, l2 + 104ull);
 l12 = (u64)l38;
 L2:;
 put32(b, l0, 1u);
@@ -29953,59 +30143,7 @@ L1:;
 SP = l2 + 608ull;
 }
 
-FN void f168(B b, u64 l0) {
-u64 l1 = 0, l2 = 0, l3 = 0, l4 = 0, l5 = 0, l6 = 0, l7 = 0, l8 = 0, l9 = 0, l10 = 0, l11 = 0;
-l1 = get64(b, l0 + 16);
-l2 = get64(b, l0);
-l3 = get64(b, l0 + 8);
-if (!l3) { goto L1; }
-l4 = 0ull;
-L2:;
-l0 = l2 + (l4 << 5);
-l5 = get64(b, l0 + 24);
-l6 = get64(b, l0 + 8);
-l7 = get64(b, l0 + 16);
-if (!l7) { goto L3; }
-l8 = 0ull;
-L4:;
-l0 = l6 + (l8 * 104ull);
-l9 = get64(b, l0 + 96);
-l10 = get64(b, l0 + 88);
-l11 = get64(b, l0 + 80);
-if (!get8(b, l0 + 8)) { goto L5; }
-if (!get8(b, l0 + 24)) { goto L5; }
-if (!get64(b, l0 + 48)) { goto L5; }
-rattle_dealloc(b, get64(b, l0 + 32));
-L5:;
-if (!l10) { goto L6; }
-l0 = l11 + 16ull;
-L7:;
-if (!get8(b, l0 + 18446744073709551608ull)) { goto L8; }
-if (!get64(b, l0 + 16ull)) { goto L8; }
-rattle_dealloc(b, get64(b, l0));
-L8:;
-l0 = l0 + 64ull;
-l10 = l10 + 18446744073709551615ull;
-if (l10 != 0ull) { goto L7; }
-L6:;
-if (!l9) { goto L9; }
-rattle_dealloc(b, l11);
-L9:;
-l8 = l8 + 1ull;
-if (l8 != l7) { goto L4; }
-L3:;
-if (!l5) { goto L10; }
-rattle_dealloc(b, l6);
-L10:;
-l4 = l4 + 1ull;
-if (l4 != l3) { goto L2; }
-L1:;
-if (!l1) { goto L11; }
-rattle_dealloc(b, l2);
-L11:;
-}
-
-FN void f169(B b, u64 l0, u64 l1, u32 l2) {
+FN void f168(B b, u64 l0, u64 l1, u32 l2) {
 u32 l15 = 0, l16 = 0, l17 = 0;
 u64 l3 = 0, l4 = 0, l5 = 0, l6 = 0, l7 = 0, l8 = 0, l9 = 0, l10 = 0, l11 = 0, l12 = 0, l13 = 0, l14 = 0;
 l3 = (u64)l2;
@@ -30087,13 +30225,13 @@ L1:;
 abort();
 }
 
-FN void f170(B b, u64 l0, u64 l1) {
+FN void f169(B b, u64 l0, u64 l1) {
 u32 l17 = 0, l18 = 0, l19 = 0, l20 = 0, l21 = 0, l22 = 0, l23 = 0, l24 = 0, l25 = 0, l26 = 0, t0, t1;
 u64 l2 = 0, l3 = 0, l4 = 0, l5 = 0, l6 = 0, l7 = 0, l8 = 0, l9 = 0, l10 = 0, l11 = 0, l12 = 0, l13 = 0, l14 = 0, l15 = 0, l16 = 0;
 l2 = SP - 160ull;
 SP = l2;
 fill(b, l2 + 40ull, 0u, 88u);
-f179(b, l2 + 40ull, l1);
+f178(b, l2 + 40ull, l1);
 if (get8(b, l2 + 40)) { goto L3; }
 l3 = get64(b, l2 + 120);
 l4 = get64(b, l2 + 104);
@@ -30296,7 +30434,7 @@ L1:;
 SP = l2 + 160ull;
 }
 
-FN void f171(B b, u64 l0, u64 l1) {
+FN void f170(B b, u64 l0, u64 l1) {
 u32 l13 = 0, l14 = 0;
 u64 l2 = 0, l3 = 0, l4 = 0, l5 = 0, l6 = 0, l7 = 0, l8 = 0, l9 = 0, l10 = 0, l11 = 0, l12 = 0;
 l2 = SP - 48ull;
@@ -30424,7 +30562,7 @@ L1:;
 SP = l2 + 48ull;
 }
 
-FN u32 f172(B b, u64 l0) {
+FN u32 f171(B b, u64 l0) {
 u32 l6 = 0;
 u64 l1 = 0, l2 = 0, l3 = 0, l4 = 0, l5 = 0;
 l1 = SP - 32ull;
@@ -30456,7 +30594,7 @@ SP = l1 + 32ull;
 return l6;
 }
 
-FN void f173(B b, u64 l0, u64 l1) {
+FN void f172(B b, u64 l0, u64 l1) {
 u32 l16 = 0, l17 = 0, l18 = 0, l19 = 0;
 u64 l2 = 0, l3 = 0, l4 = 0, l5 = 0, l6 = 0, l7 = 0, l8 = 0, l9 = 0, l10 = 0, l11 = 0, l12 = 0, l13 = 0, l14 = 0, l15 = 0;
 l2 = SP - 32ull;
@@ -30638,7 +30776,7 @@ L12:;
 abort();
 }
 
-FN void f174(B b, u64 l0, u64 l1) {
+FN void f173(B b, u64 l0, u64 l1) {
 u32 l16 = 0, l17 = 0, l18 = 0, l19 = 0;
 u64 l2 = 0, l3 = 0, l4 = 0, l5 = 0, l6 = 0, l7 = 0, l8 = 0, l9 = 0, l10 = 0, l11 = 0, l12 = 0, l13 = 0, l14 = 0, l15 = 0;
 l2 = SP - 32ull;
@@ -30821,7 +30959,7 @@ L12:;
 abort();
 }
 
-FN u32 f175(B b, u64 l0) {
+FN u32 f174(B b, u64 l0) {
 u32 l6 = 0;
 u64 l1 = 0, l2 = 0, l3 = 0, l4 = 0, l5 = 0;
 l1 = SP - 32ull;
@@ -30853,7 +30991,7 @@ SP = l1 + 32ull;
 return l6;
 }
 
-FN u32 f176(B b, u64 l0) {
+FN u32 f175(B b, u64 l0) {
 u32 l6 = 0;
 u64 l1 = 0, l2 = 0, l3 = 0, l4 = 0, l5 = 0;
 l1 = SP - 32ull;
@@ -30885,7 +31023,7 @@ SP = l1 + 32ull;
 return l6;
 }
 
-FN u32 f177(B b, u64 l0) {
+FN u32 f176(B b, u64 l0) {
 u32 l6 = 0;
 u64 l1 = 0, l2 = 0, l3 = 0, l4 = 0, l5 = 0;
 l1 = SP - 32ull;
@@ -30917,7 +31055,7 @@ SP = l1 + 32ull;
 return l6;
 }
 
-FN void f178(B b, u64 l0) {
+FN void f177(B b, u64 l0) {
 u64 l1 = 0, l2 = 0, l3 = 0, l4 = 0, l5 = 0, l6 = 0, l7 = 0, l8 = 0, l9 = 0;
 l1 = get64(b, l0 + 16);
 l2 = get64(b, l0);
@@ -30959,7 +31097,7 @@ rattle_dealloc(b, l2);
 L9:;
 }
 
-FN void f179(B b, u64 l0, u64 l1) {
+FN void f178(B b, u64 l0, u64 l1) {
 u32 l17 = 0, l18 = 0, l19 = 0, l20 = 0, l21 = 0, l22 = 0, l23 = 0, l24 = 0;
 u64 l2 = 0, l3 = 0, l4 = 0, l5 = 0, l6 = 0, l7 = 0, l8 = 0, l9 = 0, l10 = 0, l11 = 0, l12 = 0, l13 = 0, l14 = 0, l15 = 0, l16 = 0;
 l2 = SP - 32ull;
@@ -31176,7 +31314,7 @@ L12:;
 SP = l2 + 32ull;
 }
 
-FN void f180(B b, u64 l0, u64 l1, u32 l2) {
+FN void f179(B b, u64 l0, u64 l1, u32 l2) {
 u32 l29 = 0, l30 = 0, l31 = 0, l32 = 0, t0, t1, t2;
 u64 l3 = 0, l4 = 0, l5 = 0, l6 = 0, l7 = 0, l8 = 0, l9 = 0, l10 = 0, l11 = 0, l12 = 0, l13 = 0, l14 = 0, l15 = 0, l16 = 0, l17 = 0, l18 = 0, l19 = 0, l20 = 0, l21 = 0, l22 = 0, l23 = 0, l24 = 0, l25 = 0, l26 = 0, l27 = 0, l28 = 0;
 l3 = SP - 944ull;
@@ -31205,7 +31343,7 @@ put64(b, l3 + 333, get64(b, l3 + 173));
 put32(b, l3 + 340, get32(b, l3 + 180));
 fill(b, l3 + 349ull, 0u, 107u);
 fill(b, l3 + 456ull, 0u, 120u);
-f184(b, l3 + 456ull, l1);
+f183(b, l3 + 456ull, l1);
 if (get8(b, l3 + 456)) { goto L4; }
 copy(b, l3 + 576ull, (l3 + 456ull) + 8ull, 112u);
 l4 = get64(b, l3 + 304);
@@ -31265,7 +31403,7 @@ L19:;
 put64(b, l3 + 920, l20);
 put64(b, l3 + 912, 0ull);
 put64(b, l3 + 904, l21);
-t0 = f188(b, l3 + 904ull, l14, 0ull, l22);
+t0 = f187(b, l3 + 904ull, l14, 0ull, l22);
 if (!(t0 & 255u)) { goto L17; }
 f77(b, l3 + 904ull);
 L18:;
@@ -31470,7 +31608,7 @@ put32(b, l0 + 120ull, l29);
 SP = l3 + 944ull;
 }
 
-FN void f181(B b, u64 l0, u64 l1) {
+FN void f180(B b, u64 l0, u64 l1) {
 u32 t0;
 u64 l2 = 0, l3 = 0, l4 = 0, l5 = 0;
 l2 = SP - 96ull;
@@ -31499,7 +31637,7 @@ put64(b, l2 + 80, get64(b, l2 + 32));
 put64(b, l2 + 72, get64(b, l2 + 24));
 put64(b, l2 + 64, get64(b, l2 + 16));
 if (get64(b, l2 + 56) != l4) { goto L7; }
-t0 = f189(b, l2 + 40ull);
+t0 = f188(b, l2 + 40ull);
 if (!t0) { goto L2; }
 l3 = get64(b, l2 + 40);
 l4 = get64(b, l2 + 48);
@@ -31536,7 +31674,7 @@ if (!get8(b, l4)) { goto L10; }
 put64(b, l2 + 80, get64(b, l4 + 24ull));
 put64(b, l2 + 72, get64(b, l4 + 16ull));
 put64(b, l2 + 64, get64(b, l4 + 8ull));
-f186(b, l2 + 64ull);
+f185(b, l2 + 64ull);
 L10:;
 l4 = l4 + 32ull;
 l5 = l5 + 18446744073709551615ull;
@@ -31553,7 +31691,7 @@ L1:;
 SP = l2 + 96ull;
 }
 
-FN u32 f182(B b, u64 l0, u64 l1, u32 l2, u32 l3, u64 l4, u64 l5) {
+FN u32 f181(B b, u64 l0, u64 l1, u32 l2, u32 l3, u64 l4, u64 l5) {
 u32 l26 = 0, l27 = 0, l28 = 0, l29 = 0, l30 = 0, t0, t1, t2, t3, t4, t5, t6;
 u64 l6 = 0, l7 = 0, l8 = 0, l9 = 0, l10 = 0, l11 = 0, l12 = 0, l13 = 0, l14 = 0, l15 = 0, l16 = 0, l17 = 0, l18 = 0, l19 = 0, l20 = 0, l21 = 0, l22 = 0, l23 = 0, l24 = 0, l25 = 0;
 l6 = SP - 144ull;
@@ -31583,7 +31721,7 @@ l7 = ((s64)l7 > (s64)0ull) ? l7 : 0ull;
 l7 = (l9 < l7) ? l9 : l7;
 L2:;
 l12 = l5 + 1ull;
-f183(b, l6 + 56ull, l4, l12, 2ull, l7);
+f182(b, l6 + 56ull, l4, l12, 2ull, l7);
 l26 = 1u;
 if (get8(b, l6 + 56)) { goto L3; }
 l13 = get64(b, l6 + 80);
@@ -31609,7 +31747,7 @@ l20 = get64(b, get64(b, l1 + 56ull) + (l10 * 120ull));
 if (!l20) { goto L15; }
 if (((l20 != 0ull) ? l10 : 0ull) >= l18) { goto L15; }
 if (get8(b, l19 + l10) != 1u) { goto L15; }
-t0 = f190(b, l0, l1, l2, l3, l7);
+t0 = f189(b, l0, l1, l2, l3, l7);
 if (!(t0 & 255u)) { goto L14; }
 goto L5;
 L15:;
@@ -31638,7 +31776,7 @@ l11 = get64(b, l20 + 32ull);
 l11 = ((s64)l11 > (s64)0ull) ? l11 : 0ull;
 l11 = (l17 < l11) ? l17 : l11;
 L18:;
-f183(b, l6 + 56ull, l10, 3ull, 1ull, l11);
+f182(b, l6 + 56ull, l10, 3ull, 1ull, l11);
 if (get8(b, l6 + 56)) { goto L5; }
 l22 = get64(b, l6 + 64);
 l17 = get64(b, l1 + 64ull);
@@ -31675,7 +31813,7 @@ l24 = l24 + 18446744073709551615ull;
 if (!(u32)(!l24)) { goto L21; }
 goto L16;
 L20:;
-t1 = f190(b, l0, l1, l2, l3, l7);
+t1 = f189(b, l0, l1, l2, l3, l7);
 l30 = t1 & 255u;
 if (!(u32)(!l23)) { goto L23; }
 if (l30) { goto L5; }
@@ -31769,7 +31907,7 @@ L33:;
 put64(b, l6 + 104, l7);
 put64(b, l6 + 96, 0ull);
 put64(b, l6 + 88, l11);
-t3 = f188(b, l6 + 88ull, l4, 0ull, l5);
+t3 = f187(b, l6 + 88ull, l4, 0ull, l5);
 if (t3 & 255u) { goto L35; }
 l30 = 0u;
 l7 = l10;
@@ -31803,7 +31941,7 @@ put64(b, l6 + 72, l7);
 l7 = (l6 + 56ull) + 8ull;
 L41:;
 if (get8(b, l10) != 1u) { goto L42; }
-t5 = f188(b, l7, l4, l12, 2ull);
+t5 = f187(b, l7, l4, l12, 2ull);
 if (t5 & 255u) { goto L40; }
 l12 = get64(b, l6 + 56);
 L42:;
@@ -31813,10 +31951,10 @@ put64(b, l6 + 56, l12);
 l10 = l10 + 1ull;
 l9 = l9 + 18446744073709551615ull;
 if (!(u32)(!l9)) { goto L41; }
-t6 = f188(b, l7, l4, l12, get64(b, l4 + 8ull));
+t6 = f187(b, l7, l4, l12, get64(b, l4 + 8ull));
 if (!(t6 & 255u)) { goto L39; }
 L40:;
-f187(b, l7);
+f186(b, l7);
 goto L8;
 L39:;
 put64(b, l6 + 47, get64(b, l7 + 16));
@@ -31829,7 +31967,7 @@ if (get64(b, l0 + 80ull) > l9) { goto L43; }
 put64(b, l6 + 72, get64(b, l7 + 16));
 put64(b, l6 + 64, get64(b, l7 + 8));
 put64(b, l6 + 56, get64(b, l7));
-f186(b, l6 + 56ull);
+f185(b, l6 + 56ull);
 goto L7;
 L43:;
 l9 = get64(b, l0 + 72ull) + (l9 << 5);
@@ -31849,23 +31987,23 @@ put64(b, l6 + 64, l17);
 put64(b, l6 + 72, l10);
 l26 = 0u;
 if (!l30) { goto L7; }
-f186(b, l6 + 56ull);
+f185(b, l6 + 56ull);
 goto L7;
 L35:;
-f187(b, l6 + 88ull);
+f186(b, l6 + 88ull);
 goto L8;
 L11:;
 if (!l29) { goto L6; }
 goto L5;
 L10:;
-f187(b, l6 + 88ull);
+f186(b, l6 + 88ull);
 goto L8;
 L9:;
 put64(b, l6 + 128, 0ull);
 put64(b, l6 + 120, l17);
 put64(b, l6 + 112, 1ull);
 f36(b, l6 + 112ull);
-f187(b, l6 + 88ull);
+f186(b, l6 + 88ull);
 L8:;
 l26 = 1u;
 L7:;
@@ -31882,7 +32020,7 @@ SP = l6 + 144ull;
 return l26;
 }
 
-FN void f183(B b, u64 l0, u64 l1, u64 l2, u64 l3, u64 l4) {
+FN void f182(B b, u64 l0, u64 l1, u64 l2, u64 l3, u64 l4) {
 u32 t0;
 u64 l5 = 0, l6 = 0, l7 = 0, l8 = 0, l9 = 0, l10 = 0, l11 = 0;
 l5 = SP - 48ull;
@@ -31950,7 +32088,7 @@ L1:;
 SP = l5 + 48ull;
 }
 
-FN void f184(B b, u64 l0, u64 l1) {
+FN void f183(B b, u64 l0, u64 l1) {
 u32 l11 = 0, t0, t1, t2;
 u64 l2 = 0, l3 = 0, l4 = 0, l5 = 0, l6 = 0, l7 = 0, l8 = 0, l9 = 0, l10 = 0;
 l2 = SP - 416ull;
@@ -31987,7 +32125,7 @@ L4:;
 put64(b, l2 + 320, l4);
 put64(b, l2 + 312, 0ull);
 put64(b, l2 + 304, l5);
-t0 = f188(b, l2 + 304ull, l1 + 32ull, 0ull, l6);
+t0 = f187(b, l2 + 304ull, l1 + 32ull, 0ull, l6);
 if (!(t0 & 255u)) { goto L2; }
 f77(b, l2 + 304ull);
 L3:;
@@ -32117,138 +32255,167 @@ L1:;
 SP = l2 + 416ull;
 }
 
-FN void f185(B b, u64 l0, u64 l1, u64 l2, u64 l3, u64 l4) {
-u32 l16 = 0, t0, t1;
-u64 l5 = 0, l6 = 0, l7 = 0, l8 = 0, l9 = 0, l10 = 0, l11 = 0, l12 = 0, l13 = 0, l14 = 0, l15 = 0;
-l5 = SP - 256ull;
-SP = l5;
-l6 = 0ull;
-put64(b, l5 + 80, 0ull);
-put64(b, l5 + 72, 0ull);
-put64(b, l5 + 56, 0ull);
-put64(b, l5 + 64, 0ull);
-put64(b, l5 + 32, 0ull);
-put64(b, l5 + 40, 0ull);
-put64(b, l5 + 48, 0ull);
-l7 = get64(b, l2 + 64ull);
-if (!l7) { goto L5; }
-l8 = (l5 + 32ull) + 8ull;
-l9 = (l5 + 224ull) + 8ull;
+FN void f184(B b, u64 l0, u64 l1, u64 l2, u64 l3) {
+u32 l16 = 0, t0;
+u64 l4 = 0, l5 = 0, l6 = 0, l7 = 0, l8 = 0, l9 = 0, l10 = 0, l11 = 0, l12 = 0, l13 = 0, l14 = 0, l15 = 0;
+l4 = SP - 256ull;
+SP = l4;
+l5 = 0ull;
+put64(b, l4 + 48, 0ull);
+put64(b, l4 + 40, 0ull);
+put64(b, l4 + 16, 0ull);
+put64(b, l4 + 24, 0ull);
+put64(b, l4 + 32, 0ull);
+l6 = get64(b, l2 + 64ull);
+if (!l6) { goto L3; }
+l7 = (l4 + 16ull) + 8ull;
+l8 = (l4 + 224ull) + 8ull;
+l9 = 0ull;
 l10 = 0ull;
-l6 = 0ull;
+l5 = 0ull;
 l11 = 0ull;
-L6:;
+L4:;
 l12 = get64(b, l2 + 64ull);
-if (l12 <= l11) { goto L2; }
-l13 = get64(b, l2 + 56ull);
-copy(b, l5 + 88ull, l13 + l10, 104u);
-if (l11 >= l4) { goto L8; }
-if (get8(b, l3) != 1u) { goto L8; }
-l12 = get64(b, l3 + 16ull);
-if (!(u32)(!l12)) { goto L11; }
-l14 = l5 + 248ull;
-l13 = 0ull;
-goto L10;
-L11:;
-if (l12 > 384307168202282325ull) { goto L9; }
-rattle_alloc(b, l5, l12 * 24ull, 8ull);
-if (!(((u32)get64(b, l5)) & 1u)) { goto L9; }
-l14 = get64(b, l5 + 8);
-l13 = get64(b, l3 + 16ull);
-L10:;
-put64(b, l5 + 240, l12);
-put64(b, l5 + 232, 0ull);
-put64(b, l5 + 224, l14);
-t0 = f188(b, l5 + 224ull, l3 + 8ull, 0ull, l13);
-if (t0 & 255u) { goto L12; }
-put64(b, l5 + 192, get64(b, l9));
-put64(b, l5 + 200, get64(b, l9 + 8));
-l16 = 0u;
-l12 = get64(b, l5 + 224);
-goto L7;
-L12:;
-f77(b, l5 + 224ull);
-L9:;
-l12 = 0ull;
-put64(b, l5 + 200, 0ull);
-put64(b, l5 + 192, 0ull);
-l16 = 1u;
-goto L7;
+if (l12 <= l11) { goto L7; }
+copy(b, l4 + 72ull, get64(b, l2 + 56ull) + l9, 104u);
+if (get64(b, l3 + 8ull) <= l11) { goto L8; }
+l12 = get64(b, l3) + l10;
+l16 = get8(b, l12);
+put64(b, l12, 0ull);
+l13 = l12 + 16ull;
+l14 = get64(b, l13);
+put64(b, l13, 0ull);
+l13 = l12 + 24ull;
+l15 = get64(b, l13);
+put64(b, l13, 0ull);
+l13 = l12 + 8ull;
+l12 = get64(b, l13);
+put64(b, l13, 0ull);
+put64(b, l4 + 192, l14);
+put64(b, l4 + 200, l15);
+if (l16 == 1u) { goto L6; }
+l12 = get64(b, l2 + 64ull);
 L8:;
-l14 = l11 & 2147483647ull;
-if (l12 <= l14) { goto L14; }
-if (!get64(b, l13 + (l14 * 120ull))) { goto L14; }
-if (get64(b, l2 + 88ull) <= l14) { goto L14; }
-l14 = get64(b, l2 + 80ull) + (l14 * 24ull);
-l12 = get64(b, l14 + 8ull);
-if (!(u32)(!l12)) { goto L17; }
-l13 = l5 + 248ull;
+l13 = l11 & 2147483647ull;
+if (l12 <= l13) { goto L12; }
+if (!get64(b, get64(b, l2 + 56ull) + (l13 * 120ull))) { goto L12; }
+if (get64(b, l2 + 88ull) <= l13) { goto L12; }
+l13 = get64(b, l2 + 80ull) + (l13 * 24ull);
+l12 = get64(b, l13 + 8ull);
+if (!(u32)(!l12)) { goto L14; }
+l14 = l4 + 248ull;
 l15 = 0ull;
-goto L16;
-L17:;
-if (l12 > 384307168202282325ull) { goto L15; }
-rattle_alloc(b, l5 + 16ull, l12 * 24ull, 8ull);
-if (!(((u32)get64(b, l5 + 16)) & 1u)) { goto L15; }
-l13 = get64(b, l5 + 24);
-l15 = get64(b, l14 + 8ull);
-L16:;
-put64(b, l5 + 240, l12);
-put64(b, l5 + 232, 0ull);
-put64(b, l5 + 224, l13);
-t1 = f188(b, l5 + 224ull, l14, 0ull, l15);
-if (t1 & 255u) { goto L18; }
-put64(b, l5 + 208, get64(b, l9));
-put64(b, l5 + 216, get64(b, l9 + 8));
-l16 = 0u;
-l12 = get64(b, l5 + 224);
-goto L13;
-L18:;
-f77(b, l5 + 224ull);
-L15:;
-l12 = 0ull;
-put64(b, l5 + 216, 0ull);
-put64(b, l5 + 208, 0ull);
-l16 = 1u;
 goto L13;
 L14:;
-put64(b, l5 + 216, 0ull);
-put64(b, l5 + 208, 0ull);
-l12 = l5 + 248ull;
-l16 = 0u;
+if (l12 > 384307168202282325ull) { goto L10; }
+rattle_alloc(b, l4, l12 * 24ull, 8ull);
+if (!(((u32)get64(b, l4)) & 1u)) { goto L10; }
+l14 = get64(b, l4 + 8);
+l15 = get64(b, l13 + 8ull);
 L13:;
-put64(b, l5 + 200, get64(b, l5 + 216));
-put64(b, l5 + 192, get64(b, l5 + 208));
-L7:;
-put64(b, l5 + 80, get64(b, l5 + 200));
-put64(b, l5 + 72, get64(b, l5 + 192));
-if (l16) { goto L4; }
-put64(b, l8, get64(b, l5 + 72));
-put64(b, l8 + 8, get64(b, l5 + 80));
-put64(b, l5 + 32, l12);
-f192(b, l5 + 56ull, l1, l6, l5 + 88ull, l5 + 32ull);
-if (get8(b, l5 + 56)) { goto L3; }
-l10 = l10 + 120ull;
-l3 = l3 + 32ull;
-l6 = get64(b, l5 + 64);
-l11 = l11 + 1ull;
-if (l7 != l11) { goto L6; }
-L5:;
-put16(b, l0, 0u);
-put64(b, l0 + 8ull, l6);
-goto L1;
-L4:;
+put64(b, l4 + 240, l12);
+put64(b, l4 + 232, 0ull);
+put64(b, l4 + 224, l14);
+t0 = f187(b, l4 + 224ull, l13, 0ull, l15);
+if (!(t0 & 255u)) { goto L11; }
+f77(b, l4 + 224ull);
+put64(b, l4 + 216, 0ull);
+put64(b, l4 + 208, 0ull);
+goto L9;
+L12:;
+put64(b, l4 + 56, 0ull);
+put64(b, l4 + 64, 0ull);
+l12 = l4 + 248ull;
+goto L5;
+L11:;
+l12 = get64(b, l8);
+put64(b, l4 + 176, l12);
+put64(b, l4 + 56, l12);
+put64(b, l4 + 64, get64(b, l8 + 8));
+l12 = get64(b, l4 + 224);
+goto L5;
+L10:;
+put64(b, l4 + 216, 0ull);
+put64(b, l4 + 208, 0ull);
+L9:;
+put64(b, l0 + 8ull, 0ull);
 put16(b, l0, 257u);
-put64(b, l0 + 8ull, 0ull);
 goto L1;
+L7:;
+abort();
+L6:;
+put64(b, l4 + 64, get64(b, l4 + 200));
+put64(b, l4 + 56, get64(b, l4 + 192));
+L5:;
+put64(b, l7, get64(b, l4 + 56));
+put64(b, l7 + 8, get64(b, l4 + 64));
+put64(b, l4 + 16, l12);
+f191(b, l4 + 40ull, l1, l5, l4 + 72ull, l4 + 16ull);
+if (get8(b, l4 + 40)) { goto L2; }
+l9 = l9 + 120ull;
+l10 = l10 + 32ull;
+l5 = get64(b, l4 + 48);
+l11 = l11 + 1ull;
+if (l6 != l11) { goto L4; }
 L3:;
-put8(b, l0, 1u);
-put64(b, l0 + 8ull, 0ull);
-put8(b, l0 + 1ull, get8(b, l5 + 57));
+put16(b, l0, 0u);
+put64(b, l0 + 8ull, l5);
 goto L1;
 L2:;
-abort();
+put8(b, l0, 1u);
+put64(b, l0 + 8ull, 0ull);
+put8(b, l0 + 1ull, get8(b, l4 + 41));
 L1:;
-SP = l5 + 256ull;
+SP = l4 + 256ull;
+}
+
+FN void f185(B b, u64 l0) {
+u32 l7 = 0;
+u64 l1 = 0, l2 = 0, l3 = 0, l4 = 0, l5 = 0, l6 = 0;
+l1 = get64(b, l0 + 16);
+l2 = get64(b, l0);
+l3 = get64(b, l0 + 8);
+if (!l3) { goto L1; }
+l0 = l2;
+L2:;
+l4 = get64(b, l0 + 16ull);
+l7 = get8(b, l0 + 8ull);
+switch ((u32)(u64)get8(b, l0)) {
+case 2: goto L5;
+case 3: goto L4;
+default: goto L3;
+}
+L5:;
+switch (l7) {
+case 2: goto L7;
+case 3: goto L6;
+default: goto L3;
+}
+L7:;
+rattle_dealloc(b, l4);
+goto L3;
+L6:;
+l5 = get64(b, l4);
+l6 = get64(b, l4 + 16);
+rattle_dealloc(b, l4);
+if (!l6) { goto L3; }
+rattle_dealloc(b, l5);
+goto L3;
+L4:;
+if (!l7) { goto L3; }
+l5 = get64(b, l4);
+l6 = get64(b, l4 + 16);
+rattle_dealloc(b, l4);
+if (!l6) { goto L3; }
+rattle_dealloc(b, l5);
+L3:;
+l0 = l0 + 24ull;
+l3 = l3 + 18446744073709551615ull;
+if (l3 != 0ull) { goto L2; }
+L1:;
+if (!l1) { goto L8; }
+rattle_dealloc(b, l2);
+L8:;
 }
 
 FN void f186(B b, u64 l0) {
@@ -32300,56 +32467,7 @@ rattle_dealloc(b, l2);
 L8:;
 }
 
-FN void f187(B b, u64 l0) {
-u32 l7 = 0;
-u64 l1 = 0, l2 = 0, l3 = 0, l4 = 0, l5 = 0, l6 = 0;
-l1 = get64(b, l0 + 16);
-l2 = get64(b, l0);
-l3 = get64(b, l0 + 8);
-if (!l3) { goto L1; }
-l0 = l2;
-L2:;
-l4 = get64(b, l0 + 16ull);
-l7 = get8(b, l0 + 8ull);
-switch ((u32)(u64)get8(b, l0)) {
-case 2: goto L5;
-case 3: goto L4;
-default: goto L3;
-}
-L5:;
-switch (l7) {
-case 2: goto L7;
-case 3: goto L6;
-default: goto L3;
-}
-L7:;
-rattle_dealloc(b, l4);
-goto L3;
-L6:;
-l5 = get64(b, l4);
-l6 = get64(b, l4 + 16);
-rattle_dealloc(b, l4);
-if (!l6) { goto L3; }
-rattle_dealloc(b, l5);
-goto L3;
-L4:;
-if (!l7) { goto L3; }
-l5 = get64(b, l4);
-l6 = get64(b, l4 + 16);
-rattle_dealloc(b, l4);
-if (!l6) { goto L3; }
-rattle_dealloc(b, l5);
-L3:;
-l0 = l0 + 24ull;
-l3 = l3 + 18446744073709551615ull;
-if (l3 != 0ull) { goto L2; }
-L1:;
-if (!l1) { goto L8; }
-rattle_dealloc(b, l2);
-L8:;
-}
-
-FN u32 f188(B b, u64 l0, u64 l1, u64 l2, u64 l3) {
+FN u32 f187(B b, u64 l0, u64 l1, u64 l2, u64 l3) {
 u32 l15 = 0, l16 = 0, t0, t1, t2;
 u64 l4 = 0, l5 = 0, l6 = 0, l7 = 0, l8 = 0, l9 = 0, l10 = 0, l11 = 0, l12 = 0, l13 = 0, l14 = 0;
 l4 = SP - 80ull;
@@ -32549,7 +32667,7 @@ SP = l4 + 80ull;
 return l16;
 }
 
-FN u32 f189(B b, u64 l0) {
+FN u32 f188(B b, u64 l0) {
 u32 l6 = 0;
 u64 l1 = 0, l2 = 0, l3 = 0, l4 = 0, l5 = 0;
 l1 = SP - 32ull;
@@ -32581,7 +32699,7 @@ SP = l1 + 32ull;
 return l6;
 }
 
-FN u32 f190(B b, u64 l0, u64 l1, u32 l2, u32 l3, u64 l4) {
+FN u32 f189(B b, u64 l0, u64 l1, u32 l2, u32 l3, u64 l4) {
 u32 l5 = 0, t0, t1;
 u64 l6 = 0, l7 = 0, l8 = 0, l9 = 0;
 l5 = 1u;
@@ -32612,7 +32730,7 @@ put64(b, l0 + 32ull, l6 + 1ull);
 l4 = l0 + 56ull;
 l6 = get64(b, l4);
 if (get64(b, l0 + 64ull) != l6) { goto L4; }
-t1 = f191(b, l0 + 48ull);
+t1 = f190(b, l0 + 48ull);
 if (!t1) { goto L1; }
 l6 = get64(b, l0 + 56ull);
 L4:;
@@ -32623,7 +32741,7 @@ L1:;
 return l5;
 }
 
-FN u32 f191(B b, u64 l0) {
+FN u32 f190(B b, u64 l0) {
 u32 l6 = 0;
 u64 l1 = 0, l2 = 0, l3 = 0, l4 = 0, l5 = 0;
 l1 = SP - 32ull;
@@ -32655,7 +32773,7 @@ SP = l1 + 32ull;
 return l6;
 }
 
-FN void f192(B b, u64 l0, u64 l1, u64 l2, u64 l3, u64 l4) {
+FN void f191(B b, u64 l0, u64 l1, u64 l2, u64 l3, u64 l4) {
 u32 t0, t1;
 u64 l5 = 0, l6 = 0, l7 = 0, l8 = 0, l9 = 0, l10 = 0, l11 = 0;
 l5 = SP - 192ull;
@@ -32672,7 +32790,7 @@ L3:;
 put64(b, l5 + 40, l6);
 put64(b, l5 + 32, l4);
 put64(b, l5 + 24, l7);
-f186(b, l5 + 24ull);
+f185(b, l5 + 24ull);
 put64(b, l0 + 8ull, 0ull);
 put16(b, l0, 1u);
 goto L1;
@@ -32683,7 +32801,7 @@ if (!l4) { goto L4; }
 put64(b, l5 + 16, l6);
 put64(b, l5 + 8, l4);
 put64(b, l5, l7);
-f186(b, l5);
+f185(b, l5);
 put64(b, l0 + 8ull, 0ull);
 put16(b, l0, 1u);
 goto L1;
@@ -32737,616 +32855,718 @@ L1:;
 SP = l5 + 192ull;
 }
 
-FN void f193(B b, u64 l0, u64 l1, u32 l2, u32 l3) {
-u32 l21 = 0, l22 = 0, l23 = 0, l24 = 0, l25 = 0, l26 = 0, t0;
+FN void f192(B b, u64 l0, u64 l1, u32 l2, u32 l3) {
+u32 l21 = 0, l22 = 0, l23 = 0, l24 = 0, l25 = 0, t0;
 u64 l4 = 0, l5 = 0, l6 = 0, l7 = 0, l8 = 0, l9 = 0, l10 = 0, l11 = 0, l12 = 0, l13 = 0, l14 = 0, l15 = 0, l16 = 0, l17 = 0, l18 = 0, l19 = 0, l20 = 0;
-l4 = SP - 2304ull;
+l4 = SP - 2464ull;
 SP = l4;
-fill(b, l4 + 192ull, 0u, 144u);
-fill(b, l4 + 112ull, 0u, 80u);
-fill(b, l4 + 25ull, 0u, 87u);
-put64(b, l4 + 16, 0ull);
-put64(b, l4 + 8, 0ull);
-put64(b, l4, 0ull);
+fill(b, l4 + 88ull, 0u, 144u);
+fill(b, l4 + 1ull, 0u, 87u);
 l5 = l1 + 112ull;
 l21 = get32(b, l5);
-fill(b, l4 + 2152ull, 0u, 88u);
+fill(b, l4 + 2304ull, 0u, 88u);
+put64(b, l4 + 248, 0ull);
+put64(b, l4 + 232, l1);
+put64(b, l4 + 256, 0ull);
+put64(b, l4 + 272, 0ull);
+put64(b, l4 + 280, 0ull);
+put64(b, l4 + 296, 0ull);
+put64(b, l4 + 304, 0ull);
+put64(b, l4 + 320, 0ull);
+put64(b, l4 + 328, 0ull);
+put64(b, l4 + 344, 0ull);
 put64(b, l4 + 352, 0ull);
-put64(b, l4 + 336, l1);
-put64(b, l4 + 360, 0ull);
 put64(b, l4 + 376, 0ull);
-put64(b, l4 + 384, 0ull);
+put64(b, l4 + 368, 0ull);
+put64(b, l4 + 240, l4 + 2456ull);
+put64(b, l4 + 264, l4 + 2456ull);
+put64(b, l4 + 288, l4 + 2456ull);
+put64(b, l4 + 312, l4 + 2456ull);
+put64(b, l4 + 336, l4 + 2456ull);
+put64(b, l4 + 360, l4 + 2456ull);
+put64(b, l4 + 392, 0ull);
 put64(b, l4 + 400, 0ull);
-put64(b, l4 + 408, 0ull);
+put64(b, l4 + 416, 0ull);
 put64(b, l4 + 424, 0ull);
-put64(b, l4 + 432, 0ull);
+put64(b, l4 + 440, 0ull);
 put64(b, l4 + 448, 0ull);
-put64(b, l4 + 456, 0ull);
-put64(b, l4 + 480, 0ull);
+put64(b, l4 + 464, 0ull);
 put64(b, l4 + 472, 0ull);
-put64(b, l4 + 344, l4 + 2296ull);
-put64(b, l4 + 368, l4 + 2296ull);
-put64(b, l4 + 392, l4 + 2296ull);
-put64(b, l4 + 416, l4 + 2296ull);
-put64(b, l4 + 440, l4 + 2296ull);
-put64(b, l4 + 464, l4 + 2296ull);
+put64(b, l4 + 488, 0ull);
 put64(b, l4 + 496, 0ull);
 put64(b, l4 + 504, 0ull);
-put64(b, l4 + 520, 0ull);
+put64(b, l4 + 512, 2611923443488327891ull);
+put64(b, l4 + 384, l4 + 2456ull);
+put64(b, l4 + 408, l4 + 2456ull);
+put64(b, l4 + 432, l4 + 2456ull);
+put64(b, l4 + 456, l4 + 2456ull);
+put64(b, l4 + 480, l4 + 2456ull);
+put64(b, l4 + 520, l4 + 2456ull);
+put64(b, l4 + 536, 0ull);
 put64(b, l4 + 528, 0ull);
-put64(b, l4 + 544, 0ull);
+put64(b, l4 + 560, 0ull);
 put64(b, l4 + 552, 0ull);
-put64(b, l4 + 568, 0ull);
+put64(b, l4 + 584, 0ull);
 put64(b, l4 + 576, 0ull);
-put64(b, l4 + 592, 0ull);
-put64(b, l4 + 600, 0ull);
 put64(b, l4 + 608, 0ull);
-put64(b, l4 + 616, 2611923443488327891ull);
-put64(b, l4 + 488, l4 + 2296ull);
-put64(b, l4 + 512, l4 + 2296ull);
-put64(b, l4 + 536, l4 + 2296ull);
-put64(b, l4 + 560, l4 + 2296ull);
-put64(b, l4 + 584, l4 + 2296ull);
-put64(b, l4 + 624, l4 + 2296ull);
-put64(b, l4 + 640, 0ull);
+put64(b, l4 + 600, 0ull);
 put64(b, l4 + 632, 0ull);
-put64(b, l4 + 664, 0ull);
+put64(b, l4 + 624, 0ull);
 put64(b, l4 + 656, 0ull);
+put64(b, l4 + 648, 0ull);
+put64(b, l4 + 544, l4 + 2456ull);
+put64(b, l4 + 568, l4 + 2456ull);
+put64(b, l4 + 592, l4 + 2456ull);
+put64(b, l4 + 616, l4 + 2456ull);
+put64(b, l4 + 640, l4 + 2456ull);
+put64(b, l4 + 664, l4 + 2456ull);
 put64(b, l4 + 688, 0ull);
 put64(b, l4 + 680, 0ull);
+put64(b, l4 + 672, 0ull);
+put64(b, l4 + 696, 2611923443488327891ull);
+put64(b, l4 + 704, l4 + 2456ull);
+put64(b, l4 + 720, 0ull);
 put64(b, l4 + 712, 0ull);
-put64(b, l4 + 704, 0ull);
+put64(b, l4 + 728, l4 + 2456ull);
+put64(b, l4 + 744, 0ull);
 put64(b, l4 + 736, 0ull);
-put64(b, l4 + 728, 0ull);
+put64(b, l4 + 752, l4 + 2456ull);
+put64(b, l4 + 768, 0ull);
 put64(b, l4 + 760, 0ull);
-put64(b, l4 + 752, 0ull);
-put64(b, l4 + 648, l4 + 2296ull);
-put64(b, l4 + 672, l4 + 2296ull);
-put64(b, l4 + 696, l4 + 2296ull);
-put64(b, l4 + 720, l4 + 2296ull);
-put64(b, l4 + 744, l4 + 2296ull);
-put64(b, l4 + 768, l4 + 2296ull);
+put64(b, l4 + 776, l4 + 2456ull);
 put64(b, l4 + 792, 0ull);
 put64(b, l4 + 784, 0ull);
-put64(b, l4 + 776, 0ull);
-put64(b, l4 + 800, 2611923443488327891ull);
-put64(b, l4 + 808, l4 + 2296ull);
-put64(b, l4 + 824, 0ull);
+put64(b, l4 + 800, l4 + 2456ull);
 put64(b, l4 + 816, 0ull);
-put64(b, l4 + 832, l4 + 2296ull);
-put64(b, l4 + 848, 0ull);
+put64(b, l4 + 808, 0ull);
+put64(b, l4 + 824, l4 + 2456ull);
 put64(b, l4 + 840, 0ull);
-put64(b, l4 + 856, l4 + 2296ull);
-put64(b, l4 + 872, 0ull);
+put64(b, l4 + 832, 0ull);
+put64(b, l4 + 848, l4 + 2456ull);
 put64(b, l4 + 864, 0ull);
-put64(b, l4 + 880, l4 + 2296ull);
-put64(b, l4 + 896, 0ull);
+put64(b, l4 + 856, 0ull);
+put64(b, l4 + 872, l4 + 2456ull);
 put64(b, l4 + 888, 0ull);
-put64(b, l4 + 904, l4 + 2296ull);
-put64(b, l4 + 920, 0ull);
+put64(b, l4 + 880, 0ull);
+put64(b, l4 + 896, l4 + 2456ull);
 put64(b, l4 + 912, 0ull);
-put64(b, l4 + 928, l4 + 2296ull);
-put64(b, l4 + 944, 0ull);
-put64(b, l4 + 936, 0ull);
-put64(b, l4 + 952, l4 + 2296ull);
-put64(b, l4 + 968, 0ull);
-put64(b, l4 + 960, 0ull);
-put64(b, l4 + 976, l4 + 2296ull);
-put64(b, l4 + 992, 0ull);
-put64(b, l4 + 984, 0ull);
-put64(b, l4 + 1000, l4 + 2296ull);
-put64(b, l4 + 1016, 0ull);
-put64(b, l4 + 1008, 0ull);
-f24(b, l4 + 2152ull, l4 + 336ull, l21);
-copy(b, l4 + 1024ull, l4 + 336ull, 688u);
-f25(b, l4 + 1024ull);
-l21 = get8(b, l4 + 2152);
-copy(b, l4 + 2008ull, (l4 + 2152ull) + 8ull, 80u);
-if (l21) { goto L10; }
-l6 = l4 + 32ull;
-copy(b, l6, l4 + 2008ull, 80u);
-copy(b, l4 + 112ull, l6, 80u);
+put64(b, l4 + 904, 0ull);
+f24(b, l4 + 2304ull, l4 + 232ull, l21);
+copy(b, l4 + 920ull, l4 + 232ull, 688u);
+f25(b, l4 + 920ull);
+l21 = get8(b, l4 + 2304);
+copy(b, l4 + 2000ull, (l4 + 2304ull) + 8ull, 80u);
+if (l21) { goto L8; }
+l6 = l4 + 8ull;
+copy(b, l6, l4 + 2000ull, 80u);
 l22 = get32(b, l5);
 fill(b, l4 + 1712ull, 0u, 144u);
-fill(b, l4 + 2008ull, 0u, 104u);
-f195(b, l4 + 2008ull, l1, l4 + 112ull);
-if (get8(b, l4 + 2008)) { goto L14; }
-copy(b, l4 + 1856ull, (l4 + 2008ull) + 8ull, 96u);
-fill(b, l4 + 2152ull, 0u, 128u);
-fill(b, l4 + 336ull, 0u, 136u);
+put64(b, l4 + 1624, 0ull);
+put64(b, l4 + 1616, 0ull);
+put64(b, l4 + 1608, 0ull);
+copy(b, l4 + 1632ull, l6, 80u);
+fill(b, l4 + 2000ull, 0u, 104u);
+f194(b, l4 + 2000ull, l1, l4 + 1632ull);
+if (get8(b, l4 + 2000)) { goto L12; }
+copy(b, l4 + 1856ull, (l4 + 2000ull) + 8ull, 96u);
+fill(b, l4 + 2304ull, 0u, 128u);
+fill(b, l4 + 232ull, 0u, 136u);
 l7 = 0ull;
-put64(b, l4 + 1960, 0ull);
-put64(b, l4 + 1968, 0ull);
-put64(b, l4 + 1952, l4 + 2296ull);
-l8 = get64(b, l4 + 128);
-if (!(u32)(!l8)) { goto L19; }
-l9 = l4 + 2296ull;
+put64(b, l4 + 2152, 0ull);
+put64(b, l4 + 2160, 0ull);
+put64(b, l4 + 2144, l4 + 2456ull);
+l8 = get64(b, l4 + 1648);
+if (!(u32)(!l8)) { goto L17; }
+l9 = l4 + 2456ull;
 l23 = 1u;
-goto L18;
-L19:;
-l10 = (l4 + 336ull) + 8ull;
-l11 = l4 + 2296ull;
+goto L16;
+L17:;
+l10 = (l4 + 232ull) + 8ull;
+l11 = l4 + 2456ull;
 l7 = 0ull;
 l12 = 0ull;
 l13 = 0ull;
-L20:;
+L18:;
 l21 = (u32)l13;
-f124(b, l4 + 336ull, l4 + 112ull, l21);
-if (get8(b, l4 + 336)) { goto L23; }
-copy(b, l4 + 2152ull, l10, 128u);
-put64(b, l4 + 2000, 0ull);
-put64(b, l4 + 1992, 0ull);
-put64(b, l4 + 1984, 0ull);
-put64(b, l4 + 1976, 0ull);
+f124(b, l4 + 232ull, l4 + 1632ull, l21);
+if (get8(b, l4 + 232)) { goto L21; }
+copy(b, l4 + 2304ull, l10, 128u);
+put64(b, l4 + 2248, 0ull);
+put64(b, l4 + 2240, 0ull);
+put64(b, l4 + 2232, 0ull);
+put64(b, l4 + 2224, 0ull);
 l24 = 0u;
-fill(b, l4 + 1024ull, 0u, 160u);
-f196(b, l4 + 1024ull, l4 + 112ull, l21, l4 + 2152ull, l12);
-if (get8(b, l4 + 1024)) { goto L16; }
-l25 = get8(b, l4 + 1104);
-l14 = get64(b, l4 + 1080);
-if ((get64(b, l4 + 1040) | get64(b, l4 + 1064)) != 0ull) { goto L21; }
-l9 = get64(b, l4 + 1168);
-l15 = get64(b, l4 + 1144);
-l5 = l14;
-l6 = get64(b, l4 + 1088);
-if (!l6) { goto L22; }
-L24:;
-if (get32(b, l5)) { goto L21; }
+fill(b, l4 + 920ull, 0u, 160u);
+f195(b, l4 + 920ull, l4 + 1632ull, l21, l4 + 2304ull, l12);
+if (get8(b, l4 + 920)) { goto L14; }
+l23 = get8(b, l4 + 1000);
+l9 = get64(b, l4 + 976);
+if ((get64(b, l4 + 936) | get64(b, l4 + 960)) != 0ull) { goto L19; }
+l14 = get64(b, l4 + 1064);
+l15 = get64(b, l4 + 1040);
+l5 = l9;
+l6 = get64(b, l4 + 984);
+if (!l6) { goto L20; }
+L22:;
+if (get32(b, l5)) { goto L19; }
 l5 = l5 + 4ull;
 l6 = l6 + 18446744073709551615ull;
-if (!l6) { goto L22; }
-goto L24;
-L23:;
-l14 = get64(b, l4 + 1968);
-if (!l7) { goto L25; }
-l1 = 0ull;
-L26:;
-l5 = l11 + (l1 << 5);
-l13 = get64(b, l5 + 24);
-l12 = get64(b, l5 + 8);
-l6 = get64(b, l5 + 16);
-if (!l6) { goto L27; }
-l5 = l12;
-L28:;
-copy(b, l4 + 1024ull, l5, 152u);
-l5 = l5 + 160ull;
-f197(b, l4 + 1024ull);
-l6 = l6 + 18446744073709551615ull;
-if (l6 != 0ull) { goto L28; }
-L27:;
-if (!l13) { goto L29; }
-rattle_dealloc(b, l12);
-L29:;
-l1 = l1 + 1ull;
-if (l1 != l7) { goto L26; }
-L25:;
-if (!l14) { goto L15; }
-rattle_dealloc(b, l11);
-goto L15;
-L22:;
-l24 = (u32)(!(l15 | l9)) & (u32)((l25 & 255u) != 0u);
+if (!l6) { goto L20; }
+goto L22;
 L21:;
-l5 = get64(b, l4 + 1176);
-l15 = get64(b, l4 + 1160);
-l16 = get64(b, l4 + 1152);
-l17 = get64(b, l4 + 1136);
-l18 = get64(b, l4 + 1128);
-l19 = get64(b, l4 + 1112);
-l6 = get64(b, l4 + 1096);
-l9 = get64(b, l4 + 1072);
-l20 = get64(b, l4 + 1056);
-if (!get64(b, l4 + 1048)) { goto L30; }
-rattle_dealloc(b, get64(b, l4 + 1032));
-L30:;
-if (!l9) { goto L31; }
+l9 = get64(b, l4 + 2160);
+if (!l7) { goto L23; }
+l12 = 0ull;
+L24:;
+l5 = l11 + (l12 << 5);
+l13 = get64(b, l5 + 24);
+l1 = get64(b, l5 + 8);
+l6 = get64(b, l5 + 16);
+if (!l6) { goto L25; }
+l5 = l1;
+L26:;
+copy(b, l4 + 920ull, l5, 152u);
+l5 = l5 + 160ull;
+f196(b, l4 + 920ull);
+l6 = l6 + 18446744073709551615ull;
+if (l6 != 0ull) { goto L26; }
+L25:;
+if (!l13) { goto L27; }
+rattle_dealloc(b, l1);
+L27:;
+l12 = l12 + 1ull;
+if (l12 != l7) { goto L24; }
+L23:;
+if (!l9) { goto L13; }
+rattle_dealloc(b, l11);
+goto L13;
+L20:;
+l24 = (u32)(!(l15 | l14)) & (u32)((l23 & 255u) != 0u);
+L19:;
+l5 = get64(b, l4 + 1072);
+l15 = get64(b, l4 + 1056);
+l16 = get64(b, l4 + 1048);
+l17 = get64(b, l4 + 1032);
+l18 = get64(b, l4 + 1024);
+l19 = get64(b, l4 + 1008);
+l6 = get64(b, l4 + 992);
+l14 = get64(b, l4 + 968);
+l20 = get64(b, l4 + 952);
+if (!get64(b, l4 + 944)) { goto L28; }
+rattle_dealloc(b, get64(b, l4 + 928));
+L28:;
+if (!l14) { goto L29; }
 rattle_dealloc(b, l20);
-L31:;
-if (!l6) { goto L32; }
-rattle_dealloc(b, l14);
-L32:;
-if ((l25 & 255u) != 1u) { goto L33; }
-if (!l18) { goto L34; }
+L29:;
+if (!l6) { goto L30; }
+rattle_dealloc(b, l9);
+L30:;
+if ((l23 & 255u) != 1u) { goto L31; }
+if (!l18) { goto L32; }
 rattle_dealloc(b, l19);
-L34:;
-if (!l16) { goto L33; }
+L32:;
+if (!l16) { goto L31; }
 rattle_dealloc(b, l17);
-L33:;
-if (!l5) { goto L35; }
+L31:;
+if (!l5) { goto L33; }
 rattle_dealloc(b, l15);
+L33:;
+if (l24) { goto L34; }
+f197(b, l4 + 2224ull, l4 + 1632ull, l4 + 1856ull, l21, l12);
+if (get8(b, l4 + 2224)) { goto L14; }
+l14 = get64(b, l4 + 2248);
+l6 = get64(b, l4 + 2240);
+l9 = get64(b, l4 + 2232);
+if (get64(b, l4 + 2160) != l7) { goto L35; }
+t0 = f198(b, l4 + 2144ull);
+if (!t0) { goto L15; }
+l11 = get64(b, l4 + 2144);
+l7 = get64(b, l4 + 2152);
 L35:;
-if (l24) { goto L36; }
-f198(b, l4 + 1976ull, l4 + 112ull, l4 + 1856ull, l21, l12);
-if (get8(b, l4 + 1976)) { goto L16; }
-l9 = get64(b, l4 + 2000);
-l6 = get64(b, l4 + 1992);
-l14 = get64(b, l4 + 1984);
-if (get64(b, l4 + 1968) != l7) { goto L37; }
-t0 = f199(b, l4 + 1952ull);
-if (!t0) { goto L17; }
-l11 = get64(b, l4 + 1952);
-l7 = get64(b, l4 + 1960);
-L37:;
 l5 = l11 + (l7 << 5);
-put64(b, l5 + 24, l9);
+put64(b, l5 + 24, l14);
 put64(b, l5 + 16, l6);
-put64(b, l5 + 8, l14);
+put64(b, l5 + 8, l9);
 put32(b, l5 + 4, 0u);
 put32(b, l5, l21);
 l7 = l7 + 1ull;
-put64(b, l4 + 1960, l7);
-L36:;
-l5 = get64(b, l4 + 2240);
-if (!l5) { goto L38; }
-l5 = (u64)get32(b, (get64(b, l4 + 2232) + (l5 << 2)) + 18446744073709551612ull) + 1ull;
+put64(b, l4 + 2152, l7);
+L34:;
+l5 = get64(b, l4 + 2392);
+if (!l5) { goto L36; }
+l5 = (u64)get32(b, (get64(b, l4 + 2384) + (l5 << 2)) + 18446744073709551612ull) + 1ull;
 l12 = (l5 > l12) ? l5 : l12;
+L36:;
+if (!get64(b, l4 + 2320)) { goto L37; }
+rattle_dealloc(b, get64(b, l4 + 2304));
+L37:;
+if (!get64(b, l4 + 2344)) { goto L38; }
+rattle_dealloc(b, get64(b, l4 + 2328));
 L38:;
-if (!get64(b, l4 + 2168)) { goto L39; }
-rattle_dealloc(b, get64(b, l4 + 2152));
+if (!get64(b, l4 + 2376)) { goto L39; }
+rattle_dealloc(b, get64(b, l4 + 2360));
 L39:;
-if (!get64(b, l4 + 2192)) { goto L40; }
-rattle_dealloc(b, get64(b, l4 + 2176));
+if (!get64(b, l4 + 2400)) { goto L40; }
+rattle_dealloc(b, get64(b, l4 + 2384));
 L40:;
-if (!get64(b, l4 + 2224)) { goto L41; }
-rattle_dealloc(b, get64(b, l4 + 2208));
+if (!get64(b, l4 + 2424)) { goto L41; }
+rattle_dealloc(b, get64(b, l4 + 2408));
 L41:;
-if (!get64(b, l4 + 2248)) { goto L42; }
-rattle_dealloc(b, get64(b, l4 + 2232));
-L42:;
-if (!get64(b, l4 + 2272)) { goto L43; }
-rattle_dealloc(b, get64(b, l4 + 2256));
-L43:;
 l13 = l13 + 1ull;
-if (l13 != l8) { goto L20; }
-l23 = (u32)(!get64(b, l4 + 1968));
-l9 = get64(b, l4 + 1952);
-L18:;
+if (l13 != l8) { goto L18; }
+l23 = (u32)(!get64(b, l4 + 2160));
+l9 = get64(b, l4 + 2144);
+L16:;
 l5 = get64(b, l4 + 1896);
 l6 = get64(b, l4 + 1880);
-if (!get64(b, l4 + 1872)) { goto L44; }
+if (!get64(b, l4 + 1872)) { goto L42; }
 rattle_dealloc(b, get64(b, l4 + 1856));
-L44:;
-if (!l5) { goto L45; }
+L42:;
+if (!l5) { goto L43; }
 rattle_dealloc(b, l6);
-L45:;
-if (!get64(b, l4 + 1920)) { goto L46; }
+L43:;
+if (!get64(b, l4 + 1920)) { goto L44; }
 rattle_dealloc(b, get64(b, l4 + 1904));
-L46:;
-if (!get64(b, l4 + 1944)) { goto L47; }
+L44:;
+if (!get64(b, l4 + 1944)) { goto L45; }
 rattle_dealloc(b, get64(b, l4 + 1928));
-L47:;
-fill(b, l4 + 2152ull, 0u, 144u);
-fill(b, l4 + 2008ull, 0u, 144u);
-l26 = (u32)(!l7);
-if (l26) { goto L12; }
+L45:;
+fill(b, l4 + 2000ull, 0u, 144u);
+fill(b, l4 + 1856ull, 0u, 144u);
+copy(b, l4 + 2144ull, l4 + 1632ull, 80u);
+l25 = (u32)(!l7);
+if (l25) { goto L10; }
 l5 = l9 + 16ull;
 l6 = l7;
-goto L13;
-L17:;
-if (!l6) { goto L48; }
-l5 = l14;
-L49:;
-copy(b, l4 + 1024ull, l5, 152u);
+goto L11;
+L15:;
+if (!l6) { goto L46; }
+l5 = l9;
+L47:;
+copy(b, l4 + 920ull, l5, 152u);
 l5 = l5 + 160ull;
-f197(b, l4 + 1024ull);
+f196(b, l4 + 920ull);
 l6 = l6 + 18446744073709551615ull;
-if (l6 != 0ull) { goto L49; }
+if (l6 != 0ull) { goto L47; }
+L46:;
+if (!l14) { goto L14; }
+rattle_dealloc(b, l9);
+L14:;
+if (!get64(b, l4 + 2320)) { goto L48; }
+rattle_dealloc(b, get64(b, l4 + 2304));
 L48:;
-if (!l9) { goto L16; }
-rattle_dealloc(b, l14);
-L16:;
-if (!get64(b, l4 + 2168)) { goto L50; }
-rattle_dealloc(b, get64(b, l4 + 2152));
+if (!get64(b, l4 + 2344)) { goto L49; }
+rattle_dealloc(b, get64(b, l4 + 2328));
+L49:;
+if (!get64(b, l4 + 2376)) { goto L50; }
+rattle_dealloc(b, get64(b, l4 + 2360));
 L50:;
-if (!get64(b, l4 + 2192)) { goto L51; }
-rattle_dealloc(b, get64(b, l4 + 2176));
+if (!get64(b, l4 + 2400)) { goto L51; }
+rattle_dealloc(b, get64(b, l4 + 2384));
 L51:;
-if (!get64(b, l4 + 2224)) { goto L52; }
-rattle_dealloc(b, get64(b, l4 + 2208));
+if (!get64(b, l4 + 2424)) { goto L52; }
+rattle_dealloc(b, get64(b, l4 + 2408));
 L52:;
-if (!get64(b, l4 + 2248)) { goto L53; }
-rattle_dealloc(b, get64(b, l4 + 2232));
-L53:;
-if (!get64(b, l4 + 2272)) { goto L54; }
-rattle_dealloc(b, get64(b, l4 + 2256));
+l14 = get64(b, l4 + 2160);
+l13 = get64(b, l4 + 2144);
+l9 = get64(b, l4 + 2152);
+if (!l9) { goto L53; }
+l12 = 0ull;
 L54:;
-l9 = get64(b, l4 + 1968);
-l13 = get64(b, l4 + 1952);
-l14 = get64(b, l4 + 1960);
-if (!l14) { goto L55; }
-l1 = 0ull;
-L56:;
-l5 = l13 + (l1 << 5);
-l12 = get64(b, l5 + 24);
+l5 = l13 + (l12 << 5);
+l1 = get64(b, l5 + 24);
 l7 = get64(b, l5 + 8);
 l6 = get64(b, l5 + 16);
-if (!l6) { goto L57; }
+if (!l6) { goto L55; }
 l5 = l7;
-L58:;
-copy(b, l4 + 1024ull, l5, 152u);
+L56:;
+copy(b, l4 + 920ull, l5, 152u);
 l5 = l5 + 160ull;
-f197(b, l4 + 1024ull);
+f196(b, l4 + 920ull);
 l6 = l6 + 18446744073709551615ull;
-if (l6 != 0ull) { goto L58; }
-L57:;
-if (!l12) { goto L59; }
-rattle_dealloc(b, l7);
-L59:;
-l1 = l1 + 1ull;
-if (l1 != l14) { goto L56; }
+if (l6 != 0ull) { goto L56; }
 L55:;
-if (!l9) { goto L15; }
+if (!l1) { goto L57; }
+rattle_dealloc(b, l7);
+L57:;
+l12 = l12 + 1ull;
+if (l12 != l9) { goto L54; }
+L53:;
+if (!l14) { goto L13; }
 rattle_dealloc(b, l13);
-L15:;
+L13:;
 l5 = get64(b, l4 + 1896);
 l6 = get64(b, l4 + 1880);
-if (!get64(b, l4 + 1872)) { goto L60; }
+if (!get64(b, l4 + 1872)) { goto L58; }
 rattle_dealloc(b, get64(b, l4 + 1856));
-L60:;
-if (!l5) { goto L61; }
+L58:;
+if (!l5) { goto L59; }
 rattle_dealloc(b, l6);
-L61:;
-if (!get64(b, l4 + 1920)) { goto L62; }
+L59:;
+if (!get64(b, l4 + 1920)) { goto L60; }
 rattle_dealloc(b, get64(b, l4 + 1904));
-L62:;
-if (!get64(b, l4 + 1944)) { goto L14; }
+L60:;
+if (!get64(b, l4 + 1944)) { goto L12; }
 rattle_dealloc(b, get64(b, l4 + 1928));
-L14:;
+L12:;
+put64(b, l4 + 1608, get64(b, l4 + 1640));
+put64(b, l4 + 1616, get64(b, l4 + 1648));
+put64(b, l4 + 1624, get64(b, l4 + 1656));
+f199(b, l4 + 1608ull);
+if (!get64(b, l4 + 1680)) { goto L61; }
+rattle_dealloc(b, get64(b, l4 + 1664));
+L61:;
+if (!get64(b, l4 + 1704)) { goto L62; }
+rattle_dealloc(b, get64(b, l4 + 1688));
+L62:;
 l24 = 0u;
-fill(b, l4 + 192ull, 0u, 144u);
+fill(b, l4 + 88ull, 0u, 144u);
 l5 = 0ull;
-l25 = 1u;
+l23 = 1u;
 l21 = 0u;
 l14 = 0ull;
 goto L2;
-L13:;
+L11:;
 L65:;
-l14 = 0ull;
-if (get64(b, l5) == 0ull) { goto L64; }
+l12 = 0ull;
+l21 = 0u;
+if (!get64(b, l5)) { goto L64; }
 l5 = l5 + 32ull;
 l6 = l6 + 18446744073709551615ull;
 if (!l6) { goto L63; }
 goto L65;
 L64:;
-l25 = 0u;
-fill(b, l4 + 1712ull, 0u, 144u);
-l2 = 1u;
-goto L6;
+l24 = 0u;
+l14 = 0ull;
+goto L5;
 L63:;
-l20 = (u64)l3;
-l6 = (l2 & 255u) ? l20 : 1ull;
+l16 = (u64)l3;
+l6 = (l2 & 255u) ? l16 : 1ull;
 l5 = l9 + 8ull;
 l14 = 0ull;
-l12 = l7;
+l13 = l7;
 L66:;
-l13 = get64(b, l5 + 8ull);
-l15 = (l6 > l13) ? 1ull : l6;
-if (!l15) { goto L67; }
-l15 = l15 + 18446744073709551615ull;
-if (l13 <= l15) { goto L67; }
-l13 = get64(b, (get64(b, l5) + (l15 * 160ull)) + 136ull);
-l14 = l13 + l14;
-l14 = (l14 < l13) ? 18446744073709551615ull : l14;
+l15 = get64(b, l5 + 8ull);
+l20 = (l6 > l15) ? 1ull : l6;
+if (!l20) { goto L67; }
+l20 = l20 + 18446744073709551615ull;
+if (l15 <= l20) { goto L67; }
+l15 = get64(b, (get64(b, l5) + (l20 * 160ull)) + 136ull);
+l14 = l15 + l14;
+l14 = (l14 < l15) ? 18446744073709551615ull : l14;
 L67:;
 l5 = l5 + 32ull;
-l12 = l12 + 18446744073709551615ull;
-if (l12 != 0ull) { goto L66; }
-if (!l14) { goto L68; }
-l21 = 0u;
-fill(b, l4 + 1712ull, 0u, 144u);
+l13 = l13 + 18446744073709551615ull;
+if (l13 != 0ull) { goto L66; }
 l24 = 1u;
-l2 = 1u;
-l25 = 0u;
-goto L4;
-L68:;
-if (l2 & 255u) { goto L11; }
+if (l14 != 0ull) { goto L5; }
+if (l2 & 255u) { goto L9; }
 l5 = l9 + 8ull;
 l6 = l7;
-L70:;
-if (!get64(b, l5 + 8ull)) { goto L69; }
-if (!get8(b, get64(b, l5) + 156ull)) { goto L69; }
+L69:;
+if (!get64(b, l5 + 8ull)) { goto L68; }
+if (!get8(b, get64(b, l5) + 156ull)) { goto L68; }
 l5 = l5 + 32ull;
 l6 = l6 + 18446744073709551615ull;
-if (!(u32)(!l6)) { goto L70; }
-l20 = 1ull;
-goto L11;
-L69:;
-l2 = 0u;
-fill(b, l4 + 1024ull, 0u, 176u);
-f200(b, l4 + 1024ull, l1, l22, l4 + 112ull, l9, l7, 1ull);
-if (get8(b, l4 + 1024)) { goto L71; }
+if (!l6) { goto L9; }
+goto L69;
+L68:;
+fill(b, l4 + 920ull, 0u, 176u);
+fill(b, l4 + 232ull, 0u, 176u);
+f200(b, l4 + 920ull, l1, l4 + 2144ull, l9, l7, 1ull);
+if (get8(b, l4 + 920)) { goto L71; }
+l5 = l4 + 936ull;
+if (get8(b, l4 + 928) != 1u) { goto L72; }
+f201(b, l4 + 232ull, l5, l22, get64(b, l1 + 64ull));
+if (get8(b, l4 + 232)) { goto L71; }
 l21 = 1u;
-if (get8(b, l4 + 1032) == 1u) { goto L8; }
-fill(b, l4 + 1024ull, 0u, 176u);
-f200(b, l4 + 1024ull, l1, l22, l4 + 112ull, l9, l7, 2ull);
-if (get8(b, l4 + 1024)) { goto L71; }
-if (get8(b, l4 + 1032) != 1u) { goto L72; }
-l21 = 2u;
-goto L8;
+if (get8(b, l4 + 240) == 1u) { goto L6; }
 L72:;
-fill(b, l4 + 1024ull, 0u, 176u);
-f200(b, l4 + 1024ull, l1, l22, l4 + 112ull, l9, l7, 3ull);
-if (get8(b, l4 + 1024)) { goto L71; }
-if (get8(b, l4 + 1032) != 1u) { goto L73; }
-l21 = 3u;
-goto L8;
-L73:;
-fill(b, l4 + 1024ull, 0u, 176u);
-f200(b, l4 + 1024ull, l1, l22, l4 + 112ull, l9, l7, 4ull);
-if (get8(b, l4 + 1024)) { goto L71; }
-if (get8(b, l4 + 1032) != 1u) { goto L74; }
-l21 = 4u;
-goto L8;
-L74:;
-fill(b, l4 + 1024ull, 0u, 176u);
-f200(b, l4 + 1024ull, l1, l22, l4 + 112ull, l9, l7, 5ull);
-if (get8(b, l4 + 1024)) { goto L71; }
-if (get8(b, l4 + 1032) != 1u) { goto L75; }
-l21 = 5u;
-goto L8;
-L75:;
-fill(b, l4 + 1024ull, 0u, 176u);
-f200(b, l4 + 1024ull, l1, l22, l4 + 112ull, l9, l7, 6ull);
-if (get8(b, l4 + 1024)) { goto L71; }
-if (get8(b, l4 + 1032) != 1u) { goto L76; }
-l21 = 6u;
-goto L8;
-L76:;
-l24 = 0u;
-l21 = 0u;
-goto L7;
-L71:;
-fill(b, l4 + 1712ull, 0u, 144u);
-l14 = 0ull;
-l25 = 1u;
+fill(b, l4 + 920ull, 0u, 176u);
+fill(b, l4 + 232ull, 0u, 176u);
+f200(b, l4 + 920ull, l1, l4 + 2144ull, l9, l7, 2ull);
+if (get8(b, l4 + 920)) { goto L71; }
+if (get8(b, l4 + 928) != 1u) { goto L73; }
+f201(b, l4 + 232ull, l5, l22, get64(b, l1 + 64ull));
+if (get8(b, l4 + 232)) { goto L71; }
+if (get8(b, l4 + 240) != 1u) { goto L73; }
+l21 = 2u;
 goto L6;
-L12:;
-l20 = (l2 & 255u) ? ((u64)l3) : 1ull;
-L11:;
-l2 = 0u;
-fill(b, l4 + 1024ull, 0u, 176u);
-f200(b, l4 + 1024ull, l1, l22, l4 + 112ull, l9, l7, l20);
-if (get8(b, l4 + 1024)) { goto L77; }
-l2 = 1u;
-if (get8(b, l4 + 1032) != 1u) { goto L79; }
-l24 = get32(b, l4 + 1040);
-l21 = get32(b, l4 + 1044);
-l14 = get64(b, l4 + 1048);
-copy(b, l4 + 336ull, l4 + 1056ull, 144u);
-l2 = 0u;
-goto L78;
-L79:;
-l24 = 0u;
-fill(b, l4 + 336ull, 0u, 144u);
-l14 = 0ull;
-l21 = 0u;
-L78:;
-copy(b, l4 + 2152ull, l4 + 336ull, 144u);
-l25 = 0u;
-goto L9;
+L73:;
+fill(b, l4 + 920ull, 0u, 176u);
+fill(b, l4 + 232ull, 0u, 176u);
+f200(b, l4 + 920ull, l1, l4 + 2144ull, l9, l7, 3ull);
+if (get8(b, l4 + 920)) { goto L71; }
+if (get8(b, l4 + 928) != 1u) { goto L74; }
+f201(b, l4 + 232ull, l5, l22, get64(b, l1 + 64ull));
+if (get8(b, l4 + 232)) { goto L71; }
+if (get8(b, l4 + 240) != 1u) { goto L74; }
+l21 = 3u;
+goto L6;
+L74:;
+fill(b, l4 + 920ull, 0u, 176u);
+fill(b, l4 + 232ull, 0u, 176u);
+f200(b, l4 + 920ull, l1, l4 + 2144ull, l9, l7, 4ull);
+if (get8(b, l4 + 920)) { goto L71; }
+if (get8(b, l4 + 928) != 1u) { goto L75; }
+f201(b, l4 + 232ull, l5, l22, get64(b, l1 + 64ull));
+if (get8(b, l4 + 232)) { goto L71; }
+if (get8(b, l4 + 240) != 1u) { goto L75; }
+l21 = 4u;
+goto L6;
+L75:;
+fill(b, l4 + 920ull, 0u, 176u);
+fill(b, l4 + 232ull, 0u, 176u);
+f200(b, l4 + 920ull, l1, l4 + 2144ull, l9, l7, 5ull);
+if (get8(b, l4 + 920)) { goto L71; }
+if (get8(b, l4 + 928) != 1u) { goto L76; }
+f201(b, l4 + 232ull, l5, l22, get64(b, l1 + 64ull));
+if (get8(b, l4 + 232)) { goto L71; }
+if (get8(b, l4 + 240) != 1u) { goto L76; }
+l21 = 5u;
+goto L6;
+L76:;
+fill(b, l4 + 920ull, 0u, 176u);
+fill(b, l4 + 232ull, 0u, 176u);
+f200(b, l4 + 920ull, l1, l4 + 2144ull, l9, l7, 6ull);
+if (get8(b, l4 + 920)) { goto L71; }
+if (get8(b, l4 + 928) != 1u) { goto L70; }
+f201(b, l4 + 232ull, l5, l22, get64(b, l1 + 64ull));
+if (get8(b, l4 + 232)) { goto L71; }
+if (get8(b, l4 + 240) != 1u) { goto L70; }
+l21 = 6u;
+goto L6;
+L71:;
+l12 = 0ull;
 L77:;
-fill(b, l4 + 2152ull, 0u, 144u);
+l5 = l9 + (l12 << 5);
+l13 = get64(b, l5 + 24);
+l1 = get64(b, l5 + 8);
+l6 = get64(b, l5 + 16);
+if (!l6) { goto L78; }
+l5 = l1;
+L79:;
+copy(b, l4 + 920ull, l5, 152u);
+l5 = l5 + 160ull;
+f196(b, l4 + 920ull);
+l6 = l6 + 18446744073709551615ull;
+if (l6 != 0ull) { goto L79; }
+L78:;
+if (!l13) { goto L80; }
+rattle_dealloc(b, l1);
+L80:;
+l12 = l12 + 1ull;
+if (l12 != l7) { goto L77; }
+if (l23) { goto L81; }
+rattle_dealloc(b, l9);
+L81:;
+f199(b, l4 + 2152ull);
+if (!get64(b, l4 + 2192)) { goto L82; }
+rattle_dealloc(b, get64(b, l4 + 2176));
+L82:;
+if (!get64(b, l4 + 2216)) { goto L83; }
+rattle_dealloc(b, get64(b, l4 + 2200));
+L83:;
+l24 = 0u;
+fill(b, l4 + 1712ull, 0u, 144u);
+l5 = 0ull;
+l23 = 1u;
+l21 = 0u;
 l14 = 0ull;
-l25 = 1u;
+goto L3;
+L70:;
+l14 = 0ull;
 l24 = 0u;
 l21 = 0u;
-goto L9;
+goto L5;
 L10:;
+l16 = (u64)l3;
+L9:;
+fill(b, l4 + 920ull, 0u, 176u);
+fill(b, l4 + 232ull, 0u, 176u);
+copy(b, l4 + 2224ull, l4 + 1632ull, 80u);
+f200(b, l4 + 920ull, l1, l4 + 2224ull, l9, l7, (l2 & 255u) ? l16 : 1ull);
+if (l25) { goto L84; }
+l12 = 0ull;
+L85:;
+l5 = l9 + (l12 << 5);
+l14 = get64(b, l5 + 24);
+l13 = get64(b, l5 + 8);
+l6 = get64(b, l5 + 16);
+if (!l6) { goto L86; }
+l5 = l13;
+L87:;
+copy(b, l4 + 2304ull, l5, 152u);
+l5 = l5 + 160ull;
+f196(b, l4 + 2304ull);
+l6 = l6 + 18446744073709551615ull;
+if (l6 != 0ull) { goto L87; }
+L86:;
+if (!l14) { goto L88; }
+rattle_dealloc(b, l13);
+L88:;
+l12 = l12 + 1ull;
+if (l12 != l7) { goto L85; }
+L84:;
+if (l23) { goto L89; }
+rattle_dealloc(b, l9);
+L89:;
+l5 = get64(b, l4 + 2296);
+l12 = get64(b, l4 + 2280);
+l7 = get64(b, l4 + 2256);
+l6 = get64(b, l4 + 2272);
+f199(b, l4 + 2232ull);
+if (!l6) { goto L90; }
+rattle_dealloc(b, l7);
+L90:;
+if (!l5) { goto L91; }
+rattle_dealloc(b, l12);
+L91:;
+if (get8(b, l4 + 920)) { goto L96; }
+if (get8(b, l4 + 928) != 1u) { goto L95; }
+f201(b, l4 + 232ull, l4 + 936ull, l22, get64(b, l1 + 64ull));
+if (get8(b, l4 + 232)) { goto L94; }
+if (get8(b, l4 + 240) != 1u) { goto L93; }
+l24 = get32(b, l4 + 248);
+l21 = get32(b, l4 + 252);
+l14 = get64(b, l4 + 256);
+copy(b, l4 + 2304ull, l4 + 264ull, 144u);
+l5 = 0ull;
+goto L92;
+L96:;
+l24 = 0u;
+fill(b, l4 + 2000ull, 0u, 144u);
+goto L7;
+L95:;
+l23 = 0u;
+fill(b, l4 + 2000ull, 0u, 144u);
+l14 = 0ull;
+l5 = 1ull;
+l24 = 0u;
+l21 = 0u;
+goto L4;
+L94:;
+l24 = 0u;
+fill(b, l4 + 2000ull, 0u, 144u);
+goto L7;
+L93:;
+l24 = 0u;
+fill(b, l4 + 2304ull, 0u, 144u);
+l14 = 0ull;
+l5 = 1ull;
+l21 = 0u;
+L92:;
+copy(b, l4 + 2000ull, l4 + 2304ull, 144u);
+l23 = 0u;
+goto L4;
+L8:;
 put8(b, l0, 1u);
 fill(b, l0 + 8ull, 0u, 168u);
 goto L1;
-L9:;
-copy(b, l4 + 1712ull, l4 + 2152ull, 144u);
-goto L5;
-L8:;
-l14 = get64(b, l4 + 1192);
-l18 = get64(b, l4 + 1176);
-l15 = get64(b, l4 + 1168);
-l6 = get64(b, l4 + 1160);
-l12 = get64(b, l4 + 1152);
-l20 = get64(b, l4 + 1136);
-l1 = get64(b, l4 + 1128);
-l13 = get64(b, l4 + 1120);
-l5 = get64(b, l4 + 1112);
-l17 = get64(b, l4 + 1096);
-l19 = get64(b, l4 + 1040);
-l16 = l4 + 1072ull;
-if (!get64(b, l4 + 1056)) { goto L80; }
-rattle_dealloc(b, l19);
-L80:;
-f201(b, l16);
-if (!l5) { goto L81; }
-rattle_dealloc(b, l17);
-L81:;
-if (!l1) { goto L82; }
-l5 = l13;
-L83:;
-put64(b, l4 + 352, get64(b, l5 + 16));
-put64(b, l4 + 344, get64(b, l5 + 8));
-put64(b, l4 + 336, get64(b, l5));
-l5 = l5 + 24ull;
-f201(b, l4 + 336ull);
-l1 = l1 + 18446744073709551615ull;
-if (l1 != 0ull) { goto L83; }
-L82:;
-if (!l20) { goto L84; }
-rattle_dealloc(b, l13);
-L84:;
-if (!l6) { goto L85; }
-l5 = l12;
-L86:;
-copy(b, l4 + 336ull, l5, 152u);
-l5 = l5 + 152ull;
-f197(b, l4 + 336ull);
-l6 = l6 + 18446744073709551615ull;
-if (l6 != 0ull) { goto L86; }
-L85:;
-if (!l15) { goto L87; }
-rattle_dealloc(b, l12);
-L87:;
-if (!l14) { goto L88; }
-rattle_dealloc(b, l18);
-L88:;
-l24 = 2u;
 L7:;
-copy(b, l4 + 1712ull, l4 + 2008ull, 144u);
-l14 = 0ull;
-l2 = 1u;
-l25 = 0u;
-goto L5;
-L6:;
-l24 = 0u;
+l5 = 0ull;
+l23 = 1u;
 l21 = 0u;
-L5:;
-if (l26) { goto L3; }
-L4:;
-l1 = 0ull;
-L89:;
-l5 = l9 + (l1 << 5);
-l13 = get64(b, l5 + 24);
-l12 = get64(b, l5 + 8);
-l6 = get64(b, l5 + 16);
-if (!l6) { goto L90; }
-l5 = l12;
-L91:;
-copy(b, l4 + 1024ull, l5, 152u);
-l5 = l5 + 160ull;
-f197(b, l4 + 1024ull);
+l14 = 0ull;
+goto L4;
+L6:;
+l15 = get64(b, l4 + 400);
+l18 = get64(b, l4 + 384);
+l20 = get64(b, l4 + 376);
+l6 = get64(b, l4 + 368);
+l13 = get64(b, l4 + 360);
+l16 = get64(b, l4 + 344);
+l1 = get64(b, l4 + 336);
+l14 = get64(b, l4 + 328);
+l5 = get64(b, l4 + 320);
+l17 = get64(b, l4 + 304);
+l19 = get64(b, l4 + 248);
+if (!get64(b, l4 + 264)) { goto L97; }
+rattle_dealloc(b, l19);
+L97:;
+f202(b, l4 + 280ull);
+if (!l5) { goto L98; }
+rattle_dealloc(b, l17);
+L98:;
+if (!l1) { goto L99; }
+l5 = l14;
+L100:;
+put64(b, l4 + 2320, get64(b, l5 + 16));
+put64(b, l4 + 2312, get64(b, l5 + 8));
+put64(b, l4 + 2304, get64(b, l5));
+l5 = l5 + 24ull;
+f202(b, l4 + 2304ull);
+l1 = l1 + 18446744073709551615ull;
+if (l1 != 0ull) { goto L100; }
+L99:;
+if (!l16) { goto L101; }
+rattle_dealloc(b, l14);
+L101:;
+if (!l6) { goto L102; }
+l5 = l13;
+L103:;
+copy(b, l4 + 2304ull, l5, 152u);
+l5 = l5 + 152ull;
+f196(b, l4 + 2304ull);
 l6 = l6 + 18446744073709551615ull;
-if (l6 != 0ull) { goto L91; }
-L90:;
-if (!l13) { goto L92; }
-rattle_dealloc(b, l12);
-L92:;
-l1 = l1 + 1ull;
-if (l1 != l7) { goto L89; }
-L3:;
-if (l23) { goto L93; }
+if (l6 != 0ull) { goto L103; }
+L102:;
+if (!l20) { goto L104; }
+rattle_dealloc(b, l13);
+L104:;
+if (!l15) { goto L105; }
+rattle_dealloc(b, l18);
+L105:;
+l14 = 0ull;
+l24 = 2u;
+L5:;
+copy(b, l4 + 2000ull, l4 + 1856ull, 144u);
+L106:;
+l5 = l9 + (l12 << 5);
+l13 = get64(b, l5 + 24);
+l1 = get64(b, l5 + 8);
+l6 = get64(b, l5 + 16);
+if (!l6) { goto L107; }
+l5 = l1;
+L108:;
+copy(b, l4 + 920ull, l5, 152u);
+l5 = l5 + 160ull;
+f196(b, l4 + 920ull);
+l6 = l6 + 18446744073709551615ull;
+if (l6 != 0ull) { goto L108; }
+L107:;
+if (!l13) { goto L109; }
+rattle_dealloc(b, l1);
+L109:;
+l12 = l12 + 1ull;
+if (l12 != l7) { goto L106; }
+if (l23) { goto L110; }
 rattle_dealloc(b, l9);
-L93:;
-copy(b, l4 + 192ull, l4 + 1712ull, 144u);
-l5 = (u64)l2;
+L110:;
+f199(b, l4 + 2152ull);
+if (!get64(b, l4 + 2192)) { goto L111; }
+rattle_dealloc(b, get64(b, l4 + 2176));
+L111:;
+l5 = 1ull;
+l23 = 0u;
+if (!get64(b, l4 + 2216)) { goto L4; }
+rattle_dealloc(b, get64(b, l4 + 2200));
+L4:;
+copy(b, l4 + 1712ull, l4 + 2000ull, 144u);
+L3:;
+copy(b, l4 + 88ull, l4 + 1712ull, 144u);
 L2:;
-put64(b, l4, get64(b, l4 + 120));
-put64(b, l4 + 8, get64(b, l4 + 128));
-put64(b, l4 + 16, get64(b, l4 + 136));
-f168(b, l4);
-if (!get64(b, l4 + 160)) { goto L94; }
-rattle_dealloc(b, get64(b, l4 + 144));
-L94:;
-if (!get64(b, l4 + 184)) { goto L95; }
-rattle_dealloc(b, get64(b, l4 + 168));
-L95:;
-put8(b, l0, l25);
 put64(b, l0 + 24ull, l14);
 put32(b, l0 + 20ull, l21);
 put32(b, l0 + 16ull, l24);
 put64(b, l0 + 8ull, l5);
-copy(b, l0 + 32ull, l4 + 192ull, 144u);
+put8(b, l0, l23);
+copy(b, l0 + 32ull, l4 + 88ull, 144u);
 L1:;
-SP = l4 + 2304ull;
+SP = l4 + 2464ull;
 }
 
-FN void f194(B b, u64 l0, u64 l1, u64 l2) {
+FN void f193(B b, u64 l0, u64 l1, u64 l2) {
 u32 l14 = 0, l15 = 0, l16 = 0, t0, t1, t2, t3, t4, t5, t6, t7;
 u64 l3 = 0, l4 = 0, l5 = 0, l6 = 0, l7 = 0, l8 = 0, l9 = 0, l10 = 0, l11 = 0, l12 = 0, l13 = 0;
 l3 = SP - 128ull;
@@ -33691,7 +33911,7 @@ L1:;
 SP = l3 + 128ull;
 }
 
-FN void f195(B b, u64 l0, u64 l1, u64 l2) {
+FN void f194(B b, u64 l0, u64 l1, u64 l2) {
 u32 l42 = 0, l43 = 0, l44 = 0, l45 = 0, l46 = 0, l47 = 0, l48 = 0, l49 = 0, t0, t1, t2, t3, t4, t5, t6, t7, t8, t9, t10, t11, t12, t13, t14, t15, t16, t17, t18, t19, t20, t21, t22, t23, t24;
 u64 l3 = 0, l4 = 0, l5 = 0, l6 = 0, l7 = 0, l8 = 0, l9 = 0, l10 = 0, l11 = 0, l12 = 0, l13 = 0, l14 = 0, l15 = 0, l16 = 0, l17 = 0, l18 = 0, l19 = 0, l20 = 0, l21 = 0, l22 = 0, l23 = 0, l24 = 0, l25 = 0, l26 = 0, l27 = 0, l28 = 0, l29 = 0, l30 = 0, l31 = 0, l32 = 0, l33 = 0, l34 = 0, l35 = 0, l36 = 0, l37 = 0, l38 = 0, l39 = 0, l40 = 0, l41 = 0;
 l3 = SP - 752ull;
@@ -33737,7 +33957,7 @@ if (get8(b, l11) != 1u) { goto L33; }
 l10 = get64(b, l11 + 8ull);
 L33:;
 if (get64(b, l3 + 312) != l4) { goto L34; }
-t0 = f202(b, l3 + 296ull);
+t0 = f203(b, l3 + 296ull);
 if (!t0) { goto L29; }
 l7 = get64(b, l3 + 296);
 l4 = get64(b, l3 + 304);
@@ -33786,7 +34006,7 @@ if (get64(b, l2 + 64ull) <= l8) { goto L22; }
 l5 = get64(b, get64(b, l2 + 56ull) + l10);
 l16 = l9;
 if (get64(b, l3 + 312) != l9) { goto L38; }
-t1 = f203(b, l3 + 296ull);
+t1 = f204(b, l3 + 296ull);
 if (!t1) { goto L36; }
 l11 = get64(b, l3 + 296);
 l16 = get64(b, l3 + 304);
@@ -33842,14 +34062,14 @@ l11 = get64(b, l1 + 80ull) + (l9 * 24ull);
 l5 = l10 + 18446744073709551614ull;
 l5 = (l5 > l10) ? 0ull : l5;
 if (get64(b, l11 + 8ull) <= l5) { goto L52; }
-t2 = f204(b, l3 + 576ull, get64(b, l11) + (l5 * 24ull));
+t2 = f205(b, l3 + 576ull, get64(b, l11) + (l5 * 24ull));
 if (!(t2 & 255u)) { goto L51; }
 goto L48;
 L52:;
 put64(b, l3 + 312, 0ull);
 put64(b, l3 + 304, 0ull);
 put64(b, l3 + 296, 0ull);
-t3 = f204(b, l3 + 576ull, l3 + 296ull);
+t3 = f205(b, l3 + 576ull, l3 + 296ull);
 if (t3 & 255u) { goto L48; }
 L51:;
 l5 = l10 + 18446744073709551615ull;
@@ -33859,19 +34079,19 @@ L50:;
 put64(b, l3 + 312, 0ull);
 put64(b, l3 + 304, 0ull);
 put64(b, l3 + 296, 0ull);
-t4 = f204(b, l3 + 576ull, l3 + 296ull);
+t4 = f205(b, l3 + 576ull, l3 + 296ull);
 if (t4 & 255u) { goto L48; }
 put64(b, l3 + 312, 0ull);
 put64(b, l3 + 304, 0ull);
 put64(b, l3 + 296, 0ull);
-t5 = f204(b, l3 + 576ull, l3 + 296ull);
+t5 = f205(b, l3 + 576ull, l3 + 296ull);
 if (t5 & 255u) { goto L45; }
 goto L43;
 L49:;
 put64(b, l3 + 312, 0ull);
 put64(b, l3 + 304, 0ull);
 put64(b, l3 + 296, 0ull);
-t6 = f204(b, l3 + 576ull, l3 + 296ull);
+t6 = f205(b, l3 + 576ull, l3 + 296ull);
 if (!(t6 & 255u)) { goto L47; }
 L48:;
 if (!get64(b, l3 + 592)) { goto L41; }
@@ -33886,21 +34106,21 @@ if (!get64(b, get64(b, l1 + 56ull) + (l9 * 120ull))) { goto L53; }
 if (get64(b, l1 + 88ull) <= l9) { goto L53; }
 l11 = get64(b, l1 + 80ull) + (l9 * 24ull);
 if (get64(b, l11 + 8ull) <= l5) { goto L54; }
-t7 = f204(b, l3 + 576ull, get64(b, l11) + (l5 * 24ull));
+t7 = f205(b, l3 + 576ull, get64(b, l11) + (l5 * 24ull));
 if (!(t7 & 255u)) { goto L44; }
 goto L45;
 L54:;
 put64(b, l3 + 312, 0ull);
 put64(b, l3 + 304, 0ull);
 put64(b, l3 + 296, 0ull);
-t8 = f204(b, l3 + 576ull, l3 + 296ull);
+t8 = f205(b, l3 + 576ull, l3 + 296ull);
 if (t8 & 255u) { goto L45; }
 goto L44;
 L53:;
 put64(b, l3 + 312, 0ull);
 put64(b, l3 + 304, 0ull);
 put64(b, l3 + 296, 0ull);
-t9 = f204(b, l3 + 576ull, l3 + 296ull);
+t9 = f205(b, l3 + 576ull, l3 + 296ull);
 if (!(t9 & 255u)) { goto L44; }
 L45:;
 if (!get64(b, l3 + 592)) { goto L41; }
@@ -33912,21 +34132,21 @@ if (!get64(b, get64(b, l1 + 56ull) + (l9 * 120ull))) { goto L43; }
 if (get64(b, l1 + 88ull) <= l9) { goto L43; }
 l9 = get64(b, l1 + 80ull) + (l9 * 24ull);
 if (get64(b, l9 + 8ull) <= l10) { goto L55; }
-t10 = f204(b, l3 + 576ull, get64(b, l9) + (l7 * 72ull));
+t10 = f205(b, l3 + 576ull, get64(b, l9) + (l7 * 72ull));
 if (!(t10 & 255u)) { goto L40; }
 goto L42;
 L55:;
 put64(b, l3 + 312, 0ull);
 put64(b, l3 + 304, 0ull);
 put64(b, l3 + 296, 0ull);
-t11 = f204(b, l3 + 576ull, l3 + 296ull);
+t11 = f205(b, l3 + 576ull, l3 + 296ull);
 if (t11 & 255u) { goto L42; }
 goto L40;
 L43:;
 put64(b, l3 + 312, 0ull);
 put64(b, l3 + 304, 0ull);
 put64(b, l3 + 296, 0ull);
-t12 = f204(b, l3 + 576ull, l3 + 296ull);
+t12 = f205(b, l3 + 576ull, l3 + 296ull);
 if (!(t12 & 255u)) { goto L40; }
 L42:;
 if (!get64(b, l3 + 592)) { goto L41; }
@@ -33936,7 +34156,7 @@ if (!get64(b, l3 + 424)) { goto L56; }
 rattle_dealloc(b, l8);
 L56:;
 if (!(l43 & 1u)) { goto L4; }
-f205(b, get64(b, l3 + 544));
+f206(b, get64(b, l3 + 544));
 if (!(u32)(!l17)) { goto L3; }
 goto L2;
 L40:;
@@ -34364,9 +34584,9 @@ put64(b, l36, l10);
 put64(b, l3 + 440, get64(b, l3 + 576));
 put64(b, l3 + 448, get64(b, l3 + 584));
 put64(b, l3 + 456, get64(b, l3 + 592));
-f206(b, l3 + 296ull, l26, l3 + 440ull);
-f207(b, l19, l26, l49);
-f208(b, l20, l26 + 1ull, l7);
+f207(b, l3 + 296ull, l26, l3 + 440ull);
+f208(b, l19, l26, l49);
+f209(b, l20, l26 + 1ull, l7);
 l36 = get64(b, l3 + 368);
 put16(b, l36, (u32)get64(b, l3 + 304));
 put64(b, l27, l36);
@@ -34409,8 +34629,8 @@ l43 = get16(b, l9 + 2ull);
 put64(b, l3 + 360, l43 ? 16ull : 0ull);
 put64(b, l3 + 352, l43 ? (l8 + 1ull) : 0ull);
 l9 = l40 & 15ull;
-f206(b, l3 + 296ull, l9, l3 + 576ull);
-f207(b, l19, l9, l46);
+f207(b, l3 + 296ull, l9, l3 + 576ull);
+f208(b, l19, l9, l46);
 l9 = get64(b, l3 + 368);
 put16(b, l9, (u32)get64(b, l3 + 304));
 put64(b, l10, l9);
@@ -34436,7 +34656,7 @@ L58:;
 rattle_dealloc(b, l12);
 L57:;
 if (get64(b, l3 + 424) != l14) { goto L123; }
-t13 = f209(b, l3 + 408ull);
+t13 = f210(b, l3 + 408ull);
 if (!t13) { goto L25; }
 l14 = get64(b, l3 + 416);
 L123:;
@@ -34449,10 +34669,10 @@ l43 = 1u;
 l22 = l22 + 1ull;
 if (!l45) { goto L39; }
 l9 = get64(b, l3 + 424);
-f205(b, get64(b, l3 + 544));
+f206(b, get64(b, l3 + 544));
 l43 = (u32)(!l9);
 L26:;
-f210(b, l3 + 656ull, l8, l14);
+f211(b, l3 + 656ull, l8, l14);
 if (get8(b, l3 + 656)) { goto L24; }
 l30 = get64(b, l3 + 680);
 l16 = get64(b, l3 + 672);
@@ -34467,7 +34687,7 @@ put64(b, l3 + 400, 0ull);
 put64(b, l3 + 392, 0ull);
 put64(b, l3 + 384, 0ull);
 put64(b, l3 + 376, 0ull);
-f211(b, l3 + 376ull, l1, l6, l4);
+f212(b, l3 + 376ull, l1, l6, l4);
 if (get8(b, l3 + 376)) { goto L6; }
 put64(b, l3 + 296, 0ull);
 put64(b, l3 + 304, 0ull);
@@ -34488,7 +34708,7 @@ L25:;
 if (!get64(b, l3 + 424)) { goto L126; }
 rattle_dealloc(b, get64(b, l3 + 408));
 L126:;
-f205(b, get64(b, l3 + 544));
+f206(b, get64(b, l3 + 544));
 if (!(u32)(!l17)) { goto L3; }
 goto L2;
 L24:;
@@ -34532,14 +34752,14 @@ put64(b, l3 + 448, 0ull);
 put64(b, l3 + 456, 0ull);
 put64(b, l3 + 464, 0ull);
 put64(b, l3 + 408, 0ull);
-f212(b, l3 + 576ull, l1, l11, 0ull);
+f213(b, l3 + 576ull, l1, l11, 0ull);
 if (get8(b, l3 + 576)) { goto L9; }
-f213(b, l3 + 128ull, l3 + 296ull, l26);
+f214(b, l3 + 128ull, l3 + 296ull, l26);
 if (get8(b, l3 + 128)) { goto L9; }
 l43 = get32(b, l3 + 132);
-f212(b, l3 + 440ull, l1, l11, 3ull);
+f213(b, l3 + 440ull, l1, l11, 3ull);
 if (get8(b, l3 + 440)) { goto L9; }
-f213(b, l3 + 120ull, l3 + 296ull, l14);
+f214(b, l3 + 120ull, l3 + 296ull, l14);
 if (get8(b, l3 + 120)) { goto L9; }
 l45 = get32(b, l3 + 124);
 put64(b, l3 + 680, 0ull);
@@ -34547,10 +34767,10 @@ put64(b, l3 + 672, 0ull);
 put64(b, l3 + 664, 0ull);
 put64(b, l3 + 656, 0ull);
 if (l43 > l45) { goto L129; }
-f214(b, l3 + 656ull, l43, l45);
+f215(b, l3 + 656ull, l43, l45);
 goto L128;
 L129:;
-f214(b, l3 + 656ull, l45, l43);
+f215(b, l3 + 656ull, l45, l43);
 L128:;
 put64(b, l28, get64(b, l32));
 put64(b, l28 + 8, get64(b, l32 + 8));
@@ -34558,7 +34778,7 @@ put64(b, l28 + 16, get64(b, l32 + 16));
 l43 = get8(b, l3 + 656);
 put8(b, l3 + 408, l43);
 if (l43) { goto L9; }
-f213(b, l3 + 112ull, l40, l28);
+f214(b, l3 + 112ull, l40, l28);
 if (get8(b, l3 + 112)) { goto L9; }
 l45 = get32(b, l3 + 116);
 l11 = get64(b, l6);
@@ -34601,14 +34821,14 @@ put64(b, l3 + 448, 0ull);
 put64(b, l3 + 456, 0ull);
 put64(b, l3 + 464, 0ull);
 put64(b, l3 + 408, 0ull);
-f212(b, l3 + 576ull, l1, l8, 0ull);
+f213(b, l3 + 576ull, l1, l8, 0ull);
 if (get8(b, l3 + 576)) { goto L9; }
-f213(b, l3 + 104ull, l3 + 296ull, l26);
+f214(b, l3 + 104ull, l3 + 296ull, l26);
 if (get8(b, l3 + 104)) { goto L9; }
 l43 = get32(b, l3 + 108);
-f212(b, l3 + 440ull, l1, l8, 3ull);
+f213(b, l3 + 440ull, l1, l8, 3ull);
 if (get8(b, l3 + 440)) { goto L9; }
-f213(b, l3 + 96ull, l3 + 296ull, l14);
+f214(b, l3 + 96ull, l3 + 296ull, l14);
 if (get8(b, l3 + 96)) { goto L9; }
 l45 = get32(b, l3 + 100);
 put64(b, l3 + 680, 0ull);
@@ -34616,10 +34836,10 @@ put64(b, l3 + 672, 0ull);
 put64(b, l3 + 664, 0ull);
 put64(b, l3 + 656, 0ull);
 if (l43 > l45) { goto L134; }
-f214(b, l3 + 656ull, l43, l45);
+f215(b, l3 + 656ull, l43, l45);
 goto L133;
 L134:;
-f214(b, l3 + 656ull, l45, l43);
+f215(b, l3 + 656ull, l45, l43);
 L133:;
 put64(b, l28, get64(b, l32));
 put64(b, l28 + 8, get64(b, l32 + 8));
@@ -34627,7 +34847,7 @@ put64(b, l28 + 16, get64(b, l32 + 16));
 l43 = get8(b, l3 + 656);
 put8(b, l3 + 408, l43);
 if (l43) { goto L9; }
-f213(b, l3 + 88ull, l40, l28);
+f214(b, l3 + 88ull, l40, l28);
 if (get8(b, l3 + 88)) { goto L9; }
 l45 = get32(b, l3 + 92);
 l11 = get64(b, l10);
@@ -34638,7 +34858,7 @@ l11 = l8;
 l45 = 0u;
 L131:;
 if (get64(b, l3 + 560) != l9) { goto L135; }
-t14 = f215(b, l3 + 544ull);
+t14 = f216(b, l3 + 544ull);
 if (!t14) { goto L18; }
 l12 = get64(b, l3 + 544);
 l9 = get64(b, l3 + 552);
@@ -34678,7 +34898,7 @@ l43 = get32(b, l9 + 4ull);
 l45 = get8(b, l9);
 l49 = get32(b, l8);
 if (get64(b, l3 + 672) != l13) { goto L137; }
-t15 = f216(b, l3 + 656ull);
+t15 = f217(b, l3 + 656ull);
 if (!t15) { goto L15; }
 l7 = get64(b, l3 + 656);
 l13 = get64(b, l3 + 664);
@@ -34700,10 +34920,10 @@ if (l44) { goto L138; }
 rattle_dealloc(b, l12);
 L138:;
 if (get8(b, l3 + 296) != 1u) { goto L139; }
-f217(b, get64(b, l3 + 304));
+f218(b, get64(b, l3 + 304));
 L139:;
 if (get8(b, l3 + 320) != 1u) { goto L140; }
-f217(b, get64(b, l3 + 328));
+f218(b, get64(b, l3 + 328));
 L140:;
 if (!l31) { goto L141; }
 rattle_dealloc(b, l29);
@@ -34743,7 +34963,7 @@ if (get8(b, l11) != 1u) { goto L146; }
 l5 = get64(b, l11 + 8ull);
 L146:;
 if (get64(b, l3 + 592) != l9) { goto L147; }
-t16 = f202(b, l3 + 576ull);
+t16 = f203(b, l3 + 576ull);
 if (!t16) { goto L13; }
 l7 = get64(b, l3 + 576);
 l9 = get64(b, l3 + 584);
@@ -34760,11 +34980,11 @@ if (l12 != 4294967295ull) { goto L143; }
 L142:;
 l8 = get64(b, l3 + 592);
 l10 = get64(b, l3 + 576);
-f211(b, l3 + 656ull, l1, l10, l9);
+f212(b, l3 + 656ull, l1, l10, l9);
 if (get8(b, l3 + 656)) { goto L12; }
 l9 = get64(b, l3 + 680);
 l5 = get64(b, l3 + 664);
-f210(b, l3 + 296ull, l5, get64(b, l3 + 672));
+f211(b, l3 + 296ull, l5, get64(b, l3 + 672));
 if (!l9) { goto L148; }
 rattle_dealloc(b, l5);
 L148:;
@@ -34781,10 +35001,10 @@ if (l44) { goto L150; }
 rattle_dealloc(b, l12);
 L150:;
 if (get8(b, l3 + 296) != 1u) { goto L151; }
-f217(b, get64(b, l3 + 304));
+f218(b, get64(b, l3 + 304));
 L151:;
 if (get8(b, l3 + 320) != 1u) { goto L152; }
-f217(b, get64(b, l3 + 328));
+f218(b, get64(b, l3 + 328));
 L152:;
 if (!l31) { goto L6; }
 goto L7;
@@ -34871,11 +35091,11 @@ if (get64(b, (get64(b, l1 + 80ull) + (l5 * 24ull)) + 8ull) < 7ull) { goto L157; 
 put64(b, l40, 0ull);
 put64(b, l40 + 8, 0ull);
 put64(b, l3 + 720, l3 + 744ull);
-t17 = f218(b, l3 + 720ull, l1, l9, 0ull);
+t17 = f219(b, l3 + 720ull, l1, l9, 0ull);
 if (t17 & 255u) { goto L162; }
-t18 = f218(b, l3 + 720ull, l1, l9, 1ull);
+t18 = f219(b, l3 + 720ull, l1, l9, 1ull);
 if (t18 & 255u) { goto L162; }
-t19 = f218(b, l3 + 720ull, l1, l9, 2ull);
+t19 = f219(b, l3 + 720ull, l1, l9, 2ull);
 if (t19 & 255u) { goto L162; }
 put64(b, l32 + 16, get64(b, l3 + 736));
 put64(b, l32 + 8, get64(b, l3 + 728));
@@ -34889,7 +35109,7 @@ put64(b, l3 + 696, get64(b, l32));
 put64(b, l3 + 704, get64(b, l32 + 8));
 put64(b, l3 + 712, get64(b, l32 + 16));
 f161(b, l3 + 40ull, l3 + 296ull, get64(b, l29 + 72ull));
-t20 = f219(b, l3 + 696ull, get64(b, l3 + 40), get64(b, l3 + 48));
+t20 = f220(b, l3 + 696ull, get64(b, l3 + 40), get64(b, l3 + 48));
 if (t20 & 255u) { goto L161; }
 put64(b, l3 + 688, 0ull);
 put64(b, l3 + 680, 0ull);
@@ -34897,7 +35117,7 @@ put64(b, l3 + 672, 0ull);
 put64(b, l3 + 664, 0ull);
 put64(b, l3 + 656, 0ull);
 f161(b, l3 + 24ull, l3 + 656ull, get64(b, l29 + 40ull));
-t21 = f219(b, l3 + 696ull, get64(b, l3 + 24), get64(b, l3 + 32));
+t21 = f220(b, l3 + 696ull, get64(b, l3 + 24), get64(b, l3 + 32));
 if (!(t21 & 255u)) { goto L160; }
 if (!get64(b, l3 + 712)) { goto L159; }
 rattle_dealloc(b, get64(b, l3 + 696));
@@ -34917,15 +35137,15 @@ put64(b, l26, get64(b, l3 + 696));
 put64(b, l3 + 632, get64(b, l26));
 put64(b, l3 + 640, get64(b, l26 + 8));
 put64(b, l3 + 648, get64(b, l26 + 16));
-f213(b, l3 + 16ull, l3 + 520ull, l3 + 632ull);
+f214(b, l3 + 16ull, l3 + 520ull, l3 + 632ull);
 if (get8(b, l3 + 16)) { goto L159; }
 l43 = get32(b, l3 + 20);
 put64(b, l39, 0ull);
 put64(b, l39 + 8, 0ull);
 put64(b, l3 + 296, l3 + 744ull);
-t22 = f218(b, l3 + 296ull, l1, l9, 3ull);
+t22 = f219(b, l3 + 296ull, l1, l9, 3ull);
 if (t22 & 255u) { goto L163; }
-t23 = f218(b, l3 + 296ull, l1, l9, 4ull);
+t23 = f219(b, l3 + 296ull, l1, l9, 4ull);
 if (t23 & 255u) { goto L163; }
 put64(b, l14 + 16, get64(b, l3 + 312));
 put64(b, l14 + 8, get64(b, l3 + 304));
@@ -34933,12 +35153,12 @@ put64(b, l14, get64(b, l3 + 296));
 put64(b, l3 + 608, get64(b, l14));
 put64(b, l3 + 616, get64(b, l14 + 8));
 put64(b, l3 + 624, get64(b, l14 + 16));
-f213(b, l3 + 8ull, l3 + 496ull, l3 + 608ull);
+f214(b, l3 + 8ull, l3 + 496ull, l3 + 608ull);
 if (get8(b, l3 + 8)) { goto L159; }
 l45 = get32(b, l3 + 12);
-f220(b, l3 + 576ull, l1, l9, 5ull, 7ull);
+f221(b, l3 + 576ull, l1, l9, 5ull, 7ull);
 if (get8(b, l3 + 576)) { goto L159; }
-f213(b, l3, l3 + 496ull, l35);
+f214(b, l3, l3 + 496ull, l35);
 if (get8(b, l3)) { goto L159; }
 l44 = get32(b, l3 + 4);
 l49 = 1u;
@@ -34954,10 +35174,10 @@ if (!get64(b, l3 + 488)) { goto L164; }
 rattle_dealloc(b, l11);
 L164:;
 if (get8(b, l3 + 496) != 1u) { goto L165; }
-f217(b, get64(b, l3 + 504));
+f218(b, get64(b, l3 + 504));
 L165:;
 if (get8(b, l3 + 520) != 1u) { goto L153; }
-f217(b, get64(b, l3 + 528));
+f218(b, get64(b, l3 + 528));
 goto L153;
 L158:;
 l43 = 0u;
@@ -34965,7 +35185,7 @@ l45 = 0u;
 l44 = 0u;
 L157:;
 if (get64(b, l3 + 488) != l8) { goto L166; }
-t24 = f221(b, l3 + 472ull);
+t24 = f222(b, l3 + 472ull);
 if (!t24) { goto L167; }
 l11 = get64(b, l3 + 472);
 l8 = get64(b, l3 + 480);
@@ -34975,10 +35195,10 @@ if (!get64(b, l3 + 488)) { goto L168; }
 rattle_dealloc(b, get64(b, l3 + 472));
 L168:;
 if (get8(b, l3 + 496) != 1u) { goto L169; }
-f217(b, get64(b, l3 + 504));
+f218(b, get64(b, l3 + 504));
 L169:;
 if (get8(b, l3 + 520) != 1u) { goto L153; }
-f217(b, get64(b, l3 + 528));
+f218(b, get64(b, l3 + 528));
 goto L153;
 L166:;
 l9 = l11 + (l8 << 4);
@@ -34996,10 +35216,10 @@ put64(b, l3 + 559, get64(b, l3 + 480));
 put64(b, l3 + 567, get64(b, l3 + 488));
 l9 = (l3 + 544ull) | 7ull;
 if (get8(b, l3 + 496) != 1u) { goto L154; }
-f217(b, get64(b, l3 + 504));
+f218(b, get64(b, l3 + 504));
 L154:;
 if (get8(b, l3 + 520) != 1u) { goto L170; }
-f217(b, get64(b, l3 + 528));
+f218(b, get64(b, l3 + 528));
 L170:;
 put64(b, l3 + 287, get64(b, l9 + 16));
 put64(b, l3 + 279, get64(b, l9 + 8));
@@ -35056,10 +35276,10 @@ if (!get64(b, l3 + 560)) { goto L8; }
 rattle_dealloc(b, l12);
 L8:;
 if (get8(b, l3 + 296) != 1u) { goto L179; }
-f217(b, get64(b, l3 + 304));
+f218(b, get64(b, l3 + 304));
 L179:;
 if (get8(b, l3 + 320) != 1u) { goto L180; }
-f217(b, get64(b, l3 + 328));
+f218(b, get64(b, l3 + 328));
 L180:;
 if (!l31) { goto L6; }
 L7:;
@@ -35076,7 +35296,7 @@ if (!get64(b, l3 + 424)) { goto L182; }
 rattle_dealloc(b, get64(b, l3 + 408));
 L182:;
 if (!l48) { goto L4; }
-f205(b, get64(b, l3 + 544));
+f206(b, get64(b, l3 + 544));
 if (!(u32)(!l17)) { goto L3; }
 goto L2;
 L4:;
@@ -35093,7 +35313,7 @@ L1:;
 SP = l3 + 752ull;
 }
 
-FN void f196(B b, u64 l0, u64 l1, u32 l2, u64 l3, u64 l4) {
+FN void f195(B b, u64 l0, u64 l1, u32 l2, u64 l3, u64 l4) {
 u32 l34 = 0, l35 = 0, l36 = 0, l37 = 0, l38 = 0, l39 = 0, l40 = 0, l41 = 0, t0, t1, t2, t3, t4, t5, t6;
 u64 l5 = 0, l6 = 0, l7 = 0, l8 = 0, l9 = 0, l10 = 0, l11 = 0, l12 = 0, l13 = 0, l14 = 0, l15 = 0, l16 = 0, l17 = 0, l18 = 0, l19 = 0, l20 = 0, l21 = 0, l22 = 0, l23 = 0, l24 = 0, l25 = 0, l26 = 0, l27 = 0, l28 = 0, l29 = 0, l30 = 0, l31 = 0, l32 = 0, l33 = 0;
 l5 = SP - 240ull;
@@ -35171,7 +35391,7 @@ L25:;
 if (l2 == l37) { goto L26; }
 l2 = get32(b, l16);
 if (get64(b, l5 + 104) != l11) { goto L27; }
-t0 = f236(b, l5 + 88ull);
+t0 = f237(b, l5 + 88ull);
 if (!t0) { goto L12; }
 l12 = get64(b, l5 + 88);
 l11 = get64(b, l5 + 96);
@@ -35197,7 +35417,7 @@ l6 = get64(b, l5 + 104);
 l10 = get64(b, l5 + 88);
 L13:;
 fill(b, l5 + 88ull, 0u, 88u);
-f179(b, l5 + 88ull, l3);
+f178(b, l5 + 88ull, l3);
 if (get8(b, l5 + 88)) { goto L10; }
 l1 = 0ull;
 put64(b, l5 + 184, 0ull);
@@ -35232,7 +35452,7 @@ if (l36 != 1u) { goto L33; }
 if (l2 == 1u) { goto L32; }
 L33:;
 if (get64(b, l5 + 192) != l1) { goto L34; }
-t1 = f237(b, l5 + 176ull);
+t1 = f238(b, l5 + 176ull);
 if (!t1) { goto L29; }
 l18 = get64(b, l5 + 176);
 l1 = get64(b, l5 + 184);
@@ -35287,7 +35507,7 @@ if (l37 != 1u) { goto L41; }
 if (l36 == 1u) { goto L40; }
 L41:;
 if (get64(b, l5 + 192) != l1) { goto L42; }
-t2 = f237(b, l5 + 176ull);
+t2 = f238(b, l5 + 176ull);
 if (!t2) { goto L29; }
 l14 = get64(b, l5 + 176);
 l1 = get64(b, l5 + 184);
@@ -35327,7 +35547,7 @@ put64(b, l5 + 184, 0ull);
 put64(b, l5 + 192, 0ull);
 put64(b, l5 + 200, 0ull);
 fill(b, l5 + 88ull, 0u, 88u);
-f179(b, l5 + 88ull, l3);
+f178(b, l5 + 88ull, l3);
 if (get8(b, l5 + 88)) { goto L47; }
 l24 = get64(b, l5 + 168);
 l9 = get64(b, l5 + 152);
@@ -35361,7 +35581,7 @@ l19 = (u64)get32(b, l16 + (l17 * 24ull)) << 32;
 L52:;
 l20 = (u64)get32(b, l18);
 if (get64(b, l5 + 224) != l21) { goto L53; }
-t3 = f238(b, l5 + 208ull);
+t3 = f239(b, l5 + 208ull);
 if (!t3) { goto L49; }
 l15 = get64(b, l5 + 208);
 l21 = get64(b, l5 + 216);
@@ -35417,7 +35637,7 @@ l7 = (u64)get32(b, l8 + (l19 * 24ull)) << 32;
 L59:;
 l19 = (u64)get32(b, l13);
 if (get64(b, l5 + 224) != l21) { goto L60; }
-t4 = f238(b, l5 + 208ull);
+t4 = f239(b, l5 + 208ull);
 if (!t4) { goto L49; }
 l25 = get64(b, l5 + 208);
 l21 = get64(b, l5 + 216);
@@ -35438,7 +35658,7 @@ goto L47;
 L48:;
 l7 = get64(b, l5 + 224);
 l19 = get64(b, l5 + 208);
-f239(b, l5 + 176ull, (u64)get32(b, l3 + 48ull), l19, l21);
+f240(b, l5 + 176ull, (u64)get32(b, l3 + 48ull), l19, l21);
 if (!l7) { goto L62; }
 rattle_dealloc(b, l19);
 L62:;
@@ -35475,7 +35695,7 @@ l14 = 0ull;
 l19 = 0ull;
 goto L2;
 L66:;
-f170(b, l5 + 88ull, l3);
+f169(b, l5 + 88ull, l3);
 if (get8(b, l5 + 88) != 1u) { goto L67; }
 if (get8(b, l5 + 92)) { goto L3; }
 l2 = 0u;
@@ -35515,7 +35735,7 @@ l17 = (u64)get32(b, l12 + (l18 << 2));
 if (get64(b, l19 + 32ull) <= l17) { goto L8; }
 l17 = (u64)get32(b, get64(b, l19 + 24ull) + (l17 << 2));
 if (get64(b, l5 + 224) != l7) { goto L72; }
-t5 = f238(b, l5 + 208ull);
+t5 = f239(b, l5 + 208ull);
 if (!t5) { goto L70; }
 l16 = get64(b, l5 + 208);
 l7 = get64(b, l5 + 216);
@@ -35527,7 +35747,7 @@ l20 = l20 + 1ull;
 if (l21 != l20) { goto L71; }
 l20 = get64(b, l5 + 224);
 l18 = get64(b, l5 + 208);
-f239(b, l5 + 176ull, get64(b, l19 + 8ull), l18, l7);
+f240(b, l5 + 176ull, get64(b, l19 + 8ull), l18, l7);
 if (!l20) { goto L73; }
 rattle_dealloc(b, l18);
 L73:;
@@ -35910,7 +36130,7 @@ L134:;
 if ((u32)(l35 == 1u) & (u32)(!l34)) { goto L139; }
 if ((u32)(!l35) & (u32)(l34 == 1u)) { goto L139; }
 if (get64(b, l5 + 192) != l14) { goto L140; }
-t6 = f240(b, l5 + 176ull);
+t6 = f241(b, l5 + 176ull);
 if (!t6) { goto L127; }
 l33 = get64(b, l5 + 176);
 l14 = get64(b, l5 + 184);
@@ -35975,7 +36195,7 @@ put8(b, l0, 1u);
 fill(b, l0 + 8ull, 0u, 152u);
 goto L1;
 L2:;
-f241(b, l5 + 32ull, l4, l3);
+f242(b, l5 + 32ull, l4, l3);
 if (get8(b, l5 + 32)) { goto L146; }
 put8(b, l0, 0u);
 put64(b, l0 + 128ull, l7);
@@ -36027,7 +36247,7 @@ L1:;
 SP = l5 + 240ull;
 }
 
-FN void f197(B b, u64 l0) {
+FN void f196(B b, u64 l0) {
 u64 l1 = 0, l2 = 0, l3 = 0, l4 = 0, l5 = 0, l6 = 0, l7 = 0, l8 = 0, l9 = 0, l10 = 0, l11 = 0, l12 = 0, l13 = 0, l14 = 0, l15 = 0, l16 = 0, l17 = 0, l18 = 0;
 l1 = get64(b, l0 + 144);
 l2 = get64(b, l0 + 136);
@@ -36097,7 +36317,7 @@ rattle_dealloc(b, l3);
 L15:;
 }
 
-FN void f198(B b, u64 l0, u64 l1, u64 l2, u32 l3, u64 l4) {
+FN void f197(B b, u64 l0, u64 l1, u64 l2, u32 l3, u64 l4) {
 u64 l5 = 0, l6 = 0;
 l5 = SP - 336ull;
 SP = l5;
@@ -36123,7 +36343,7 @@ copy(b, l5 + 168ull, l5 + 40ull, 128u);
 put64(b, l5 + 24, l4);
 put64(b, l5 + 8, l6);
 put64(b, l5 + 16, l5 + 168ull);
-f242(b, l5 + 296ull, l1, l2, l5 + 8ull);
+f243(b, l5 + 296ull, l1, l2, l5 + 8ull);
 if (!get64(b, l5 + 184)) { goto L4; }
 rattle_dealloc(b, get64(b, l5 + 168));
 L4:;
@@ -36153,7 +36373,7 @@ L1:;
 SP = l5 + 336ull;
 }
 
-FN u32 f199(B b, u64 l0) {
+FN u32 f198(B b, u64 l0) {
 u32 l6 = 0;
 u64 l1 = 0, l2 = 0, l3 = 0, l4 = 0, l5 = 0;
 l1 = SP - 32ull;
@@ -36185,2608 +36405,2637 @@ SP = l1 + 32ull;
 return l6;
 }
 
-FN void f200(B b, u64 l0, u64 l1, u32 l2, u64 l3, u64 l4, u64 l5, u64 l6) {
-u32 l43 = 0, l44 = 0, l45 = 0, l46 = 0, l47 = 0, l48 = 0, l49 = 0, l50 = 0, l51 = 0, t0, t1, t2, t3, t4, t5, t6, t7, t8, t9, t10, t11, t12, t13, t14, t15, t16, t17, t18, t19, t20, t21, t22, t23, t24, t25, t26, t27, t28, t29, t30, t31, t32, t33, t34, t35, t36, t37, t38, t39, t40, t41, t42, t43, t44, t45, t46, t47;
-u64 l7 = 0, l8 = 0, l9 = 0, l10 = 0, l11 = 0, l12 = 0, l13 = 0, l14 = 0, l15 = 0, l16 = 0, l17 = 0, l18 = 0, l19 = 0, l20 = 0, l21 = 0, l22 = 0, l23 = 0, l24 = 0, l25 = 0, l26 = 0, l27 = 0, l28 = 0, l29 = 0, l30 = 0, l31 = 0, l32 = 0, l33 = 0, l34 = 0, l35 = 0, l36 = 0, l37 = 0, l38 = 0, l39 = 0, l40 = 0, l41 = 0, l42 = 0;
-l7 = SP - 2240ull;
-SP = l7;
-fill(b, l7 + 824ull, 0u, 112u);
-fill(b, l7 + 712ull, 0u, 112u);
-fill(b, l7 + 600ull, 0u, 112u);
-fill(b, l7 + 472ull, 0u, 128u);
-fill(b, l7 + 360ull, 0u, 112u);
-fill(b, l7 + 248ull, 0u, 112u);
+FN void f199(B b, u64 l0) {
+u64 l1 = 0, l2 = 0, l3 = 0, l4 = 0, l5 = 0, l6 = 0, l7 = 0, l8 = 0, l9 = 0, l10 = 0, l11 = 0;
+l1 = get64(b, l0 + 16);
+l2 = get64(b, l0);
+l3 = get64(b, l0 + 8);
+if (!l3) { goto L1; }
+l4 = 0ull;
+L2:;
+l0 = l2 + (l4 << 5);
+l5 = get64(b, l0 + 24);
+l6 = get64(b, l0 + 8);
+l7 = get64(b, l0 + 16);
+if (!l7) { goto L3; }
 l8 = 0ull;
-put64(b, l7 + 240, 0ull);
-put64(b, l7 + 232, 0ull);
-put64(b, l7 + 224, 0ull);
-put64(b, l7 + 200, 0ull);
-put64(b, l7 + 208, 0ull);
-put64(b, l7 + 216, 0ull);
-put64(b, l7 + 176, 0ull);
-put64(b, l7 + 184, 0ull);
-put64(b, l7 + 192, 0ull);
-put64(b, l7 + 1056, 0ull);
-put64(b, l7 + 1064, 0ull);
-put64(b, l7 + 952, 0ull);
-put64(b, l7 + 944, 0ull);
-put64(b, l7 + 936, 0ull);
-put64(b, l7 + 1048, l7 + 2232ull);
-if (l5 != 0ull) { goto L12; }
+L4:;
+l0 = l6 + (l8 * 104ull);
+l9 = get64(b, l0 + 96);
+l10 = get64(b, l0 + 88);
+l11 = get64(b, l0 + 80);
+if (!get8(b, l0 + 8)) { goto L5; }
+if (!get8(b, l0 + 24)) { goto L5; }
+if (!get64(b, l0 + 48)) { goto L5; }
+rattle_dealloc(b, get64(b, l0 + 32));
+L5:;
+if (!l10) { goto L6; }
+l0 = l11 + 16ull;
+L7:;
+if (!get8(b, l0 + 18446744073709551608ull)) { goto L8; }
+if (!get64(b, l0 + 16ull)) { goto L8; }
+rattle_dealloc(b, get64(b, l0));
+L8:;
+l0 = l0 + 64ull;
+l10 = l10 + 18446744073709551615ull;
+if (l10 != 0ull) { goto L7; }
+L6:;
+if (!l9) { goto L9; }
+rattle_dealloc(b, l11);
+L9:;
+l8 = l8 + 1ull;
+if (l8 != l7) { goto L4; }
+L3:;
+if (!l5) { goto L10; }
+rattle_dealloc(b, l6);
+L10:;
+l4 = l4 + 1ull;
+if (l4 != l3) { goto L2; }
+L1:;
+if (!l1) { goto L11; }
+rattle_dealloc(b, l2);
+L11:;
+}
+
+FN void f200(B b, u64 l0, u64 l1, u64 l2, u64 l3, u64 l4, u64 l5) {
+u32 l40 = 0, l41 = 0, l42 = 0, l43 = 0, l44 = 0, l45 = 0, l46 = 0, l47 = 0, l48 = 0, l49 = 0, t0, t1, t2, t3, t4, t5, t6, t7, t8, t9, t10, t11, t12, t13, t14, t15, t16, t17, t18, t19, t20, t21, t22, t23, t24, t25, t26, t27, t28, t29, t30, t31, t32, t33, t34, t35, t36, t37, t38, t39, t40, t41, t42, t43;
+u64 l6 = 0, l7 = 0, l8 = 0, l9 = 0, l10 = 0, l11 = 0, l12 = 0, l13 = 0, l14 = 0, l15 = 0, l16 = 0, l17 = 0, l18 = 0, l19 = 0, l20 = 0, l21 = 0, l22 = 0, l23 = 0, l24 = 0, l25 = 0, l26 = 0, l27 = 0, l28 = 0, l29 = 0, l30 = 0, l31 = 0, l32 = 0, l33 = 0, l34 = 0, l35 = 0, l36 = 0, l37 = 0, l38 = 0, l39 = 0;
+l6 = SP - 2448ull;
+SP = l6;
+fill(b, l6 + 576ull, 0u, 112u);
+fill(b, l6 + 464ull, 0u, 112u);
+fill(b, l6 + 352ull, 0u, 112u);
+fill(b, l6 + 240ull, 0u, 112u);
+l7 = 0ull;
+put64(b, l6 + 232, 0ull);
+put64(b, l6 + 224, 0ull);
+put64(b, l6 + 216, 0ull);
+put64(b, l6 + 920, 0ull);
+put64(b, l6 + 928, 0ull);
+put64(b, l6 + 1992, 0ull);
+put64(b, l6 + 1984, 0ull);
+put64(b, l6 + 1976, 0ull);
+put64(b, l6 + 912, l6 + 2440ull);
+if (l4 != 0ull) { goto L12; }
+l8 = 0ull;
 l9 = 0ull;
 l10 = 0ull;
-l11 = 0ull;
-l8 = 0ull;
-l6 = l7 + 2232ull;
-l12 = l6;
+l7 = 0ull;
+l5 = l6 + 2440ull;
+l11 = l5;
 goto L11;
 L12:;
-put64(b, l7 + 1888, 0ull);
-put64(b, l7 + 1880, 0ull);
-put64(b, l7 + 1872, 0ull);
-l13 = get64(b, l4 + 16ull);
-l14 = (l6 > l13) ? 1ull : l6;
-if (!(u32)(!l14)) { goto L13; }
-l12 = l7 + 2232ull;
+put64(b, l6 + 1048, 0ull);
+put64(b, l6 + 1040, 0ull);
+put64(b, l6 + 1032, 0ull);
+l12 = get64(b, l3 + 16ull);
+l13 = (l5 > l12) ? 1ull : l5;
+if (!(u32)(!l13)) { goto L13; }
+l11 = l6 + 2440ull;
 goto L2;
 L13:;
-l15 = l7 + 1743ull;
-l12 = l7 + 2232ull;
-l8 = 0ull;
-l16 = l4;
-l17 = 0ull;
+l14 = l6 + 1863ull;
+l11 = l6 + 2440ull;
+l7 = 0ull;
+l15 = l3;
+l16 = 0ull;
 L14:;
-l14 = l14 + 18446744073709551615ull;
-if (l13 <= l14) { goto L2; }
-l18 = 0ull;
-l9 = get64(b, l16 + 8ull) + (l14 * 160ull);
+l13 = l13 + 18446744073709551615ull;
+if (l12 <= l13) { goto L2; }
+l17 = 0ull;
+l9 = get64(b, l15 + 8ull) + (l13 * 160ull);
 if (get64(b, l9 + 136ull) != 0ull) { goto L2; }
-put64(b, l7 + 1736, 0ull);
-put64(b, l7 + 1744, 0ull);
-put64(b, l7 + 1752, 0ull);
-put64(b, l7 + 1759, 0ull);
-put64(b, l7 + 1160, 0ull);
-put64(b, l7 + 1168, 0ull);
-put64(b, l7 + 1176, 0ull);
-l43 = get32(b, l9);
-l19 = 0ull;
-l20 = l7 + 2232ull;
-l10 = l20;
-l12 = get64(b, l9 + 16ull);
-if (!l12) { goto L15; }
-if (l12 > 230584300921369395ull) { goto L4; }
-l21 = get64(b, l9 + 8ull);
-rattle_alloc(b, l7 + 160ull, l12 * 40ull, 8ull);
-if (!(((u32)get64(b, l7 + 160)) & 1u)) { goto L4; }
-l8 = get64(b, l7 + 168);
-put64(b, l7 + 1296, l12);
-l19 = 0ull;
-put64(b, l7 + 1288, 0ull);
-put64(b, l7 + 1280, l8);
-l11 = 0ull;
+put64(b, l6 + 1856, 0ull);
+put64(b, l6 + 1864, 0ull);
+put64(b, l6 + 1872, 0ull);
+put64(b, l6 + 1879, 0ull);
+put64(b, l6 + 1480, 0ull);
+put64(b, l6 + 1488, 0ull);
+put64(b, l6 + 1496, 0ull);
+l40 = get32(b, l9);
+l10 = 0ull;
+l18 = l6 + 2440ull;
+l19 = l18;
+l11 = get64(b, l9 + 16ull);
+if (!l11) { goto L15; }
+if (l11 > 230584300921369395ull) { goto L4; }
+l20 = get64(b, l9 + 8ull);
+rattle_alloc(b, l6 + 200ull, l11 * 40ull, 8ull);
+if (!(((u32)get64(b, l6 + 200)) & 1u)) { goto L4; }
+l7 = get64(b, l6 + 208);
+put64(b, l6 + 1376, l11);
+l10 = 0ull;
+put64(b, l6 + 1368, 0ull);
+put64(b, l6 + 1360, l7);
+l8 = 0ull;
 L16:;
-l8 = l21 + (l11 * 40ull);
-l44 = get8(b, l8);
-if (l44) { goto L18; }
-l45 = 0u;
-l14 = 0ull;
+l7 = l20 + (l8 * 40ull);
+l41 = get8(b, l7);
+if (l41) { goto L18; }
+l42 = 0u;
 l13 = 0ull;
-l22 = 0ull;
-l46 = 0u;
+l12 = 0ull;
+l21 = 0ull;
+l43 = 0u;
 goto L17;
 L18:;
-l45 = get8(b, l8 + 12ull);
-l46 = get32(b, l8 + 8ull);
-l23 = get64(b, l8 + 24ull);
-if (!(u32)(!l23)) { goto L19; }
-l22 = l7 + 2232ull;
-l14 = 0ull;
+l42 = get8(b, l7 + 12ull);
+l43 = get32(b, l7 + 8ull);
+l22 = get64(b, l7 + 24ull);
+if (!(u32)(!l22)) { goto L19; }
+l21 = l6 + 2440ull;
 l13 = 0ull;
+l12 = 0ull;
 goto L17;
 L19:;
-if (l23 > 288230376151711743ull) { goto L20; }
-l24 = get64(b, l8 + 16ull);
-rattle_alloc(b, l7 + 144ull, l23 << 5, 8ull);
-if (!(((u32)get64(b, l7 + 144)) & 1u)) { goto L20; }
-l8 = get64(b, l7 + 152);
-put64(b, l7 + 1632, l23);
-l13 = 0ull;
-put64(b, l7 + 1624, 0ull);
-put64(b, l7 + 1616, l8);
-l25 = 0ull;
+if (l22 > 288230376151711743ull) { goto L20; }
+l23 = get64(b, l7 + 16ull);
+rattle_alloc(b, l6 + 184ull, l22 << 5, 8ull);
+if (!(((u32)get64(b, l6 + 184)) & 1u)) { goto L20; }
+l7 = get64(b, l6 + 192);
+put64(b, l6 + 1616, l22);
+l12 = 0ull;
+put64(b, l6 + 1608, 0ull);
+put64(b, l6 + 1600, l7);
+l24 = 0ull;
 L21:;
-l8 = l24 + (l25 << 5);
-l47 = get8(b, l8);
-l16 = get64(b, l8 + 16ull);
-if (!(u32)(!l16)) { goto L27; }
-l26 = l7 + 2232ull;
-l16 = 0ull;
-l14 = 0ull;
+l7 = l23 + (l24 << 5);
+l44 = get8(b, l7);
+l15 = get64(b, l7 + 16ull);
+if (!(u32)(!l15)) { goto L27; }
+l25 = l6 + 2440ull;
+l15 = 0ull;
+l13 = 0ull;
 goto L26;
 L27:;
-if (l16 > 230584300921369395ull) { goto L24; }
-l8 = get64(b, l8 + 8ull);
-rattle_alloc(b, l7 + 128ull, l16 * 40ull, 4ull);
-if (!(((u32)get64(b, l7 + 128)) & 1u)) { goto L24; }
-l26 = get64(b, l7 + 136);
-put64(b, l7 + 1512, l16);
-l14 = 0ull;
-put64(b, l7 + 1504, 0ull);
-put64(b, l7 + 1496, l26);
+if (l15 > 230584300921369395ull) { goto L24; }
+l7 = get64(b, l7 + 8ull);
+rattle_alloc(b, l6 + 168ull, l15 * 40ull, 4ull);
+if (!(((u32)get64(b, l6 + 168)) & 1u)) { goto L24; }
+l25 = get64(b, l6 + 176);
+put64(b, l6 + 1736, l15);
+l13 = 0ull;
+put64(b, l6 + 1728, 0ull);
+put64(b, l6 + 1720, l25);
 L28:;
-l48 = get8(b, l8);
-put32(b, l7 + 2112, get32(b, l8 + 36ull));
-put64(b, l7 + 2104, get64(b, l8 + 28ull));
-put64(b, l7 + 2096, get64(b, l8 + 20ull));
-put64(b, l7 + 2088, get64(b, l8 + 12ull));
-put64(b, l7 + 2080, get64(b, l8 + 4ull));
-if (get64(b, l7 + 1512) != l14) { goto L29; }
-t0 = f325(b, l7 + 1496ull);
+l45 = get8(b, l7);
+put32(b, l6 + 2320, get32(b, l7 + 36ull));
+put64(b, l6 + 2312, get64(b, l7 + 28ull));
+put64(b, l6 + 2304, get64(b, l7 + 20ull));
+put64(b, l6 + 2296, get64(b, l7 + 12ull));
+put64(b, l6 + 2288, get64(b, l7 + 4ull));
+if (get64(b, l6 + 1736) != l13) { goto L29; }
+t0 = f326(b, l6 + 1720ull);
 if (!t0) { goto L25; }
-l26 = get64(b, l7 + 1496);
-l14 = get64(b, l7 + 1504);
+l25 = get64(b, l6 + 1720);
+l13 = get64(b, l6 + 1728);
 L29:;
-l13 = l26 + (l14 * 40ull);
-put32(b, l13, l48);
-put64(b, l13 + 4ull, get64(b, l7 + 2080));
-put64(b, l13 + 12ull, get64(b, l7 + 2088));
-put64(b, l13 + 20ull, get64(b, l7 + 2096));
-put64(b, l13 + 28ull, get64(b, l7 + 2104));
-put32(b, l13 + 36ull, get32(b, l7 + 2112));
-l14 = l14 + 1ull;
-put64(b, l7 + 1504, l14);
-l8 = l8 + 40ull;
-l16 = l16 + 18446744073709551615ull;
-if (!(u32)(!l16)) { goto L28; }
-l13 = get64(b, l7 + 1624);
-l16 = get64(b, l7 + 1512);
-l26 = get64(b, l7 + 1496);
+l12 = l25 + (l13 * 40ull);
+put32(b, l12, l45);
+put64(b, l12 + 4ull, get64(b, l6 + 2288));
+put64(b, l12 + 12ull, get64(b, l6 + 2296));
+put64(b, l12 + 20ull, get64(b, l6 + 2304));
+put64(b, l12 + 28ull, get64(b, l6 + 2312));
+put32(b, l12 + 36ull, get32(b, l6 + 2320));
+l13 = l13 + 1ull;
+put64(b, l6 + 1728, l13);
+l7 = l7 + 40ull;
+l15 = l15 + 18446744073709551615ull;
+if (!(u32)(!l15)) { goto L28; }
+l12 = get64(b, l6 + 1608);
+l15 = get64(b, l6 + 1736);
+l25 = get64(b, l6 + 1720);
 L26:;
-if (get64(b, l7 + 1632) == l13) { goto L23; }
+if (get64(b, l6 + 1616) == l12) { goto L23; }
 goto L22;
 L25:;
-if (!get64(b, l7 + 1512)) { goto L24; }
-rattle_dealloc(b, get64(b, l7 + 1496));
+if (!get64(b, l6 + 1736)) { goto L24; }
+rattle_dealloc(b, get64(b, l6 + 1720));
 L24:;
-l16 = get64(b, l7 + 1632);
-l14 = get64(b, l7 + 1616);
-l13 = get64(b, l7 + 1624);
-if (!l13) { goto L30; }
-l8 = l14 + 24ull;
+l15 = get64(b, l6 + 1616);
+l13 = get64(b, l6 + 1600);
+l12 = get64(b, l6 + 1608);
+if (!l12) { goto L30; }
+l7 = l13 + 24ull;
 L31:;
-if (!get64(b, l8)) { goto L32; }
-rattle_dealloc(b, get64(b, l8 + 18446744073709551600ull));
+if (!get64(b, l7)) { goto L32; }
+rattle_dealloc(b, get64(b, l7 + 18446744073709551600ull));
 L32:;
-l8 = l8 + 32ull;
-l13 = l13 + 18446744073709551615ull;
-if (l13 != 0ull) { goto L31; }
+l7 = l7 + 32ull;
+l12 = l12 + 18446744073709551615ull;
+if (l12 != 0ull) { goto L31; }
 L30:;
-if (!l16) { goto L20; }
-rattle_dealloc(b, l14);
+if (!l15) { goto L20; }
+rattle_dealloc(b, l13);
 goto L20;
 L23:;
-t1 = f326(b, l7 + 1616ull);
+t1 = f327(b, l6 + 1600ull);
 if (!t1) { goto L33; }
-l13 = get64(b, l7 + 1624);
+l12 = get64(b, l6 + 1608);
 goto L22;
 L33:;
-if (!l16) { goto L34; }
-rattle_dealloc(b, l26);
+if (!l15) { goto L34; }
+rattle_dealloc(b, l25);
 L34:;
-l16 = get64(b, l7 + 1632);
-l14 = get64(b, l7 + 1616);
-l13 = get64(b, l7 + 1624);
-if (!l13) { goto L35; }
-l8 = l14 + 24ull;
+l15 = get64(b, l6 + 1616);
+l13 = get64(b, l6 + 1600);
+l12 = get64(b, l6 + 1608);
+if (!l12) { goto L35; }
+l7 = l13 + 24ull;
 L36:;
-if (!get64(b, l8)) { goto L37; }
-rattle_dealloc(b, get64(b, l8 + 18446744073709551600ull));
+if (!get64(b, l7)) { goto L37; }
+rattle_dealloc(b, get64(b, l7 + 18446744073709551600ull));
 L37:;
-l8 = l8 + 32ull;
-l13 = l13 + 18446744073709551615ull;
-if (l13 != 0ull) { goto L36; }
+l7 = l7 + 32ull;
+l12 = l12 + 18446744073709551615ull;
+if (l12 != 0ull) { goto L36; }
 L35:;
-if (!l16) { goto L20; }
-rattle_dealloc(b, l14);
+if (!l15) { goto L20; }
+rattle_dealloc(b, l13);
 goto L20;
 L22:;
-l22 = get64(b, l7 + 1616);
-l8 = l22 + (l13 << 5);
-put32(b, l8 + 1, (u32)0ull);
-put64(b, l8 + 24, l16);
-put64(b, l8 + 16, l14);
-put64(b, l8 + 8, l26);
-put8(b, l8, l47);
-put8(b, l8 + 7ull, (u32)0ull);
-put16(b, l8 + 5ull, (u32)0ull);
-l13 = l13 + 1ull;
-put64(b, l7 + 1624, l13);
-l25 = l25 + 1ull;
-if (l25 != l23) { goto L21; }
-l19 = get64(b, l7 + 1288);
-l14 = get64(b, l7 + 1632);
+l21 = get64(b, l6 + 1600);
+l7 = l21 + (l12 << 5);
+put32(b, l7 + 1, (u32)0ull);
+put64(b, l7 + 24, l15);
+put64(b, l7 + 16, l13);
+put64(b, l7 + 8, l25);
+put8(b, l7, l44);
+put8(b, l7 + 7ull, (u32)0ull);
+put16(b, l7 + 5ull, (u32)0ull);
+l12 = l12 + 1ull;
+put64(b, l6 + 1608, l12);
+l24 = l24 + 1ull;
+if (l24 != l22) { goto L21; }
+l10 = get64(b, l6 + 1368);
+l13 = get64(b, l6 + 1616);
 goto L17;
 L20:;
-l22 = get64(b, l7 + 1296);
-l25 = get64(b, l7 + 1280);
-l23 = get64(b, l7 + 1288);
-if (!l23) { goto L38; }
-l14 = 0ull;
+l21 = get64(b, l6 + 1376);
+l24 = get64(b, l6 + 1360);
+l22 = get64(b, l6 + 1368);
+if (!l22) { goto L38; }
+l13 = 0ull;
 L39:;
-l8 = l25 + (l14 * 40ull);
-if (!get8(b, l8)) { goto L40; }
-l26 = get64(b, l8 + 32ull);
-l16 = get64(b, l8 + 16ull);
-l13 = get64(b, l8 + 24ull);
-if (!l13) { goto L41; }
-l8 = l16 + 24ull;
+l7 = l24 + (l13 * 40ull);
+if (!get8(b, l7)) { goto L40; }
+l25 = get64(b, l7 + 32ull);
+l15 = get64(b, l7 + 16ull);
+l12 = get64(b, l7 + 24ull);
+if (!l12) { goto L41; }
+l7 = l15 + 24ull;
 L42:;
-if (!get64(b, l8)) { goto L43; }
-rattle_dealloc(b, get64(b, l8 + 18446744073709551600ull));
+if (!get64(b, l7)) { goto L43; }
+rattle_dealloc(b, get64(b, l7 + 18446744073709551600ull));
 L43:;
-l8 = l8 + 32ull;
-l13 = l13 + 18446744073709551615ull;
-if (l13 != 0ull) { goto L42; }
+l7 = l7 + 32ull;
+l12 = l12 + 18446744073709551615ull;
+if (l12 != 0ull) { goto L42; }
 L41:;
-if (!l26) { goto L40; }
-rattle_dealloc(b, l16);
+if (!l25) { goto L40; }
+rattle_dealloc(b, l15);
 L40:;
-l14 = l14 + 1ull;
-if (l14 != l23) { goto L39; }
+l13 = l13 + 1ull;
+if (l13 != l22) { goto L39; }
 L38:;
-if (!l22) { goto L4; }
-rattle_dealloc(b, l25);
+if (!l21) { goto L4; }
+rattle_dealloc(b, l24);
 goto L4;
 L17:;
-if (get64(b, l7 + 1296) != l19) { goto L44; }
-t2 = f327(b, l7 + 1280ull);
+if (get64(b, l6 + 1376) != l10) { goto L44; }
+t2 = f328(b, l6 + 1360ull);
 if (!t2) { goto L45; }
-l19 = get64(b, l7 + 1288);
+l10 = get64(b, l6 + 1368);
 goto L44;
 L45:;
-if (!l44) { goto L46; }
-if (!l13) { goto L47; }
-l8 = l22 + 24ull;
+if (!l41) { goto L46; }
+if (!l12) { goto L47; }
+l7 = l21 + 24ull;
 L48:;
-if (!get64(b, l8)) { goto L49; }
-rattle_dealloc(b, get64(b, l8 + 18446744073709551600ull));
+if (!get64(b, l7)) { goto L49; }
+rattle_dealloc(b, get64(b, l7 + 18446744073709551600ull));
 L49:;
-l8 = l8 + 32ull;
-l13 = l13 + 18446744073709551615ull;
-if (l13 != 0ull) { goto L48; }
+l7 = l7 + 32ull;
+l12 = l12 + 18446744073709551615ull;
+if (l12 != 0ull) { goto L48; }
 L47:;
-if (!l14) { goto L46; }
-rattle_dealloc(b, l22);
+if (!l13) { goto L46; }
+rattle_dealloc(b, l21);
 L46:;
-l22 = get64(b, l7 + 1296);
-l25 = get64(b, l7 + 1280);
-l23 = get64(b, l7 + 1288);
-if (!l23) { goto L50; }
-l14 = 0ull;
+l21 = get64(b, l6 + 1376);
+l24 = get64(b, l6 + 1360);
+l22 = get64(b, l6 + 1368);
+if (!l22) { goto L50; }
+l13 = 0ull;
 L51:;
-l8 = l25 + (l14 * 40ull);
-if (!get8(b, l8)) { goto L52; }
-l26 = get64(b, l8 + 32ull);
-l16 = get64(b, l8 + 16ull);
-l13 = get64(b, l8 + 24ull);
-if (!l13) { goto L53; }
-l8 = l16 + 24ull;
+l7 = l24 + (l13 * 40ull);
+if (!get8(b, l7)) { goto L52; }
+l25 = get64(b, l7 + 32ull);
+l15 = get64(b, l7 + 16ull);
+l12 = get64(b, l7 + 24ull);
+if (!l12) { goto L53; }
+l7 = l15 + 24ull;
 L54:;
-if (!get64(b, l8)) { goto L55; }
-rattle_dealloc(b, get64(b, l8 + 18446744073709551600ull));
+if (!get64(b, l7)) { goto L55; }
+rattle_dealloc(b, get64(b, l7 + 18446744073709551600ull));
 L55:;
-l8 = l8 + 32ull;
-l13 = l13 + 18446744073709551615ull;
-if (l13 != 0ull) { goto L54; }
+l7 = l7 + 32ull;
+l12 = l12 + 18446744073709551615ull;
+if (l12 != 0ull) { goto L54; }
 L53:;
-if (!l26) { goto L52; }
-rattle_dealloc(b, l16);
+if (!l25) { goto L52; }
+rattle_dealloc(b, l15);
 L52:;
-l14 = l14 + 1ull;
-if (l14 != l23) { goto L51; }
+l13 = l13 + 1ull;
+if (l13 != l22) { goto L51; }
 L50:;
-if (!l22) { goto L4; }
-rattle_dealloc(b, l25);
+if (!l21) { goto L4; }
+rattle_dealloc(b, l24);
 goto L4;
 L44:;
-l10 = get64(b, l7 + 1280);
-l8 = l10 + (l19 * 40ull);
-put64(b, l8, (u64)l44);
-put8(b, l8 + 15ull, 0u);
-put16(b, l8 + 13ull, 0u);
-put64(b, l8 + 32ull, l14);
-put64(b, l8 + 24ull, l13);
-put64(b, l8 + 16ull, l22);
-put8(b, l8 + 12ull, l45);
-put32(b, l8 + 8ull, l46);
-l19 = l19 + 1ull;
-put64(b, l7 + 1288, l19);
-l11 = l11 + 1ull;
-if (l11 != l12) { goto L16; }
-l18 = get64(b, l7 + 1296);
+l19 = get64(b, l6 + 1360);
+l7 = l19 + (l10 * 40ull);
+put64(b, l7, (u64)l41);
+put8(b, l7 + 15ull, 0u);
+put16(b, l7 + 13ull, 0u);
+put64(b, l7 + 32ull, l13);
+put64(b, l7 + 24ull, l12);
+put64(b, l7 + 16ull, l21);
+put8(b, l7 + 12ull, l42);
+put32(b, l7 + 8ull, l43);
+l10 = l10 + 1ull;
+put64(b, l6 + 1368, l10);
+l8 = l8 + 1ull;
+if (l8 != l11) { goto L16; }
+l17 = get64(b, l6 + 1376);
 L15:;
+l26 = 0ull;
 l27 = 0ull;
-l28 = 0ull;
-l25 = 0ull;
-l13 = get64(b, l9 + 40ull);
-if (!l13) { goto L68; }
-if (l13 > 2305843009213693951ull) { goto L66; }
-l8 = get64(b, l9 + 32ull);
-rattle_alloc(b, l7 + 112ull, l13 << 2, 4ull);
-if (!(((u32)get64(b, l7 + 112)) & 1u)) { goto L66; }
-l14 = get64(b, l7 + 120);
-put64(b, l7 + 2096, l13);
-l25 = 0ull;
-put64(b, l7 + 2088, 0ull);
-put64(b, l7 + 2080, l14);
-L69:;
-l48 = get32(b, l8);
-if (get64(b, l7 + 2096) != l25) { goto L70; }
-t3 = f329(b, l7 + 2080ull);
-if (!t3) { goto L67; }
-l14 = get64(b, l7 + 2080);
-l25 = get64(b, l7 + 2088);
-L70:;
-put32(b, l14 + (l25 << 2), l48);
-l25 = l25 + 1ull;
-put64(b, l7 + 2088, l25);
-l8 = l8 + 4ull;
-l13 = l13 + 18446744073709551615ull;
-if (!(u32)(!l13)) { goto L69; }
-l28 = get64(b, l7 + 2096);
-l20 = get64(b, l7 + 2080);
-L68:;
-l23 = 0ull;
-l29 = l7 + 2232ull;
-l11 = l29;
-l14 = get64(b, l9 + 64ull);
-if (!l14) { goto L71; }
-if (l14 > 256204778801521550ull) { goto L64; }
-l8 = get64(b, l9 + 56ull);
-rattle_alloc(b, l7 + 96ull, l14 * 36ull, 4ull);
-if (!(((u32)get64(b, l7 + 96)) & 1u)) { goto L64; }
-l11 = get64(b, l7 + 104);
-put64(b, l7 + 1512, l14);
-l23 = 0ull;
-put64(b, l7 + 1504, 0ull);
-put64(b, l7 + 1496, l11);
-L72:;
-put32(b, l7 + 2112, get32(b, l8 + 32));
-put64(b, l7 + 2104, get64(b, l8 + 24));
-put64(b, l7 + 2096, get64(b, l8 + 16));
-put64(b, l7 + 2088, get64(b, l8 + 8));
-put64(b, l7 + 2080, get64(b, l8));
-if (get64(b, l7 + 1512) != l23) { goto L73; }
-t4 = f328(b, l7 + 1496ull);
-if (!t4) { goto L65; }
-l11 = get64(b, l7 + 1496);
-l23 = get64(b, l7 + 1504);
-L73:;
-l13 = l11 + (l23 * 36ull);
-put64(b, l13 + 16, get64(b, l7 + 2096));
-put64(b, l13 + 8, get64(b, l7 + 2088));
-put64(b, l13, get64(b, l7 + 2080));
-put32(b, l13 + 32, get32(b, l7 + 2112));
-put64(b, l13 + 24, get64(b, l7 + 2104));
-l23 = l23 + 1ull;
-put64(b, l7 + 1504, l23);
-l8 = l8 + 36ull;
-l14 = l14 + 18446744073709551615ull;
-if (!(u32)(!l14)) { goto L72; }
-l27 = get64(b, l7 + 1512);
-L71:;
-l30 = 0ull;
-l31 = 0ull;
-l22 = 0ull;
-l13 = get64(b, l9 + 88ull);
-if (!l13) { goto L74; }
-if (l13 > 768614336404564650ull) { goto L62; }
-l8 = get64(b, l9 + 80ull);
-rattle_alloc(b, l7 + 80ull, l13 * 12ull, 4ull);
-if (!(((u32)get64(b, l7 + 80)) & 1u)) { goto L62; }
-l16 = get64(b, l7 + 88);
-put64(b, l7 + 2096, l13);
-l22 = 0ull;
-put64(b, l7 + 2088, 0ull);
-put64(b, l7 + 2080, l16);
-L75:;
-put32(b, l7 + 1504, get32(b, l8 + 8));
-put64(b, l7 + 1496, get64(b, l8));
-if (get64(b, l7 + 2096) != l22) { goto L76; }
-t5 = f323(b, l7 + 2080ull);
-if (!t5) { goto L63; }
-l16 = get64(b, l7 + 2080);
-l22 = get64(b, l7 + 2088);
-L76:;
-l14 = l16 + (l22 * 12ull);
-put32(b, l14 + 8, get32(b, l7 + 1504));
-put64(b, l14, get64(b, l7 + 1496));
-l22 = l22 + 1ull;
-put64(b, l7 + 2088, l22);
-l8 = l8 + 12ull;
-l13 = l13 + 18446744073709551615ull;
-if (!(u32)(!l13)) { goto L75; }
-l31 = get64(b, l7 + 2096);
-l29 = get64(b, l7 + 2080);
-L74:;
-l14 = get64(b, l9 + 112ull);
-if (!(u32)(!l14)) { goto L61; }
-l32 = l7 + 2232ull;
 l24 = 0ull;
+l12 = get64(b, l9 + 40ull);
+if (!l12) { goto L68; }
+if (l12 > 2305843009213693951ull) { goto L66; }
+l7 = get64(b, l9 + 32ull);
+rattle_alloc(b, l6 + 152ull, l12 << 2, 4ull);
+if (!(((u32)get64(b, l6 + 152)) & 1u)) { goto L66; }
+l13 = get64(b, l6 + 160);
+put64(b, l6 + 2304, l12);
+l24 = 0ull;
+put64(b, l6 + 2296, 0ull);
+put64(b, l6 + 2288, l13);
+L69:;
+l45 = get32(b, l7);
+if (get64(b, l6 + 2304) != l24) { goto L70; }
+t3 = f330(b, l6 + 2288ull);
+if (!t3) { goto L67; }
+l13 = get64(b, l6 + 2288);
+l24 = get64(b, l6 + 2296);
+L70:;
+put32(b, l13 + (l24 << 2), l45);
+l24 = l24 + 1ull;
+put64(b, l6 + 2296, l24);
+l7 = l7 + 4ull;
+l12 = l12 + 18446744073709551615ull;
+if (!(u32)(!l12)) { goto L69; }
+l27 = get64(b, l6 + 2304);
+l18 = get64(b, l6 + 2288);
+L68:;
+l22 = 0ull;
+l28 = l6 + 2440ull;
+l8 = l28;
+l13 = get64(b, l9 + 64ull);
+if (!l13) { goto L71; }
+if (l13 > 256204778801521550ull) { goto L64; }
+l7 = get64(b, l9 + 56ull);
+rattle_alloc(b, l6 + 136ull, l13 * 36ull, 4ull);
+if (!(((u32)get64(b, l6 + 136)) & 1u)) { goto L64; }
+l8 = get64(b, l6 + 144);
+put64(b, l6 + 1736, l13);
+l22 = 0ull;
+put64(b, l6 + 1728, 0ull);
+put64(b, l6 + 1720, l8);
+L72:;
+put32(b, l6 + 2320, get32(b, l7 + 32));
+put64(b, l6 + 2312, get64(b, l7 + 24));
+put64(b, l6 + 2304, get64(b, l7 + 16));
+put64(b, l6 + 2296, get64(b, l7 + 8));
+put64(b, l6 + 2288, get64(b, l7));
+if (get64(b, l6 + 1736) != l22) { goto L73; }
+t4 = f329(b, l6 + 1720ull);
+if (!t4) { goto L65; }
+l8 = get64(b, l6 + 1720);
+l22 = get64(b, l6 + 1728);
+L73:;
+l12 = l8 + (l22 * 36ull);
+put64(b, l12 + 16, get64(b, l6 + 2304));
+put64(b, l12 + 8, get64(b, l6 + 2296));
+put64(b, l12, get64(b, l6 + 2288));
+put32(b, l12 + 32, get32(b, l6 + 2320));
+put64(b, l12 + 24, get64(b, l6 + 2312));
+l22 = l22 + 1ull;
+put64(b, l6 + 1728, l22);
+l7 = l7 + 36ull;
+l13 = l13 + 18446744073709551615ull;
+if (!(u32)(!l13)) { goto L72; }
+l26 = get64(b, l6 + 1736);
+L71:;
+l29 = 0ull;
+l30 = 0ull;
+l21 = 0ull;
+l12 = get64(b, l9 + 88ull);
+if (!l12) { goto L74; }
+if (l12 > 768614336404564650ull) { goto L62; }
+l7 = get64(b, l9 + 80ull);
+rattle_alloc(b, l6 + 120ull, l12 * 12ull, 4ull);
+if (!(((u32)get64(b, l6 + 120)) & 1u)) { goto L62; }
+l15 = get64(b, l6 + 128);
+put64(b, l6 + 2304, l12);
+l21 = 0ull;
+put64(b, l6 + 2296, 0ull);
+put64(b, l6 + 2288, l15);
+L75:;
+put32(b, l6 + 1728, get32(b, l7 + 8));
+put64(b, l6 + 1720, get64(b, l7));
+if (get64(b, l6 + 2304) != l21) { goto L76; }
+t5 = f324(b, l6 + 2288ull);
+if (!t5) { goto L63; }
+l15 = get64(b, l6 + 2288);
+l21 = get64(b, l6 + 2296);
+L76:;
+l13 = l15 + (l21 * 12ull);
+put32(b, l13 + 8, get32(b, l6 + 1728));
+put64(b, l13, get64(b, l6 + 1720));
+l21 = l21 + 1ull;
+put64(b, l6 + 2296, l21);
+l7 = l7 + 12ull;
+l12 = l12 + 18446744073709551615ull;
+if (!(u32)(!l12)) { goto L75; }
+l30 = get64(b, l6 + 2304);
+l28 = get64(b, l6 + 2288);
+L74:;
+l13 = get64(b, l9 + 112ull);
+if (!(u32)(!l13)) { goto L61; }
+l31 = l6 + 2440ull;
+l23 = 0ull;
 goto L60;
 L67:;
-if (!get64(b, l7 + 2096)) { goto L66; }
-rattle_dealloc(b, get64(b, l7 + 2080));
+if (!get64(b, l6 + 2304)) { goto L66; }
+rattle_dealloc(b, get64(b, l6 + 2288));
 L66:;
-if (!l19) { goto L77; }
-l14 = 0ull;
+if (!l10) { goto L77; }
+l13 = 0ull;
 L78:;
-l8 = l10 + (l14 * 40ull);
-if (!get8(b, l8)) { goto L79; }
-l26 = get64(b, l8 + 32ull);
-l16 = get64(b, l8 + 16ull);
-l13 = get64(b, l8 + 24ull);
-if (!l13) { goto L80; }
-l8 = l16 + 24ull;
+l7 = l19 + (l13 * 40ull);
+if (!get8(b, l7)) { goto L79; }
+l25 = get64(b, l7 + 32ull);
+l15 = get64(b, l7 + 16ull);
+l12 = get64(b, l7 + 24ull);
+if (!l12) { goto L80; }
+l7 = l15 + 24ull;
 L81:;
-if (!get64(b, l8)) { goto L82; }
-rattle_dealloc(b, get64(b, l8 + 18446744073709551600ull));
+if (!get64(b, l7)) { goto L82; }
+rattle_dealloc(b, get64(b, l7 + 18446744073709551600ull));
 L82:;
-l8 = l8 + 32ull;
-l13 = l13 + 18446744073709551615ull;
-if (l13 != 0ull) { goto L81; }
+l7 = l7 + 32ull;
+l12 = l12 + 18446744073709551615ull;
+if (l12 != 0ull) { goto L81; }
 L80:;
-if (!l26) { goto L79; }
-rattle_dealloc(b, l16);
+if (!l25) { goto L79; }
+rattle_dealloc(b, l15);
 L79:;
-l14 = l14 + 1ull;
-if (l14 != l19) { goto L78; }
+l13 = l13 + 1ull;
+if (l13 != l10) { goto L78; }
 L77:;
-if (!l18) { goto L4; }
-rattle_dealloc(b, l10);
+if (!l17) { goto L4; }
+rattle_dealloc(b, l19);
 goto L4;
 L65:;
-if (!get64(b, l7 + 1512)) { goto L64; }
-rattle_dealloc(b, get64(b, l7 + 1496));
+if (!get64(b, l6 + 1736)) { goto L64; }
+rattle_dealloc(b, get64(b, l6 + 1720));
 L64:;
-if (!l28) { goto L83; }
-rattle_dealloc(b, l20);
+if (!l27) { goto L83; }
+rattle_dealloc(b, l18);
 L83:;
-if (!l19) { goto L84; }
-l14 = 0ull;
+if (!l10) { goto L84; }
+l13 = 0ull;
 L85:;
-l8 = l10 + (l14 * 40ull);
-if (!get8(b, l8)) { goto L86; }
-l26 = get64(b, l8 + 32ull);
-l16 = get64(b, l8 + 16ull);
-l13 = get64(b, l8 + 24ull);
-if (!l13) { goto L87; }
-l8 = l16 + 24ull;
+l7 = l19 + (l13 * 40ull);
+if (!get8(b, l7)) { goto L86; }
+l25 = get64(b, l7 + 32ull);
+l15 = get64(b, l7 + 16ull);
+l12 = get64(b, l7 + 24ull);
+if (!l12) { goto L87; }
+l7 = l15 + 24ull;
 L88:;
-if (!get64(b, l8)) { goto L89; }
-rattle_dealloc(b, get64(b, l8 + 18446744073709551600ull));
+if (!get64(b, l7)) { goto L89; }
+rattle_dealloc(b, get64(b, l7 + 18446744073709551600ull));
 L89:;
-l8 = l8 + 32ull;
-l13 = l13 + 18446744073709551615ull;
-if (l13 != 0ull) { goto L88; }
+l7 = l7 + 32ull;
+l12 = l12 + 18446744073709551615ull;
+if (l12 != 0ull) { goto L88; }
 L87:;
-if (!l26) { goto L86; }
-rattle_dealloc(b, l16);
+if (!l25) { goto L86; }
+rattle_dealloc(b, l15);
 L86:;
-l14 = l14 + 1ull;
-if (l14 != l19) { goto L85; }
+l13 = l13 + 1ull;
+if (l13 != l10) { goto L85; }
 L84:;
-if (!l18) { goto L4; }
-rattle_dealloc(b, l10);
+if (!l17) { goto L4; }
+rattle_dealloc(b, l19);
 goto L4;
 L63:;
-if (!get64(b, l7 + 2096)) { goto L62; }
-rattle_dealloc(b, get64(b, l7 + 2080));
+if (!get64(b, l6 + 2304)) { goto L62; }
+rattle_dealloc(b, get64(b, l6 + 2288));
 L62:;
-if (!l27) { goto L90; }
-rattle_dealloc(b, l11);
+if (!l26) { goto L90; }
+rattle_dealloc(b, l8);
 L90:;
-if (!l28) { goto L91; }
-rattle_dealloc(b, l20);
+if (!l27) { goto L91; }
+rattle_dealloc(b, l18);
 L91:;
-if (!l19) { goto L92; }
-l14 = 0ull;
+if (!l10) { goto L92; }
+l13 = 0ull;
 L93:;
-l8 = l10 + (l14 * 40ull);
-if (!get8(b, l8)) { goto L94; }
-l26 = get64(b, l8 + 32ull);
-l16 = get64(b, l8 + 16ull);
-l13 = get64(b, l8 + 24ull);
-if (!l13) { goto L95; }
-l8 = l16 + 24ull;
+l7 = l19 + (l13 * 40ull);
+if (!get8(b, l7)) { goto L94; }
+l25 = get64(b, l7 + 32ull);
+l15 = get64(b, l7 + 16ull);
+l12 = get64(b, l7 + 24ull);
+if (!l12) { goto L95; }
+l7 = l15 + 24ull;
 L96:;
-if (!get64(b, l8)) { goto L97; }
-rattle_dealloc(b, get64(b, l8 + 18446744073709551600ull));
+if (!get64(b, l7)) { goto L97; }
+rattle_dealloc(b, get64(b, l7 + 18446744073709551600ull));
 L97:;
-l8 = l8 + 32ull;
-l13 = l13 + 18446744073709551615ull;
-if (l13 != 0ull) { goto L96; }
+l7 = l7 + 32ull;
+l12 = l12 + 18446744073709551615ull;
+if (l12 != 0ull) { goto L96; }
 L95:;
-if (!l26) { goto L94; }
-rattle_dealloc(b, l16);
+if (!l25) { goto L94; }
+rattle_dealloc(b, l15);
 L94:;
-l14 = l14 + 1ull;
-if (l14 != l19) { goto L93; }
+l13 = l13 + 1ull;
+if (l13 != l10) { goto L93; }
 L92:;
-if (!l18) { goto L4; }
-rattle_dealloc(b, l10);
+if (!l17) { goto L4; }
+rattle_dealloc(b, l19);
 goto L4;
 L61:;
-if (l14 > 384307168202282325ull) { goto L58; }
-l8 = get64(b, l9 + 104ull);
-rattle_alloc(b, l7 + 64ull, l14 * 24ull, 4ull);
-if (!(((u32)get64(b, l7 + 64)) & 1u)) { goto L58; }
-l16 = get64(b, l7 + 72);
-put64(b, l7 + 1512, l14);
-l24 = 0ull;
-put64(b, l7 + 1504, 0ull);
-put64(b, l7 + 1496, l16);
+if (l13 > 384307168202282325ull) { goto L58; }
+l7 = get64(b, l9 + 104ull);
+rattle_alloc(b, l6 + 104ull, l13 * 24ull, 4ull);
+if (!(((u32)get64(b, l6 + 104)) & 1u)) { goto L58; }
+l15 = get64(b, l6 + 112);
+put64(b, l6 + 1736, l13);
+l23 = 0ull;
+put64(b, l6 + 1728, 0ull);
+put64(b, l6 + 1720, l15);
 L98:;
-put64(b, l7 + 2096, get64(b, l8 + 16));
-put64(b, l7 + 2088, get64(b, l8 + 8));
-put64(b, l7 + 2080, get64(b, l8));
-if (get64(b, l7 + 1512) != l24) { goto L99; }
-t6 = f332(b, l7 + 1496ull);
+put64(b, l6 + 2304, get64(b, l7 + 16));
+put64(b, l6 + 2296, get64(b, l7 + 8));
+put64(b, l6 + 2288, get64(b, l7));
+if (get64(b, l6 + 1736) != l23) { goto L99; }
+t6 = f333(b, l6 + 1720ull);
 if (!t6) { goto L59; }
-l16 = get64(b, l7 + 1496);
-l24 = get64(b, l7 + 1504);
+l15 = get64(b, l6 + 1720);
+l23 = get64(b, l6 + 1728);
 L99:;
-l13 = l16 + (l24 * 24ull);
-put64(b, l13 + 16, get64(b, l7 + 2096));
-put64(b, l13 + 8, get64(b, l7 + 2088));
-put64(b, l13, get64(b, l7 + 2080));
-l24 = l24 + 1ull;
-put64(b, l7 + 1504, l24);
-l8 = l8 + 24ull;
-l14 = l14 + 18446744073709551615ull;
-if (!(u32)(!l14)) { goto L98; }
-l30 = get64(b, l7 + 1512);
-l32 = get64(b, l7 + 1496);
+l12 = l15 + (l23 * 24ull);
+put64(b, l12 + 16, get64(b, l6 + 2304));
+put64(b, l12 + 8, get64(b, l6 + 2296));
+put64(b, l12, get64(b, l6 + 2288));
+l23 = l23 + 1ull;
+put64(b, l6 + 1728, l23);
+l7 = l7 + 24ull;
+l13 = l13 + 18446744073709551615ull;
+if (!(u32)(!l13)) { goto L98; }
+l29 = get64(b, l6 + 1736);
+l31 = get64(b, l6 + 1720);
 L60:;
-l21 = get64(b, l9 + 128ull);
-l12 = get64(b, l9 + 136ull);
-put64(b, l7 + 1512, 0ull);
-put64(b, l7 + 1504, 0ull);
-put64(b, l7 + 1496, 0ull);
-if (l12 != 0ull) { goto L57; }
-put64(b, l7 + 1496, l7 + 2232ull);
+l20 = get64(b, l9 + 128ull);
+l11 = get64(b, l9 + 136ull);
+put64(b, l6 + 1736, 0ull);
+put64(b, l6 + 1728, 0ull);
+put64(b, l6 + 1720, 0ull);
+if (l11 != 0ull) { goto L57; }
+put64(b, l6 + 1720, l6 + 2440ull);
 goto L56;
 L59:;
-if (!get64(b, l7 + 1512)) { goto L58; }
-rattle_dealloc(b, get64(b, l7 + 1496));
+if (!get64(b, l6 + 1736)) { goto L58; }
+rattle_dealloc(b, get64(b, l6 + 1720));
 L58:;
-if (!l31) { goto L100; }
-rattle_dealloc(b, l29);
+if (!l30) { goto L100; }
+rattle_dealloc(b, l28);
 L100:;
-if (!l27) { goto L101; }
-rattle_dealloc(b, l11);
+if (!l26) { goto L101; }
+rattle_dealloc(b, l8);
 L101:;
-if (!l28) { goto L102; }
-rattle_dealloc(b, l20);
+if (!l27) { goto L102; }
+rattle_dealloc(b, l18);
 L102:;
-if (!l19) { goto L103; }
-l14 = 0ull;
+if (!l10) { goto L103; }
+l13 = 0ull;
 L104:;
-l8 = l10 + (l14 * 40ull);
-if (!get8(b, l8)) { goto L105; }
-l26 = get64(b, l8 + 32ull);
-l16 = get64(b, l8 + 16ull);
-l13 = get64(b, l8 + 24ull);
-if (!l13) { goto L106; }
-l8 = l16 + 24ull;
+l7 = l19 + (l13 * 40ull);
+if (!get8(b, l7)) { goto L105; }
+l25 = get64(b, l7 + 32ull);
+l15 = get64(b, l7 + 16ull);
+l12 = get64(b, l7 + 24ull);
+if (!l12) { goto L106; }
+l7 = l15 + 24ull;
 L107:;
-if (!get64(b, l8)) { goto L108; }
-rattle_dealloc(b, get64(b, l8 + 18446744073709551600ull));
+if (!get64(b, l7)) { goto L108; }
+rattle_dealloc(b, get64(b, l7 + 18446744073709551600ull));
 L108:;
-l8 = l8 + 32ull;
-l13 = l13 + 18446744073709551615ull;
-if (l13 != 0ull) { goto L107; }
+l7 = l7 + 32ull;
+l12 = l12 + 18446744073709551615ull;
+if (l12 != 0ull) { goto L107; }
 L106:;
-if (!l26) { goto L105; }
-rattle_dealloc(b, l16);
+if (!l25) { goto L105; }
+rattle_dealloc(b, l15);
 L105:;
-l14 = l14 + 1ull;
-if (l14 != l19) { goto L104; }
+l13 = l13 + 1ull;
+if (l13 != l10) { goto L104; }
 L103:;
-if (!l18) { goto L4; }
-rattle_dealloc(b, l10);
+if (!l17) { goto L4; }
+rattle_dealloc(b, l19);
 goto L4;
 L57:;
-if (l12 > 288230376151711743ull) { goto L6; }
-rattle_alloc(b, l7 + 48ull, l12 << 5, 8ull);
-if (!(((u32)get64(b, l7 + 48)) & 1u)) { goto L6; }
-l8 = get64(b, l7 + 56);
-put64(b, l7 + 1512, l12);
-l14 = 0ull;
-put64(b, l7 + 1504, 0ull);
-put64(b, l7 + 1496, l8);
+if (l11 > 288230376151711743ull) { goto L6; }
+rattle_alloc(b, l6 + 88ull, l11 << 5, 8ull);
+if (!(((u32)get64(b, l6 + 88)) & 1u)) { goto L6; }
+l7 = get64(b, l6 + 96);
+put64(b, l6 + 1736, l11);
+l13 = 0ull;
+put64(b, l6 + 1728, 0ull);
+put64(b, l6 + 1720, l7);
 l9 = 0ull;
 L109:;
-l8 = l21 + (l9 << 5);
-l45 = get32(b, l8);
-l16 = get64(b, l8 + 16ull);
-if (!(u32)(!l16)) { goto L115; }
-l26 = l7 + 2232ull;
-l16 = 0ull;
-l13 = 0ull;
+l7 = l20 + (l9 << 5);
+l42 = get32(b, l7);
+l15 = get64(b, l7 + 16ull);
+if (!(u32)(!l15)) { goto L115; }
+l25 = l6 + 2440ull;
+l15 = 0ull;
+l12 = 0ull;
 goto L114;
 L115:;
-if (l16 > 768614336404564650ull) { goto L112; }
-l8 = get64(b, l8 + 8ull);
-rattle_alloc(b, l7 + 32ull, l16 * 12ull, 4ull);
-if (!(((u32)get64(b, l7 + 32)) & 1u)) { goto L112; }
-l26 = get64(b, l7 + 40);
-put64(b, l7 + 2096, l16);
-l13 = 0ull;
-put64(b, l7 + 2088, 0ull);
-put64(b, l7 + 2080, l26);
+if (l15 > 768614336404564650ull) { goto L112; }
+l7 = get64(b, l7 + 8ull);
+rattle_alloc(b, l6 + 72ull, l15 * 12ull, 4ull);
+if (!(((u32)get64(b, l6 + 72)) & 1u)) { goto L112; }
+l25 = get64(b, l6 + 80);
+put64(b, l6 + 2304, l15);
+l12 = 0ull;
+put64(b, l6 + 2296, 0ull);
+put64(b, l6 + 2288, l25);
 L116:;
-l48 = get8(b, l8 + 8ull);
-l47 = get32(b, l8 + 4ull);
-l44 = get8(b, l8);
-if (get64(b, l7 + 2096) != l13) { goto L117; }
-t7 = f330(b, l7 + 2080ull);
+l45 = get8(b, l7 + 8ull);
+l44 = get32(b, l7 + 4ull);
+l41 = get8(b, l7);
+if (get64(b, l6 + 2304) != l12) { goto L117; }
+t7 = f331(b, l6 + 2288ull);
 if (!t7) { goto L113; }
-l26 = get64(b, l7 + 2080);
-l13 = get64(b, l7 + 2088);
+l25 = get64(b, l6 + 2288);
+l12 = get64(b, l6 + 2296);
 L117:;
-l14 = l26 + (l13 * 12ull);
-put32(b, l14, l44);
-put8(b, l14 + 8ull, l48);
-put32(b, l14 + 4ull, l47);
-l13 = l13 + 1ull;
-put64(b, l7 + 2088, l13);
-l8 = l8 + 12ull;
-l16 = l16 + 18446744073709551615ull;
-if (!(u32)(!l16)) { goto L116; }
-l14 = get64(b, l7 + 1504);
-l16 = get64(b, l7 + 2096);
-l26 = get64(b, l7 + 2080);
+l13 = l25 + (l12 * 12ull);
+put32(b, l13, l41);
+put8(b, l13 + 8ull, l45);
+put32(b, l13 + 4ull, l44);
+l12 = l12 + 1ull;
+put64(b, l6 + 2296, l12);
+l7 = l7 + 12ull;
+l15 = l15 + 18446744073709551615ull;
+if (!(u32)(!l15)) { goto L116; }
+l13 = get64(b, l6 + 1728);
+l15 = get64(b, l6 + 2304);
+l25 = get64(b, l6 + 2288);
 L114:;
-if (get64(b, l7 + 1512) == l14) { goto L111; }
+if (get64(b, l6 + 1736) == l13) { goto L111; }
 goto L110;
 L113:;
-if (!get64(b, l7 + 2096)) { goto L112; }
-rattle_dealloc(b, get64(b, l7 + 2080));
+if (!get64(b, l6 + 2304)) { goto L112; }
+rattle_dealloc(b, get64(b, l6 + 2288));
 L112:;
-l16 = get64(b, l7 + 1512);
-l14 = get64(b, l7 + 1496);
-l13 = get64(b, l7 + 1504);
-if (!l13) { goto L118; }
-l8 = l14 + 24ull;
+l15 = get64(b, l6 + 1736);
+l13 = get64(b, l6 + 1720);
+l12 = get64(b, l6 + 1728);
+if (!l12) { goto L118; }
+l7 = l13 + 24ull;
 L119:;
-if (!get64(b, l8)) { goto L120; }
-rattle_dealloc(b, get64(b, l8 + 18446744073709551600ull));
+if (!get64(b, l7)) { goto L120; }
+rattle_dealloc(b, get64(b, l7 + 18446744073709551600ull));
 L120:;
-l8 = l8 + 32ull;
-l13 = l13 + 18446744073709551615ull;
-if (l13 != 0ull) { goto L119; }
+l7 = l7 + 32ull;
+l12 = l12 + 18446744073709551615ull;
+if (l12 != 0ull) { goto L119; }
 L118:;
-if (!l16) { goto L121; }
-rattle_dealloc(b, l14);
+if (!l15) { goto L121; }
+rattle_dealloc(b, l13);
 L121:;
-put64(b, l7 + 1759, 0ull);
-put64(b, l7 + 1751, 0ull);
-put64(b, l7 + 1743, 0ull);
+put64(b, l6 + 1879, 0ull);
+put64(b, l6 + 1871, 0ull);
+put64(b, l6 + 1863, 0ull);
 goto L5;
 L111:;
-t8 = f331(b, l7 + 1496ull);
+t8 = f332(b, l6 + 1720ull);
 if (!t8) { goto L122; }
-l14 = get64(b, l7 + 1504);
+l13 = get64(b, l6 + 1728);
 goto L110;
 L122:;
-if (!l16) { goto L123; }
-rattle_dealloc(b, l26);
+if (!l15) { goto L123; }
+rattle_dealloc(b, l25);
 L123:;
-l16 = get64(b, l7 + 1512);
-l14 = get64(b, l7 + 1496);
-l13 = get64(b, l7 + 1504);
-if (!l13) { goto L124; }
-l8 = l14 + 24ull;
+l15 = get64(b, l6 + 1736);
+l13 = get64(b, l6 + 1720);
+l12 = get64(b, l6 + 1728);
+if (!l12) { goto L124; }
+l7 = l13 + 24ull;
 L125:;
-if (!get64(b, l8)) { goto L126; }
-rattle_dealloc(b, get64(b, l8 + 18446744073709551600ull));
+if (!get64(b, l7)) { goto L126; }
+rattle_dealloc(b, get64(b, l7 + 18446744073709551600ull));
 L126:;
-l8 = l8 + 32ull;
-l13 = l13 + 18446744073709551615ull;
-if (l13 != 0ull) { goto L125; }
+l7 = l7 + 32ull;
+l12 = l12 + 18446744073709551615ull;
+if (l12 != 0ull) { goto L125; }
 L124:;
-if (!l16) { goto L127; }
-rattle_dealloc(b, l14);
+if (!l15) { goto L127; }
+rattle_dealloc(b, l13);
 L127:;
-put64(b, l7 + 1759, 0ull);
-put64(b, l7 + 1751, 0ull);
-put64(b, l7 + 1743, 0ull);
+put64(b, l6 + 1879, 0ull);
+put64(b, l6 + 1871, 0ull);
+put64(b, l6 + 1863, 0ull);
 goto L5;
 L110:;
-l8 = get64(b, l7 + 1496) + (l14 << 5);
-put64(b, l8 + 24, l16);
-put64(b, l8 + 16, l13);
-put64(b, l8 + 8, l26);
-put32(b, l8 + 4, 0u);
-put32(b, l8, l45);
-l14 = l14 + 1ull;
-put64(b, l7 + 1504, l14);
+l7 = get64(b, l6 + 1720) + (l13 << 5);
+put64(b, l7 + 24, l15);
+put64(b, l7 + 16, l12);
+put64(b, l7 + 8, l25);
+put32(b, l7 + 4, 0u);
+put32(b, l7, l42);
+l13 = l13 + 1ull;
+put64(b, l6 + 1728, l13);
 l9 = l9 + 1ull;
-if (l9 != l12) { goto L109; }
+if (l9 != l11) { goto L109; }
 L56:;
-put64(b, l15 + 16, get64(b, l7 + 1512));
-put64(b, l15 + 8, get64(b, l7 + 1504));
-put64(b, l15, get64(b, l7 + 1496));
-put64(b, l7 + 936, get64(b, l15));
-put64(b, l7 + 944, get64(b, l15 + 8));
-put64(b, l7 + 952, get64(b, l15 + 16));
-l13 = get64(b, l7 + 1056);
-if (get64(b, l7 + 1064) != l13) { goto L128; }
-t9 = f356(b, l7 + 1048ull);
+put64(b, l14 + 16, get64(b, l6 + 1736));
+put64(b, l14 + 8, get64(b, l6 + 1728));
+put64(b, l14, get64(b, l6 + 1720));
+put64(b, l6 + 1976, get64(b, l14));
+put64(b, l6 + 1984, get64(b, l14 + 8));
+put64(b, l6 + 1992, get64(b, l14 + 16));
+l12 = get64(b, l6 + 920);
+if (get64(b, l6 + 928) != l12) { goto L128; }
+t9 = f357(b, l6 + 912ull);
 if (!t9) { goto L10; }
-l13 = get64(b, l7 + 1056);
+l12 = get64(b, l6 + 920);
 L128:;
-l12 = get64(b, l7 + 1048);
-l8 = l12 + (l13 * 152ull);
-put64(b, l8 + 120, l30);
-put64(b, l8 + 112, l24);
-put64(b, l8 + 104, l32);
-put64(b, l8 + 96, l31);
-put64(b, l8 + 88, l22);
-put64(b, l8 + 80, l29);
-put64(b, l8 + 72, l27);
-put64(b, l8 + 64, l23);
-put64(b, l8 + 56, l11);
-put64(b, l8 + 48, l28);
-put64(b, l8 + 40, l25);
-put64(b, l8 + 32, l20);
-put64(b, l8 + 24, l18);
-put64(b, l8 + 16, l19);
-put64(b, l8 + 8, l10);
-put32(b, l8 + 4, 0u);
-put32(b, l8, l43);
-put64(b, l8 + 128, get64(b, l7 + 936));
-put64(b, l8 + 136, get64(b, l7 + 944));
-put64(b, l8 + 144, get64(b, l7 + 952));
-l8 = l13 + 1ull;
-put64(b, l7 + 1056, l8);
-l17 = l17 + 1ull;
-if (l17 == l5) { goto L129; }
-put64(b, l7 + 1888, 0ull);
-put64(b, l7 + 1880, 0ull);
-put64(b, l7 + 1872, 0ull);
-l16 = l4 + (l17 << 5);
-l13 = get64(b, l16 + 16ull);
-l14 = (l6 > l13) ? 1ull : l6;
-if (!l14) { goto L2; }
+l11 = get64(b, l6 + 912);
+l7 = l11 + (l12 * 152ull);
+put64(b, l7 + 120, l29);
+put64(b, l7 + 112, l23);
+put64(b, l7 + 104, l31);
+put64(b, l7 + 96, l30);
+put64(b, l7 + 88, l21);
+put64(b, l7 + 80, l28);
+put64(b, l7 + 72, l26);
+put64(b, l7 + 64, l22);
+put64(b, l7 + 56, l8);
+put64(b, l7 + 48, l27);
+put64(b, l7 + 40, l24);
+put64(b, l7 + 32, l18);
+put64(b, l7 + 24, l17);
+put64(b, l7 + 16, l10);
+put64(b, l7 + 8, l19);
+put32(b, l7 + 4, 0u);
+put32(b, l7, l40);
+put64(b, l7 + 128, get64(b, l6 + 1976));
+put64(b, l7 + 136, get64(b, l6 + 1984));
+put64(b, l7 + 144, get64(b, l6 + 1992));
+l7 = l12 + 1ull;
+put64(b, l6 + 920, l7);
+l16 = l16 + 1ull;
+if (l16 == l4) { goto L129; }
+put64(b, l6 + 1048, 0ull);
+put64(b, l6 + 1040, 0ull);
+put64(b, l6 + 1032, 0ull);
+l15 = l3 + (l16 << 5);
+l12 = get64(b, l15 + 16ull);
+l13 = (l5 > l12) ? 1ull : l5;
+if (!l13) { goto L2; }
 goto L14;
 L129:;
-l11 = get64(b, l7 + 1064);
-l10 = 0ull;
-put64(b, l7 + 2088, 0ull);
-put64(b, l7 + 2096, 0ull);
-l14 = l4 + 16ull;
-put64(b, l7 + 2080, l7 + 2232ull);
-l26 = l7 + 2232ull;
+l10 = get64(b, l6 + 928);
+l9 = 0ull;
+put64(b, l6 + 2296, 0ull);
+put64(b, l6 + 2304, 0ull);
+l13 = l3 + 16ull;
+put64(b, l6 + 2288, l6 + 2440ull);
+l25 = l6 + 2440ull;
 L130:;
-l16 = get64(b, l14);
-if (get64(b, l7 + 2096) != l10) { goto L131; }
-t10 = f357(b, l7 + 2080ull);
+l15 = get64(b, l13);
+if (get64(b, l6 + 2304) != l9) { goto L131; }
+t10 = f358(b, l6 + 2288ull);
 if (!t10) { goto L9; }
-l26 = get64(b, l7 + 2080);
-l10 = get64(b, l7 + 2088);
+l25 = get64(b, l6 + 2288);
+l9 = get64(b, l6 + 2296);
 L131:;
-put64(b, l26 + (l10 << 3), (l6 > l16) ? 1ull : l6);
-l10 = l10 + 1ull;
-put64(b, l7 + 2088, l10);
-l14 = l14 + 32ull;
-l5 = l5 + 18446744073709551615ull;
-if (!(u32)(!l5)) { goto L130; }
-l9 = get64(b, l7 + 2096);
-l6 = get64(b, l7 + 2080);
+put64(b, l25 + (l9 << 3), (l5 > l15) ? 1ull : l5);
+l9 = l9 + 1ull;
+put64(b, l6 + 2296, l9);
+l13 = l13 + 32ull;
+l4 = l4 + 18446744073709551615ull;
+if (!(u32)(!l4)) { goto L130; }
+l8 = get64(b, l6 + 2304);
+l5 = get64(b, l6 + 2288);
 L11:;
-fill(b, l7 + 1160ull, 0u, 118u);
-fill(b, l7 + 1048ull, 0u, 112u);
-fill(b, l7 + 936ull, 0u, 112u);
-fill(b, l7 + 1280ull, 0u, 118u);
-fill(b, l7 + 2080ull, 0u, 120u);
-l14 = 0ull;
-put64(b, l7 + 1519, 0ull);
-put64(b, l7 + 1512, 0ull);
-put64(b, l7 + 1504, 0ull);
-put64(b, l7 + 1496, 0ull);
-put64(b, l7 + 2040, 0ull);
-put64(b, l7 + 2048, 0ull);
-put64(b, l7 + 1856, 0ull);
-put64(b, l7 + 1864, 0ull);
-put64(b, l7 + 1480, 0ull);
-put64(b, l7 + 1488, 0ull);
-put64(b, l7 + 1464, 0ull);
-put64(b, l7 + 1472, 0ull);
-put64(b, l7 + 1616, 0ull);
-put64(b, l7 + 1624, 0ull);
-put64(b, l7 + 1632, 0ull);
-put64(b, l7 + 1639, 0ull);
-l13 = get64(b, l1 + 64ull);
-put64(b, l7 + 1760, 0ull);
-put64(b, l7 + 1752, 0ull);
-put64(b, l7 + 1744, 0ull);
-put64(b, l7 + 1736, 0ull);
-f181(b, l7 + 1736ull, l13);
-l47 = get8(b, l7 + 1736);
-if (l47) { goto L8; }
-put64(b, l7 + 1639, get64(b, l7 + 1760));
-put64(b, l7 + 1631, get64(b, l7 + 1752));
-put64(b, l7 + 1623, get64(b, l7 + 1744));
-put64(b, l7 + 1448, 0ull);
-put64(b, l7 + 1456, 0ull);
-put64(b, l7 + 1432, 0ull);
-put64(b, l7 + 1440, 0ull);
-put64(b, l7 + 1416, 0ull);
-put64(b, l7 + 1424, 0ull);
-put64(b, l7 + 1400, 0ull);
-put64(b, l7 + 1408, 0ull);
-l14 = l7 + 2232ull;
+fill(b, l6 + 912ull, 0u, 118u);
+fill(b, l6 + 800ull, 0u, 112u);
+fill(b, l6 + 688ull, 0u, 112u);
+fill(b, l6 + 1032ull, 0u, 118u);
+fill(b, l6 + 2288ull, 0u, 126u);
+fill(b, l6 + 1856ull, 0u, 120u);
+l13 = 0ull;
+put64(b, l6 + 1623, 0ull);
+put64(b, l6 + 1616, 0ull);
+put64(b, l6 + 1608, 0ull);
+put64(b, l6 + 1600, 0ull);
+put64(b, l6 + 2272, 0ull);
+put64(b, l6 + 2280, 0ull);
+put64(b, l6 + 1840, 0ull);
+put64(b, l6 + 1848, 0ull);
+put64(b, l6 + 1232, 0ull);
+put64(b, l6 + 1240, 0ull);
+put64(b, l6 + 1216, 0ull);
+put64(b, l6 + 1224, 0ull);
+put64(b, l6 + 1360, 0ull);
+put64(b, l6 + 1368, 0ull);
+put64(b, l6 + 1376, 0ull);
+put64(b, l6 + 1383, 0ull);
+l12 = get64(b, l1 + 64ull);
+put64(b, l6 + 1744, 0ull);
+put64(b, l6 + 1736, 0ull);
+put64(b, l6 + 1728, 0ull);
+put64(b, l6 + 1720, 0ull);
+f180(b, l6 + 1720ull, l12);
+l44 = get8(b, l6 + 1720);
+if (l44) { goto L8; }
+put64(b, l6 + 1383, get64(b, l6 + 1744));
+put64(b, l6 + 1375, get64(b, l6 + 1736));
+put64(b, l6 + 1367, get64(b, l6 + 1728));
+put64(b, l6 + 1200, 0ull);
+put64(b, l6 + 1208, 0ull);
+put64(b, l6 + 1184, 0ull);
+put64(b, l6 + 1192, 0ull);
+put64(b, l6 + 1168, 0ull);
+put64(b, l6 + 1176, 0ull);
+put64(b, l6 + 1152, 0ull);
+put64(b, l6 + 1160, 0ull);
+l13 = l6 + 2440ull;
 goto L7;
 L10:;
-put64(b, l7 + 2200, l30);
-put64(b, l7 + 2192, l24);
-put64(b, l7 + 2184, l32);
-put64(b, l7 + 2176, l31);
-put64(b, l7 + 2168, l22);
-put64(b, l7 + 2160, l29);
-put64(b, l7 + 2152, l27);
-put64(b, l7 + 2144, l23);
-put64(b, l7 + 2136, l11);
-put64(b, l7 + 2128, l28);
-put64(b, l7 + 2120, l25);
-put64(b, l7 + 2112, l20);
-put64(b, l7 + 2104, l18);
-put64(b, l7 + 2096, l19);
-put64(b, l7 + 2088, l10);
-put32(b, l7 + 2084, 0u);
-put32(b, l7 + 2080, l43);
-put64(b, l7 + 2208, get64(b, l7 + 936));
-put64(b, l7 + 2216, get64(b, l7 + 944));
-put64(b, l7 + 2224, get64(b, l7 + 952));
-f197(b, l7 + 2080ull);
-l16 = get64(b, l7 + 1064);
-l14 = get64(b, l7 + 1048);
-l13 = get64(b, l7 + 1056);
-if (!l13) { goto L132; }
-l8 = l14;
+put64(b, l6 + 2408, l29);
+put64(b, l6 + 2400, l23);
+put64(b, l6 + 2392, l31);
+put64(b, l6 + 2384, l30);
+put64(b, l6 + 2376, l21);
+put64(b, l6 + 2368, l28);
+put64(b, l6 + 2360, l26);
+put64(b, l6 + 2352, l22);
+put64(b, l6 + 2344, l8);
+put64(b, l6 + 2336, l27);
+put64(b, l6 + 2328, l24);
+put64(b, l6 + 2320, l18);
+put64(b, l6 + 2312, l17);
+put64(b, l6 + 2304, l10);
+put64(b, l6 + 2296, l19);
+put32(b, l6 + 2292, 0u);
+put32(b, l6 + 2288, l40);
+put64(b, l6 + 2416, get64(b, l6 + 1976));
+put64(b, l6 + 2424, get64(b, l6 + 1984));
+put64(b, l6 + 2432, get64(b, l6 + 1992));
+f196(b, l6 + 2288ull);
+l15 = get64(b, l6 + 928);
+l13 = get64(b, l6 + 912);
+l12 = get64(b, l6 + 920);
+if (!l12) { goto L132; }
+l7 = l13;
 L133:;
-copy(b, l7 + 2080ull, l8, 152u);
-l8 = l8 + 152ull;
-f197(b, l7 + 2080ull);
-l13 = l13 + 18446744073709551615ull;
-if (l13 != 0ull) { goto L133; }
+copy(b, l6 + 2288ull, l7, 152u);
+l7 = l7 + 152ull;
+f196(b, l6 + 2288ull);
+l12 = l12 + 18446744073709551615ull;
+if (l12 != 0ull) { goto L133; }
 L132:;
-if (!l16) { goto L3; }
-rattle_dealloc(b, l14);
+if (!l15) { goto L3; }
+rattle_dealloc(b, l13);
 goto L3;
 L9:;
-if (!get64(b, l7 + 2096)) { goto L134; }
-rattle_dealloc(b, get64(b, l7 + 2080));
+if (!get64(b, l6 + 2304)) { goto L134; }
+rattle_dealloc(b, get64(b, l6 + 2288));
 L134:;
-if (!l8) { goto L135; }
-l13 = l13 + 1ull;
-l8 = l12;
+if (!l7) { goto L135; }
+l12 = l12 + 1ull;
+l7 = l11;
 L136:;
-copy(b, l7 + 2080ull, l8, 152u);
-l8 = l8 + 152ull;
-f197(b, l7 + 2080ull);
-l13 = l13 + 18446744073709551615ull;
-if (l13 != 0ull) { goto L136; }
+copy(b, l6 + 2288ull, l7, 152u);
+l7 = l7 + 152ull;
+f196(b, l6 + 2288ull);
+l12 = l12 + 18446744073709551615ull;
+if (l12 != 0ull) { goto L136; }
 L135:;
-if (!l11) { goto L137; }
-rattle_dealloc(b, l12);
+if (!l10) { goto L137; }
+rattle_dealloc(b, l11);
 L137:;
 put8(b, l0, 1u);
 fill(b, l0 + 8ull, 0u, 168u);
 goto L1;
 L8:;
-put64(b, l7 + 1639, 0ull);
-put64(b, l7 + 1631, 0ull);
-put64(b, l7 + 1623, 0ull);
-put64(b, l7 + 1448, 0ull);
-put64(b, l7 + 1456, 0ull);
-put64(b, l7 + 1432, 0ull);
-put64(b, l7 + 1440, 0ull);
-put64(b, l7 + 1416, 0ull);
-put64(b, l7 + 1424, 0ull);
-put64(b, l7 + 1400, 0ull);
-put64(b, l7 + 1408, 0ull);
+put64(b, l6 + 1383, 0ull);
+put64(b, l6 + 1375, 0ull);
+put64(b, l6 + 1367, 0ull);
+put64(b, l6 + 1200, 0ull);
+put64(b, l6 + 1208, 0ull);
+put64(b, l6 + 1184, 0ull);
+put64(b, l6 + 1192, 0ull);
+put64(b, l6 + 1168, 0ull);
+put64(b, l6 + 1176, 0ull);
+put64(b, l6 + 1152, 0ull);
+put64(b, l6 + 1160, 0ull);
 L7:;
-l13 = 0ull;
-put64(b, l7 + 1736, 0ull);
-put64(b, l7 + 1744, 0ull);
-put64(b, l7 + 1752, 0ull);
-put64(b, l7 + 1759, 0ull);
-put64(b, l7 + 1872, 0ull);
-put64(b, l7 + 1880, 0ull);
-put64(b, l7 + 2008, 0ull);
-put64(b, l7 + 2016, 0ull);
-put64(b, l7 + 2056, 0ull);
-put64(b, l7 + 2064, 0ull);
-put64(b, l7 + 1984, 0ull);
-put64(b, l7 + 1992, 0ull);
-if (l47) { goto L138; }
-put64(b, l7 + 1759, get64(b, l7 + 1639));
-put64(b, l7 + 1751, get64(b, l7 + 1631));
-put64(b, l7 + 1743, get64(b, l7 + 1623));
-put64(b, l7 + 1872, get64(b, l7 + 1448));
-put64(b, l7 + 1880, get64(b, l7 + 1456));
-put64(b, l7 + 2008, get64(b, l7 + 1432));
-put64(b, l7 + 2016, get64(b, l7 + 1440));
-put64(b, l7 + 2056, get64(b, l7 + 1416));
-put64(b, l7 + 2064, get64(b, l7 + 1424));
-put64(b, l7 + 1992, get64(b, l7 + 1408));
-put64(b, l7 + 1984, get64(b, l7 + 1400));
-l13 = l14;
-L138:;
-put64(b, l7 + 1519, get64(b, l7 + 1759));
-put64(b, l7 + 1511, get64(b, l7 + 1751));
-put64(b, l7 + 1503, get64(b, l7 + 1743));
-put64(b, l7 + 2040, get64(b, l7 + 1872));
-put64(b, l7 + 2048, get64(b, l7 + 1880));
-put64(b, l7 + 1856, get64(b, l7 + 2008));
-put64(b, l7 + 1864, get64(b, l7 + 2016));
-put64(b, l7 + 1480, get64(b, l7 + 2056));
-put64(b, l7 + 1488, get64(b, l7 + 2064));
-put64(b, l7 + 1472, get64(b, l7 + 1992));
-put64(b, l7 + 1464, get64(b, l7 + 1984));
-l48 = 1u;
-if (l47) { goto L139; }
-put64(b, l7 + 2104, l13);
-put64(b, l7 + 2112, get64(b, l7 + 2040));
-put64(b, l7 + 2120, get64(b, l7 + 2048));
-put64(b, l7 + 2128, l13);
-put64(b, l7 + 2136, get64(b, l7 + 1856));
-put64(b, l7 + 2144, get64(b, l7 + 1864));
-put64(b, l7 + 2152, l13);
-l14 = (l7 + 1496ull) | 7ull;
-put64(b, l7 + 2096, get64(b, l14 + 16));
-put64(b, l7 + 2088, get64(b, l14 + 8));
-put64(b, l7 + 2080, get64(b, l14));
-put64(b, l7 + 2176, l13);
-put64(b, l7 + 2168, get64(b, l7 + 1488));
-put64(b, l7 + 2160, get64(b, l7 + 1480));
-put64(b, l7 + 2184, get64(b, l7 + 1464));
-put64(b, l7 + 2192, get64(b, l7 + 1472));
-if (!l8) { goto L142; }
-l17 = (l7 + 1872ull) + 6ull;
-l28 = (l7 + 2056ull) + 8ull;
-l4 = (l7 + 1736ull) + 8ull;
-l15 = (l7 + 1736ull) + 6ull;
-l21 = (l7 + 2008ull) + 8ull;
-l18 = 0ull;
-L143:;
-l48 = 0u;
-l5 = l12 + (l18 * 152ull);
-l13 = (u64)get32(b, l5);
-if (get64(b, l3 + 16ull) <= l13) { goto L140; }
-l20 = get64(b, l3 + 8ull) + (l13 << 5);
-l24 = get64(b, l20 + 16ull);
-l23 = get64(b, l5 + 16ull);
-if (!l23) { goto L145; }
-l16 = get64(b, l5 + 8ull);
-l14 = 0ull;
-l26 = 0ull;
-if (l23 == 1ull) { goto L147; }
-l19 = l23 & 1ull;
-l22 = l23 & 18446744073709551614ull;
-l14 = 0ull;
-l13 = l16;
-l26 = 0ull;
-L148:;
-if (!get8(b, l13)) { goto L149; }
-l25 = (u64)get32(b, l13 + 8ull) + 1ull;
-l14 = (l25 > l14) ? l25 : l14;
-L149:;
-if (!get8(b, l13 + 40ull)) { goto L150; }
-l25 = (u64)get32(b, l13 + 48ull) + 1ull;
-l14 = (l25 > l14) ? l25 : l14;
-L150:;
-l13 = l13 + 80ull;
-l26 = l26 + 2ull;
-if (l22 != l26) { goto L148; }
-if (!l19) { goto L146; }
-L147:;
-l13 = l16 + (l26 * 40ull);
-if (!get8(b, l13)) { goto L146; }
-l13 = (u64)get32(b, l13 + 8ull) + 1ull;
-l14 = (l13 > l14) ? l13 : l14;
-L146:;
-if (l23 < l14) { goto L140; }
-l25 = get64(b, l20 + 8ull);
-l13 = 0ull;
-put64(b, l4, 0ull);
-put64(b, l4 + 8, 0ull);
-put64(b, l7 + 1736, l7 + 2232ull);
-if (!(u32)(!l14)) { goto L152; }
-l19 = l7 + 2232ull;
-l47 = 1u;
-goto L151;
-L152:;
-l13 = 0ull;
-l22 = l7 + 2232ull;
-L153:;
-if (get64(b, l7 + 1752) != l13) { goto L154; }
-t11 = f358(b, l7 + 1736ull);
-if (!t11) { goto L141; }
-l22 = get64(b, l7 + 1736);
-l13 = get64(b, l7 + 1744);
-L154:;
-l26 = l22 + (l13 * 24ull);
-put64(b, l26 + 8, 0ull);
-put64(b, l26 + 16, 0ull);
-put64(b, l26, l7 + 2232ull);
-l13 = l13 + 1ull;
-put64(b, l7 + 1744, l13);
-l14 = l14 + 18446744073709551615ull;
-if (!(u32)(!l14)) { goto L153; }
-l47 = (u32)(!get64(b, l7 + 1752));
-l19 = get64(b, l7 + 1736);
-L151:;
-if (l23 != l24) { goto L157; }
-L158:;
-if (!get8(b, l16)) { goto L159; }
-l14 = (u64)get32(b, l16 + 8ull);
-if (l13 <= l14) { goto L157; }
-l22 = (u64)get8(b, l16 + 12ull);
-l24 = (u64)get32(b, l25);
-l14 = l19 + (l14 * 24ull);
-l26 = get64(b, l14 + 8ull);
-if (get64(b, l14 + 16ull) != l26) { goto L160; }
-t12 = f359(b, l14);
-if (t12) { goto L161; }
-l48 = 1u;
-goto L156;
-L161:;
-l26 = get64(b, l14 + 8ull);
-L160:;
-put64(b, get64(b, l14) + (l26 << 3), (l22 << 32) | l24);
-put64(b, l14 + 8ull, l26 + 1ull);
-L159:;
-l16 = l16 + 40ull;
-l25 = l25 + 104ull;
-l23 = l23 + 18446744073709551615ull;
-if (!(u32)(!l23)) { goto L158; }
-goto L144;
-L157:;
-l48 = 0u;
-if (!l13) { goto L155; }
-L156:;
-l14 = l19;
-L162:;
-if (!get64(b, l14 + 16ull)) { goto L163; }
-rattle_dealloc(b, get64(b, l14));
-L163:;
-l14 = l14 + 24ull;
-l13 = l13 + 18446744073709551615ull;
-if (l13 != 0ull) { goto L162; }
-L155:;
-if (l47) { goto L140; }
-rattle_dealloc(b, l19);
-goto L140;
-L145:;
-if (!(u32)(!l24)) { goto L140; }
-l47 = 1u;
-l13 = 0ull;
-l19 = l7 + 2232ull;
-L144:;
-l14 = get64(b, l7 + 2112);
-l16 = l14 + get64(b, l1 + 64ull);
-l23 = (l16 < l14) ? 18446744073709551615ull : l16;
-if (l23 > 4999998ull) { goto L166; }
-l25 = get64(b, l5 + 40ull);
-if (l25 != 0ull) { goto L172; }
-l22 = l23;
-goto L171;
-L172:;
-l44 = 0u;
-l16 = get64(b, l5 + 32ull);
-l14 = (u64)get32(b, l16);
-if (get64(b, l3 + 64ull) <= l14) { goto L173; }
-l44 = get32(b, get64(b, l3 + 56ull) + (l14 << 3));
-L173:;
-put64(b, l21, 0ull);
-put64(b, l21 + 8, 0ull);
-put64(b, l7 + 2008, l7 + 2232ull);
-if (l25 > 4294967295ull) { goto L167; }
-t13 = f86(b, l7 + 2008ull, 1ull);
-if (!t13) { goto L169; }
-l26 = get64(b, l7 + 2016);
-l14 = get64(b, l7 + 2008) + (l26 * 24ull);
-put64(b, l14, 1ull);
-put64(b, l14 + 16ull, 0ull);
-put64(b, l14 + 8ull, l25);
-put64(b, l7 + 2016, l26 + 1ull);
-L176:;
-l48 = 0u;
-l14 = (u64)get32(b, l16);
-if (get64(b, l3 + 64ull) <= l14) { goto L175; }
-l26 = get64(b, get64(b, l3 + 56ull) + (l14 << 3));
-if (!(l26 & 1ull)) { goto L175; }
-l14 = (l26 >> 1) & 2147483647ull;
-if (get64(b, l1 + 64ull) <= l14) { goto L175; }
-if (!get64(b, get64(b, l1 + 56ull) + (l14 * 120ull))) { goto L175; }
-if (get64(b, l1 + 88ull) <= l14) { goto L175; }
-l48 = (u32)(l26 >> 32);
-t14 = f188(b, l7 + 2008ull, get64(b, l1 + 80ull) + (l14 * 24ull), (((u64)(l48 - (u32)(l48 != 0u))) * 3ull) + 1ull, 3ull);
-if (t14 & 255u) { goto L177; }
-l16 = l16 + 4ull;
-l25 = l25 + 18446744073709551615ull;
-if (!l25) { goto L174; }
-goto L176;
-L177:;
-l48 = 1u;
-L175:;
-f360(b, l7 + 2008ull);
-goto L165;
-L174:;
-put64(b, l15 + 16, get64(b, l7 + 2024));
-put64(b, l15 + 8, get64(b, l7 + 2016));
-put64(b, l15, get64(b, l7 + 2008));
-l16 = get64(b, l7 + 2112);
-if (get64(b, l7 + 2120) != l16) { goto L178; }
-t15 = f361(b, l7 + 2104ull);
-if (!t15) { goto L170; }
-l16 = get64(b, l7 + 2112);
-L178:;
-l48 = 0u;
-l14 = get64(b, l7 + 2104) + (l16 << 5);
-put32(b, l14 + 4, 0u);
-put32(b, l14, l44);
-put64(b, l14 + 8, get64(b, l15));
-put64(b, l14 + 16, get64(b, l15 + 8));
-put64(b, l14 + 24, get64(b, l15 + 16));
-l14 = l16 + 1ull;
-put64(b, l7 + 2112, l14);
-l16 = l14 + get64(b, l1 + 64ull);
-l22 = (l16 < l14) ? 18446744073709551615ull : l16;
-if (l22 >= 4999999ull) { goto L165; }
-L171:;
-l44 = (l23 < 4999999ull) ? ((((u32)l23) << 1) | 1u) : 0u;
-l26 = get64(b, l5 + 64ull);
-if (!l26) { goto L182; }
-l49 = 0u;
-l14 = get64(b, l5 + 56ull);
-l16 = (u64)get32(b, l14);
-if (get64(b, l3 + 40ull) <= l16) { goto L183; }
-l49 = get32(b, get64(b, l3 + 32ull) + (l16 << 4));
-L183:;
-put64(b, l21, 0ull);
-put64(b, l21 + 8, 0ull);
-put64(b, l7 + 2008, l7 + 2232ull);
-if (l26 > 4294967295ull) { goto L179; }
-t16 = f86(b, l7 + 2008ull, 1ull);
-if (!t16) { goto L180; }
-l25 = get64(b, l7 + 2016);
-l16 = get64(b, l7 + 2008) + (l25 * 24ull);
-put64(b, l16, 1ull);
-put64(b, l16 + 16ull, 0ull);
-put64(b, l16 + 8ull, l26);
-put64(b, l7 + 2016, l25 + 1ull);
-L186:;
-l48 = 0u;
-l16 = (u64)get32(b, l14);
-if (get64(b, l3 + 40ull) <= l16) { goto L185; }
-l25 = get64(b, l3 + 32ull) + (l16 << 4);
-l45 = get32(b, l25);
-if (!(l45 & 1u)) { goto L185; }
-l16 = (u64)(l45 >> 1);
-if (get64(b, l1 + 64ull) <= l16) { goto L185; }
-if (!get64(b, get64(b, l1 + 56ull) + (l16 * 120ull))) { goto L185; }
-if (get64(b, l1 + 88ull) <= l16) { goto L185; }
-l50 = get32(b, l14 + 16ull);
-l51 = get8(b, l14 + 12ull);
-l46 = get32(b, l14 + 8ull);
-l43 = get8(b, l14 + 4ull);
-l48 = 1u;
-l45 = get32(b, l25 + 4);
-t17 = f188(b, l7 + 2008ull, get64(b, l1 + 80ull) + (l16 * 24ull), (((u64)(l45 - (u32)(l45 != 0u))) * 5ull) + 1ull, 1ull);
-if (t17 & 255u) { goto L185; }
-if (l43 & 255u) { goto L190; }
-l16 = 0ull;
-l23 = get64(b, l3 + 64ull);
-l25 = (u64)l46;
-if (l23 <= l25) { goto L191; }
-l16 = get64(b, get64(b, l3 + 56ull) + (l25 << 3));
-L191:;
-l46 = (u32)(l23 > l25);
-l45 = l46 ? ((u32)(l16 >> 32)) : 0u;
-l43 = l46 ? ((u32)l16) : 0u;
-goto L189;
-L190:;
-l43 = l44;
-l45 = l46 + 1u;
-if (!l45) { goto L188; }
-L189:;
-t18 = f362(b, l7 + 2008ull, l43, l45);
-if (t18 & 255u) { goto L185; }
-if (l51 & 255u) { goto L192; }
-l16 = 0ull;
-l23 = get64(b, l3 + 64ull);
-l25 = (u64)l50;
-if (l23 <= l25) { goto L193; }
-l16 = get64(b, get64(b, l3 + 56ull) + (l25 << 3));
-L193:;
-l46 = (u32)(l23 > l25);
-l45 = l46 ? ((u32)(l16 >> 32)) : 0u;
-l46 = l46 ? ((u32)l16) : 0u;
-goto L187;
-L192:;
-l46 = l44;
-l45 = l50 + 1u;
-if (l45) { goto L187; }
-L188:;
-l48 = 0u;
-goto L185;
-L187:;
-t19 = f362(b, l7 + 2008ull, l46, l45);
-if (t19 & 255u) { goto L185; }
-l14 = l14 + 36ull;
-l26 = l26 + 18446744073709551615ull;
-if (!l26) { goto L184; }
-goto L186;
-L185:;
-f360(b, l7 + 2008ull);
-goto L165;
-L184:;
-put64(b, l15 + 16, get64(b, l7 + 2024));
-put64(b, l15 + 8, get64(b, l7 + 2016));
-put64(b, l15, get64(b, l7 + 2008));
-l16 = get64(b, l7 + 2112);
-if (get64(b, l7 + 2120) != l16) { goto L194; }
-t20 = f361(b, l7 + 2104ull);
-if (!t20) { goto L181; }
-l16 = get64(b, l7 + 2112);
-L194:;
-l14 = get64(b, l7 + 2104) + (l16 << 5);
-put32(b, l14 + 4, 0u);
-put32(b, l14, l49);
-put64(b, l14 + 8, get64(b, l15));
-put64(b, l14 + 16, get64(b, l15 + 8));
-put64(b, l14 + 24, get64(b, l15 + 16));
-put64(b, l7 + 2112, l16 + 1ull);
-L182:;
-l33 = get64(b, l5 + 16ull);
-if (l33 != get64(b, l20 + 16ull)) { goto L166; }
-if (!l33) { goto L197; }
-l49 = (((u32)l22) << 1) | 1u;
-l34 = get64(b, l20 + 8ull);
-l35 = get64(b, l5 + 8ull);
-l27 = 0ull;
-L198:;
-l14 = l35 + (l27 * 40ull);
-if (!get8(b, l14)) { goto L199; }
-l32 = get64(b, l14 + 24ull);
-l16 = l34 + (l27 * 104ull);
-if (get8(b, l16 + 8ull) != 1u) { goto L201; }
-l36 = l16 + 16ull;
-l26 = 1ull;
-goto L200;
-L201:;
-l26 = get64(b, l16 + 88ull);
-l36 = get64(b, l16 + 80ull);
-L200:;
-if (l32 != l26) { goto L166; }
-if (!l32) { goto L199; }
-l37 = get64(b, l14 + 16ull);
-l38 = 0ull;
-L202:;
-put64(b, l7 + 1894, 0ull);
-put64(b, l7 + 1888, 0ull);
-put64(b, l7 + 1880, 0ull);
-put64(b, l7 + 1872, 0ull);
-l48 = 0u;
-l39 = l36 + (l38 << 6);
-l45 = get32(b, l39);
-if (!(l45 & 1u)) { goto L165; }
-l14 = (u64)(l45 >> 1);
-if (get64(b, l1 + 64ull) <= l14) { goto L165; }
-if (!get64(b, get64(b, l1 + 56ull) + (l14 * 120ull))) { goto L165; }
-if (get64(b, l1 + 88ull) <= l14) { goto L165; }
-l16 = get64(b, l1 + 80ull);
-put64(b, l7 + 2000, 0ull);
-put64(b, l7 + 1992, 0ull);
-put64(b, l7 + 1984, 0ull);
-l24 = l16 + (l14 * 24ull);
-l14 = get64(b, l24 + 8ull);
-if (l14 > 164000000ull) { goto L166; }
-put64(b, l28, 0ull);
-put64(b, l28 + 8, 0ull);
-put64(b, l7 + 2056, l7 + 2232ull);
-if (l14 != 0ull) { goto L212; }
-l16 = 0ull;
-l26 = 1ull;
-l40 = 0ull;
-l14 = 0ull;
-l31 = l7 + 2232ull;
-l25 = l31;
-goto L211;
-L212:;
-l16 = get64(b, l24);
-if (get8(b, l16) != 1u) { goto L214; }
-l26 = 1ull;
-l23 = get64(b, l16 + 8ull);
-if ((s64)l23 < (s64)1ull) { goto L214; }
-l29 = l7 + 2232ull;
-l16 = 0ull;
-L215:;
-l25 = get64(b, l24 + 8ull);
-if (l25 <= l26) { goto L220; }
-l14 = 0ull;
-l22 = l26 + 4ull;
-if (l25 <= l22) { goto L221; }
-l14 = 0ull;
-l22 = get64(b, l24) + (l22 * 24ull);
-if (get8(b, l22) != 1u) { goto L221; }
-l14 = get64(b, l22 + 8ull);
-l14 = ((s64)l14 > (s64)0ull) ? l14 : 0ull;
-if (l25 < l14) { goto L220; }
-L221:;
-put64(b, l21, 0ull);
-put64(b, l21 + 8, 0ull);
-put64(b, l7 + 2008, l7 + 2232ull);
-l25 = (l14 << 1) + 5ull;
-t21 = f188(b, l7 + 2008ull, l24, l26, l25);
-if (t21 & 255u) { goto L218; }
-put64(b, l15 + 16, get64(b, l7 + 2024));
-put64(b, l15 + 8, get64(b, l7 + 2016));
-put64(b, l15, get64(b, l7 + 2008));
-if (get64(b, l7 + 2072) == l16) { goto L219; }
-goto L216;
-L220:;
-l25 = get64(b, l7 + 2072);
-l26 = get64(b, l7 + 2056);
-if (!l16) { goto L222; }
-l14 = l26;
-L223:;
-put64(b, l7 + 2024, get64(b, l14 + 16));
-put64(b, l7 + 2016, get64(b, l14 + 8));
-put64(b, l7 + 2008, get64(b, l14));
-l14 = l14 + 24ull;
-f360(b, l7 + 2008ull);
-l16 = l16 + 18446744073709551615ull;
-if (l16 != 0ull) { goto L223; }
-L222:;
-l48 = 0u;
-if (!l25) { goto L165; }
-rattle_dealloc(b, l26);
-goto L165;
-L219:;
-t22 = f363(b, l7 + 2056ull);
-if (!t22) { goto L217; }
-l29 = get64(b, l7 + 2056);
-l16 = get64(b, l7 + 2064);
-goto L216;
-L218:;
-f360(b, l7 + 2008ull);
-l25 = get64(b, l7 + 2072);
-l26 = get64(b, l7 + 2056);
-if (!l16) { goto L224; }
-l14 = l26;
-L225:;
-put64(b, l7 + 2024, get64(b, l14 + 16));
-put64(b, l7 + 2016, get64(b, l14 + 8));
-put64(b, l7 + 2008, get64(b, l14));
-l14 = l14 + 24ull;
-f360(b, l7 + 2008ull);
-l16 = l16 + 18446744073709551615ull;
-if (l16 != 0ull) { goto L225; }
-L224:;
-l48 = 1u;
-if (!l25) { goto L165; }
-rattle_dealloc(b, l26);
-goto L165;
-L217:;
-put64(b, l7 + 2024, get64(b, l15 + 16));
-put64(b, l7 + 2016, get64(b, l15 + 8));
-put64(b, l7 + 2008, get64(b, l15));
-f360(b, l7 + 2008ull);
-l25 = get64(b, l7 + 2072);
-l26 = get64(b, l7 + 2056);
-l16 = get64(b, l7 + 2064);
-if (!l16) { goto L226; }
-l14 = l26;
-L227:;
-put64(b, l7 + 2024, get64(b, l14 + 16));
-put64(b, l7 + 2016, get64(b, l14 + 8));
-put64(b, l7 + 2008, get64(b, l14));
-l14 = l14 + 24ull;
-f360(b, l7 + 2008ull);
-l16 = l16 + 18446744073709551615ull;
-if (l16 != 0ull) { goto L227; }
-L226:;
-l48 = 1u;
-if (!l25) { goto L165; }
-rattle_dealloc(b, l26);
-goto L165;
-L216:;
-l22 = get64(b, l15);
-l31 = get64(b, l15 + 8);
-l14 = l29 + (l16 * 24ull);
-put64(b, l14 + 16, get64(b, l15 + 16));
-put64(b, l14 + 8, l31);
-put64(b, l14, l22);
-l16 = l16 + 1ull;
-put64(b, l7 + 2064, l16);
-l26 = l25 + l26;
-l23 = l23 + 18446744073709551615ull;
-if (!(u32)(!l23)) { goto L215; }
-l40 = get64(b, l7 + 2072);
-l31 = get64(b, l7 + 2056);
-l14 = get64(b, l24 + 8ull);
-if (!(u32)(!l14)) { goto L228; }
-l25 = l7 + 2232ull;
-l14 = 0ull;
-goto L211;
-L228:;
-if (l14 > 384307168202282325ull) { goto L210; }
-goto L213;
-L214:;
-l26 = 1ull;
-l31 = l7 + 2232ull;
-l40 = 0ull;
-l16 = 0ull;
-L213:;
-rattle_alloc(b, l7 + 16ull, l14 * 24ull, 8ull);
-if (!(((u32)get64(b, l7 + 16)) & 1u)) { goto L210; }
-l25 = get64(b, l7 + 24);
-L211:;
-put64(b, l7 + 2000, l14);
-put64(b, l7 + 1992, 0ull);
-put64(b, l7 + 1984, l25);
-t23 = f188(b, l7 + 1984ull, l24, 0ull, 1ull);
-if (t23 & 255u) { goto L204; }
-l29 = l37 + (l38 << 5);
-if (get64(b, l29 + 16ull) == l16) { goto L209; }
-l48 = 0u;
-goto L208;
-L210:;
-if (!l16) { goto L229; }
-l14 = l31;
-L230:;
-put64(b, l7 + 1752, get64(b, l14 + 16));
-put64(b, l7 + 1744, get64(b, l14 + 8));
-put64(b, l7 + 1736, get64(b, l14));
-l14 = l14 + 24ull;
-f360(b, l7 + 1736ull);
-l16 = l16 + 18446744073709551615ull;
-if (l16 != 0ull) { goto L230; }
-L229:;
-l48 = 1u;
-if (!l40) { goto L165; }
-rattle_dealloc(b, l31);
-goto L165;
-L209:;
-if (!l16) { goto L206; }
-l14 = get64(b, l29 + 8ull);
-l23 = l16 + 18446744073709551615ull;
-l22 = 0ull;
-L232:;
-l51 = get8(b, l14 + 12ull);
-l46 = get32(b, l14 + 8ull);
-l45 = get8(b, l14 + 4ull);
-l43 = get8(b, l14);
-l48 = 1u;
-l50 = get8(b, l29);
-l25 = l31 + ((l50 ? l23 : l22) * 24ull);
-t24 = f188(b, l7 + 1984ull, l25, 0ull, 1ull);
-if (t24 & 255u) { goto L208; }
-if (l43 & 255u) { goto L235; }
-if (l45 & 255u) { goto L236; }
-l45 = 0u;
-l43 = 0u;
-l30 = (u64)l46;
-if (get64(b, l3 + 40ull) <= l30) { goto L234; }
-l30 = get64(b, l3 + 32ull) + (l30 << 4);
-l43 = get32(b, l30 + 4);
-l45 = get32(b, l30);
-goto L234;
-L236:;
-l45 = l49;
-l43 = l46 + 1u;
-if (l43) { goto L234; }
-l48 = 0u;
-goto L208;
-L235:;
-if (l45 & 255u) { goto L238; }
-l30 = 0ull;
-l41 = get64(b, l3 + 64ull);
-l42 = (u64)l46;
-if (l41 <= l42) { goto L239; }
-l30 = get64(b, get64(b, l3 + 56ull) + (l42 << 3));
-L239:;
-l46 = (u32)(l41 > l42);
-l45 = l46 ? ((u32)(l30 >> 32)) : 0u;
-l43 = l46 ? ((u32)l30) : 0u;
-goto L237;
-L238:;
-l43 = l44;
-l45 = l46 + 1u;
-if (l45) { goto L237; }
-l48 = 0u;
-goto L208;
-L237:;
-t25 = f362(b, l7 + 1984ull, l43, l45);
-if (t25 & 255u) { goto L208; }
-t26 = f188(b, l7 + 1984ull, l25, 3ull, 1ull);
-if (t26 & 255u) { goto L208; }
-goto L233;
-L234:;
-t27 = f362(b, l7 + 1984ull, l45, l43);
-if (t27 & 255u) { goto L208; }
-l41 = ((u64)l51) & 1ull;
-l30 = get64(b, l7 + 1992);
-if (get64(b, l7 + 2000) != l30) { goto L240; }
-t28 = f86(b, l7 + 1984ull, 1ull);
-if (!t28) { goto L231; }
-l30 = get64(b, l7 + 1992);
-L240:;
-l42 = get64(b, l7 + 1984) + (l30 * 24ull);
-put64(b, l42, 1ull);
-put64(b, l42 + 16ull, 0ull);
-put64(b, l42 + 8ull, l41);
-put64(b, l7 + 1992, l30 + 1ull);
-L233:;
-l30 = get64(b, l25 + 8ull);
-if (l30 > 4ull) { goto L242; }
-if (!l50) { goto L242; }
-l25 = get64(b, l7 + 1992);
-if (get64(b, l7 + 2000) != l25) { goto L244; }
-t29 = f86(b, l7 + 1984ull, 1ull);
-if (!t29) { goto L243; }
-l25 = get64(b, l7 + 1992);
-L244:;
-l30 = get64(b, l7 + 1984) + (l25 * 24ull);
-put64(b, l30, 1ull);
-put64(b, l30 + 8ull, 0ull);
-put64(b, l30 + 16ull, 0ull);
-put64(b, l7 + 1992, l25 + 1ull);
-goto L241;
-L243:;
-put64(b, l7 + 1752, 0ull);
-put64(b, l7 + 1744, 0ull);
-put64(b, l7 + 1736, 1ull);
-f36(b, l7 + 1736ull);
-goto L208;
-L242:;
-t30 = f188(b, l7 + 1984ull, l25, 4ull, l30);
-if (t30 & 255u) { goto L208; }
-L241:;
-l14 = l14 + 40ull;
-l22 = l22 + 1ull;
-l23 = l23 + 18446744073709551615ull;
-if (l23 != 18446744073709551615ull) { goto L232; }
-t31 = f188(b, l7 + 1984ull, l24, l26, get64(b, l24 + 8ull));
-if (t31 & 255u) { goto L207; }
-l14 = l31;
-L245:;
-put64(b, l7 + 1752, get64(b, l14 + 16));
-put64(b, l7 + 1744, get64(b, l14 + 8));
-put64(b, l7 + 1736, get64(b, l14));
-l14 = l14 + 24ull;
-f360(b, l7 + 1736ull);
-l16 = l16 + 18446744073709551615ull;
-if (l16 != 0ull) { goto L245; }
-goto L203;
-L231:;
-put64(b, l7 + 1752, 0ull);
-put64(b, l7 + 1744, l41);
-put64(b, l7 + 1736, 1ull);
-f36(b, l7 + 1736ull);
-L208:;
-f360(b, l7 + 1984ull);
-if (!l16) { goto L246; }
-l14 = l31;
-L247:;
-put64(b, l7 + 1752, get64(b, l14 + 16));
-put64(b, l7 + 1744, get64(b, l14 + 8));
-put64(b, l7 + 1736, get64(b, l14));
-l14 = l14 + 24ull;
-f360(b, l7 + 1736ull);
-l16 = l16 + 18446744073709551615ull;
-if (l16 != 0ull) { goto L247; }
-L246:;
-if (!l40) { goto L165; }
-rattle_dealloc(b, l31);
-goto L165;
-L207:;
-f360(b, l7 + 1984ull);
-l14 = l31;
-L248:;
-put64(b, l7 + 1752, get64(b, l14 + 16));
-put64(b, l7 + 1744, get64(b, l14 + 8));
-put64(b, l7 + 1736, get64(b, l14));
-l14 = l14 + 24ull;
-f360(b, l7 + 1736ull);
-l16 = l16 + 18446744073709551615ull;
-if (l16 != 0ull) { goto L248; }
-goto L205;
-L206:;
-t32 = f188(b, l7 + 1984ull, l24, l26, get64(b, l24 + 8ull));
-if (!(t32 & 255u)) { goto L203; }
-f360(b, l7 + 1984ull);
-L205:;
-l48 = 1u;
-if (!l40) { goto L165; }
-rattle_dealloc(b, l31);
-goto L165;
-L204:;
-f360(b, l7 + 1984ull);
-if (!l16) { goto L249; }
-l14 = l31;
-L250:;
-put64(b, l7 + 1752, get64(b, l14 + 16));
-put64(b, l7 + 1744, get64(b, l14 + 8));
-put64(b, l7 + 1736, get64(b, l14));
-l14 = l14 + 24ull;
-f360(b, l7 + 1736ull);
-l16 = l16 + 18446744073709551615ull;
-if (l16 != 0ull) { goto L250; }
-L249:;
-l48 = 1u;
-if (!l40) { goto L165; }
-rattle_dealloc(b, l31);
-goto L165;
-L203:;
-if (!l40) { goto L251; }
-rattle_dealloc(b, l31);
-L251:;
-put64(b, l17 + 16, get64(b, l7 + 2000));
-put64(b, l17 + 8, get64(b, l7 + 1992));
-put64(b, l17, get64(b, l7 + 1984));
-l14 = (u64)(get32(b, l39) >> 1);
-if (get64(b, l7 + 2088) <= l14) { goto L196; }
-l14 = get64(b, l7 + 2080) + (l14 << 5);
-l48 = get8(b, l14);
-put64(b, l14, 1ull);
-l16 = l14 + 8ull;
-l26 = get64(b, l16);
-put64(b, l16, get64(b, l17));
-l16 = l14 + 16ull;
-l25 = get64(b, l16);
-put64(b, l16, get64(b, l17 + 8));
-l14 = l14 + 24ull;
-l16 = get64(b, l14);
-put64(b, l14, get64(b, l17 + 16));
-put64(b, l7 + 1736, l26);
-put64(b, l7 + 1744, l25);
-put64(b, l7 + 1752, l16);
-if (!l48) { goto L252; }
-f186(b, l7 + 1736ull);
-L252:;
-l38 = l38 + 1ull;
-if (l38 != l32) { goto L202; }
-L199:;
-l27 = l27 + 1ull;
-if (l27 != l33) { goto L198; }
-L197:;
-l45 = (u32)(!l13);
-if (l45) { goto L164; }
-l48 = 0u;
-l44 = get32(b, l20);
-if (!(l44 & 1u)) { goto L168; }
-l14 = (u64)(l44 >> 1);
-if (get64(b, l1 + 64ull) <= l14) { goto L168; }
-if (!get64(b, get64(b, l1 + 56ull) + (l14 * 120ull))) { goto L168; }
-if (get64(b, l1 + 88ull) <= l14) { goto L168; }
-l44 = get32(b, l5);
-l25 = get64(b, l19 + 8ull);
-l23 = get64(b, l19);
-l26 = get64(b, l1 + 80ull);
-l16 = 0ull;
-put64(b, l7 + 1760, 0ull);
-put64(b, l7 + 1752, 0ull);
-put64(b, l7 + 1744, 0ull);
-put64(b, l7 + 1736, 0ull);
-l14 = l26 + (l14 * 24ull);
-if (!get64(b, l14 + 8ull)) { goto L254; }
-l26 = get64(b, l14);
-if (get8(b, l26) != 1u) { goto L254; }
-l16 = get64(b, l26 + 8ull);
-if ((s64)l16 > (s64)4294967295ull) { goto L253; }
-l16 = ((s64)l16 > (s64)0ull) ? l16 : 0ull;
-L254:;
-f364(b, l7 + 1736ull, l23, l25);
-if (get8(b, l7 + 1736)) { goto L195; }
-put64(b, l7 + 2024, get64(b, l4 + 16));
-put64(b, l7 + 2016, get64(b, l4 + 8));
-put64(b, l7 + 2008, get64(b, l4));
-t33 = f188(b, l7 + 2008ull, l14, (l16 << 1) | 1ull, get64(b, l14 + 8ull));
-if (!(t33 & 255u)) { goto L255; }
-f360(b, l7 + 2008ull);
-l48 = 1u;
-goto L168;
-L255:;
-put64(b, l17 + 16, get64(b, l7 + 2024));
-put64(b, l17 + 8, get64(b, l7 + 2016));
-put64(b, l17, get64(b, l7 + 2008));
-l14 = (u64)(get32(b, l20) >> 1);
-if (get64(b, l7 + 2088) <= l14) { goto L256; }
-l14 = get64(b, l7 + 2080) + (l14 << 5);
-l48 = get8(b, l14);
-put64(b, l14, 1ull);
-l16 = l14 + 8ull;
-l26 = get64(b, l16);
-put64(b, l16, get64(b, l17));
-l16 = l14 + 16ull;
-l25 = get64(b, l16);
-put64(b, l16, get64(b, l17 + 8));
-l14 = l14 + 24ull;
-l16 = get64(b, l14);
-put64(b, l14, get64(b, l17 + 16));
-put64(b, l7 + 1736, l26);
-put64(b, l7 + 1744, l25);
-put64(b, l7 + 1752, l16);
-if (!l48) { goto L257; }
-f186(b, l7 + 1736ull);
-L257:;
-l26 = l13 + 18446744073709551615ull;
-if (!l26) { goto L164; }
-if (!l44) { goto L259; }
-l16 = l19 + 32ull;
-goto L258;
-L259:;
-l16 = l19 + 32ull;
-l14 = get64(b, l7 + 2112);
-L260:;
-l23 = get64(b, l16 + 18446744073709551608ull);
-l25 = get64(b, l1 + 64ull);
-l22 = get64(b, l16);
-put64(b, l7 + 1736, 0ull);
-put64(b, l7 + 1744, 0ull);
-put64(b, l7 + 1752, 0ull);
-put64(b, l7 + 1760, 0ull);
-put64(b, l7 + 1872, 0ull);
-put64(b, l7 + 1880, 0ull);
-put64(b, l7 + 1888, 0ull);
-put64(b, l7 + 1894, 0ull);
-l25 = l14 + l25;
-l24 = (l25 < l14) ? 18446744073709551615ull : l25;
-if (l24 >= 4999999ull) { goto L253; }
-l48 = get8(b, l20 + 4ull);
-f364(b, l7 + 1736ull, l23, l22);
-if (!get8(b, l7 + 1736)) { goto L261; }
-l48 = get8(b, l7 + 1737);
-goto L168;
-L261:;
-l44 = get32(b, l20);
-l25 = get64(b, l7 + 2112);
-if (get64(b, l7 + 2120) != l25) { goto L262; }
-t34 = f361(b, l7 + 2104ull);
-if (t34) { goto L263; }
-f186(b, l4);
-l48 = 1u;
-goto L168;
-L263:;
-l25 = get64(b, l7 + 2112);
-L262:;
-l14 = get64(b, l7 + 2104) + (l25 << 5);
-put32(b, l14 + 4, 0u);
-put32(b, l14, l44);
-put64(b, l14 + 8, get64(b, l4));
-put64(b, l14 + 16, get64(b, l4 + 8));
-put64(b, l14 + 24, get64(b, l4 + 16));
-put64(b, l7 + 2112, l25 + 1ull);
-put64(b, l28, 0ull);
-put64(b, l28 + 8, 0ull);
-put64(b, l7 + 2056, l7 + 2232ull);
-t35 = f365(b, l7 + 2056ull, (((u32)l24) << 1) | 1u, l48);
-if (t35 & 255u) { goto L264; }
-l14 = get64(b, l7 + 2064);
-if (get64(b, l7 + 2072) != l14) { goto L265; }
-t36 = f86(b, l7 + 2056ull, 1ull);
-if (t36) { goto L266; }
-put64(b, l7 + 2024, 0ull);
-put64(b, l7 + 2016, 0ull);
-put64(b, l7 + 2008, 1ull);
-f36(b, l7 + 2008ull);
-f360(b, l7 + 2056ull);
-l48 = 1u;
-goto L168;
-L266:;
-l14 = get64(b, l7 + 2064);
-L265:;
-l23 = get64(b, l7 + 2056);
-l25 = l23 + (l14 * 24ull);
-put64(b, l25, 1ull);
-put64(b, l25 + 8ull, 0ull);
-put64(b, l25 + 16ull, 0ull);
-put64(b, l17, l23);
-put64(b, l17 + 16, get64(b, l7 + 2072));
-put64(b, l17 + 8, l14 + 1ull);
-l48 = get32(b, l3);
-l25 = get64(b, l7 + 2112);
-if (get64(b, l7 + 2120) != l25) { goto L267; }
-t37 = f361(b, (l7 + 2080ull) + 24ull);
-if (t37) { goto L268; }
-put64(b, l7 + 2024, get64(b, l17 + 16));
-put64(b, l7 + 2016, get64(b, l17 + 8));
-put64(b, l7 + 2008, get64(b, l17));
-f186(b, l7 + 2008ull);
-l48 = 1u;
-goto L168;
-L268:;
-l25 = get64(b, l7 + 2112);
-L267:;
-l14 = get64(b, l7 + 2104) + (l25 << 5);
-put32(b, l14 + 4, 0u);
-put32(b, l14, l48);
-put64(b, l14 + 8, get64(b, l17));
-put64(b, l14 + 16, get64(b, l17 + 8));
-put64(b, l14 + 24, get64(b, l17 + 16));
-l14 = l25 + 1ull;
-put64(b, l7 + 2112, l14);
-l16 = l16 + 24ull;
-l26 = l26 + 18446744073709551615ull;
-if (!l26) { goto L164; }
-goto L260;
-L264:;
-f360(b, l7 + 2056ull);
-l48 = 1u;
-goto L168;
-L258:;
-L270:;
-l23 = get64(b, l16 + 18446744073709551608ull);
-l14 = get64(b, l1 + 64ull);
-l22 = get64(b, l16);
-put64(b, l7 + 1760, 0ull);
-put64(b, l7 + 1752, 0ull);
-put64(b, l7 + 1744, 0ull);
-put64(b, l7 + 1736, 0ull);
-l25 = get64(b, l7 + 2112);
-l14 = l14 + l25;
-l24 = (l14 < l25) ? 18446744073709551615ull : l14;
-if (l24 > 4999998ull) { goto L253; }
-l27 = (u64)get8(b, l20 + 4ull);
-f364(b, l7 + 1736ull, l23, l22);
-if (get8(b, l7 + 1736)) { goto L195; }
-l48 = get32(b, l20);
-l25 = get64(b, l7 + 2112);
-if (get64(b, l7 + 2120) != l25) { goto L272; }
-t38 = f361(b, l7 + 2104ull);
-if (!t38) { goto L271; }
-l25 = get64(b, l7 + 2112);
-L272:;
-l14 = get64(b, l7 + 2104) + (l25 << 5);
-put32(b, l14 + 4, 0u);
-put32(b, l14, l48);
-put64(b, l14 + 8, get64(b, l4));
-put64(b, l14 + 16, get64(b, l4 + 8));
-put64(b, l14 + 24, get64(b, l4 + 16));
-put64(b, l7 + 2112, l25 + 1ull);
-l14 = get64(b, l7 + 2136);
-if (get64(b, l7 + 2144) != l14) { goto L273; }
-t39 = f359(b, l7 + 2128ull);
-if (!t39) { goto L269; }
-l14 = get64(b, l7 + 2136);
-L273:;
-put64(b, get64(b, l7 + 2128) + (l14 << 3), (l27 << 32) | ((l24 << 1) | 1ull));
-put64(b, l7 + 2136, l14 + 1ull);
-l16 = l16 + 24ull;
-l26 = l26 + 18446744073709551615ull;
-if (!l26) { goto L164; }
-goto L270;
-L271:;
-f186(b, l4);
-L269:;
-l48 = 1u;
-goto L168;
-L256:;
-put64(b, l7 + 2024, get64(b, l17 + 16));
-put64(b, l7 + 2016, get64(b, l17 + 8));
-put64(b, l7 + 2008, get64(b, l17));
-f186(b, l7 + 2008ull);
-L253:;
-l48 = 0u;
-goto L168;
-L196:;
-put64(b, l7 + 2024, get64(b, l17 + 16));
-put64(b, l7 + 2016, get64(b, l17 + 8));
-put64(b, l7 + 2008, get64(b, l17));
-f186(b, l7 + 2008ull);
-goto L166;
-L195:;
-l48 = get8(b, l7 + 1737);
-goto L168;
-L181:;
-put64(b, l7 + 1888, get64(b, l15 + 16));
-put64(b, l7 + 1880, get64(b, l15 + 8));
-put64(b, l7 + 1872, get64(b, l15));
-f186(b, l7 + 1872ull);
-l48 = 1u;
-goto L165;
-L180:;
-put64(b, l7 + 1888, 0ull);
-put64(b, l7 + 1880, l26);
-put64(b, l7 + 1872, 1ull);
-f36(b, l7 + 1872ull);
-f360(b, l7 + 2008ull);
-l48 = 1u;
-goto L165;
-L179:;
-f360(b, l7 + 2008ull);
-goto L166;
-L170:;
-put64(b, l7 + 1888, get64(b, l15 + 16));
-put64(b, l7 + 1880, get64(b, l15 + 8));
-put64(b, l7 + 1872, get64(b, l15));
-f186(b, l7 + 1872ull);
-l48 = 1u;
-goto L165;
-L169:;
-put64(b, l7 + 1888, 0ull);
-put64(b, l7 + 1880, l25);
-put64(b, l7 + 1872, 1ull);
-f36(b, l7 + 1872ull);
-f360(b, l7 + 2008ull);
-l48 = 1u;
-goto L165;
-L168:;
-l14 = l19;
-L274:;
-if (!get64(b, l14 + 16ull)) { goto L275; }
-rattle_dealloc(b, get64(b, l14));
-L275:;
-l14 = l14 + 24ull;
-l13 = l13 + 18446744073709551615ull;
-if (l13 != 0ull) { goto L274; }
-if (l47) { goto L140; }
-rattle_dealloc(b, l19);
-goto L140;
-L167:;
-f360(b, l7 + 2008ull);
-L166:;
-l48 = 0u;
-L165:;
-if (!l13) { goto L276; }
-l14 = l19;
-L277:;
-if (!get64(b, l14 + 16ull)) { goto L278; }
-rattle_dealloc(b, get64(b, l14));
-L278:;
-l14 = l14 + 24ull;
-l13 = l13 + 18446744073709551615ull;
-if (l13 != 0ull) { goto L277; }
-L276:;
-if (l47) { goto L140; }
-rattle_dealloc(b, l19);
-goto L140;
-L164:;
-l48 = 0u;
-l44 = 0u;
-l22 = get64(b, l5 + 16ull);
-if (l22 != get64(b, l20 + 16ull)) { goto L279; }
-l44 = 1u;
-l48 = 0u;
-if (!l22) { goto L279; }
-l24 = get64(b, l5 + 8ull);
-l14 = l24;
-l26 = l22;
-l5 = get64(b, l20 + 8ull);
-l16 = l5;
-L281:;
-if (get8(b, l14)) { goto L282; }
-l23 = (u64)get32(b, l16);
-l25 = get64(b, l7 + 2160);
-if (get64(b, l7 + 2168) != l25) { goto L283; }
-t40 = f34(b, l7 + 2152ull);
-if (!t40) { goto L280; }
-l25 = get64(b, l7 + 2160);
-L283:;
-put64(b, get64(b, l7 + 2152) + (l25 << 3), l23);
-put64(b, l7 + 2160, l25 + 1ull);
-L282:;
-l14 = l14 + 40ull;
-l16 = l16 + 104ull;
-l23 = 0ull;
-l26 = l26 + 18446744073709551615ull;
-if (l26 != 0ull) { goto L281; }
-L284:;
-if (get8(b, l24 + (l23 * 40ull))) { goto L285; }
-l14 = l5 + (l23 * 104ull);
-if (get8(b, l14 + 8ull) != 1u) { goto L287; }
-l16 = l14 + 16ull;
-l26 = 1ull;
-goto L286;
-L287:;
-l26 = get64(b, l14 + 88ull);
-if (!l26) { goto L285; }
-l16 = get64(b, l14 + 80ull);
-L286:;
-l14 = get64(b, l7 + 2184);
-L288:;
-l25 = (u64)get32(b, l16);
-if (get64(b, l7 + 2192) != l14) { goto L289; }
-t41 = f34(b, l7 + 2176ull);
-if (!t41) { goto L280; }
-l14 = get64(b, l7 + 2184);
-L289:;
-put64(b, get64(b, l7 + 2176) + (l14 << 3), l25);
-l14 = l14 + 1ull;
-put64(b, l7 + 2184, l14);
-l16 = l16 + 64ull;
-l26 = l26 + 18446744073709551615ull;
-if (l26 != 0ull) { goto L288; }
-L285:;
-l23 = l23 + 1ull;
-if (l23 != l22) { goto L284; }
-goto L279;
-L280:;
-l44 = 0u;
-l48 = 1u;
-L279:;
-if (l45) { goto L290; }
-l14 = l19;
-L291:;
-if (!get64(b, l14 + 16ull)) { goto L292; }
-rattle_dealloc(b, get64(b, l14));
-L292:;
-l14 = l14 + 24ull;
-l13 = l13 + 18446744073709551615ull;
-if (l13 != 0ull) { goto L291; }
-L290:;
-if (l47) { goto L293; }
-rattle_dealloc(b, l19);
-L293:;
-if (!l44) { goto L140; }
-l18 = l18 + 1ull;
-if (l18 != l8) { goto L143; }
-L142:;
-l13 = get64(b, l7 + 2136);
-if (l13 == 0ull) { goto L306; }
-l48 = 0u;
-l47 = get32(b, l3);
-if (!(l47 & 1u)) { goto L294; }
-l14 = (u64)(l47 >> 1);
-if (get64(b, l1 + 64ull) <= l14) { goto L294; }
-if (!get64(b, get64(b, l1 + 56ull) + (l14 * 120ull))) { goto L294; }
-if (get64(b, l1 + 88ull) <= l14) { goto L294; }
-l26 = get64(b, l7 + 2128);
-l16 = 0ull;
-l14 = get64(b, l1 + 80ull) + (l14 * 24ull);
-if (get64(b, l14 + 8ull) < 3ull) { goto L307; }
-l25 = get64(b, l14);
-if (get8(b, l25 + 48ull) != 1u) { goto L307; }
-l48 = 0u;
-l16 = get64(b, l25 + 56ull);
-if ((s64)l16 > (s64)4294967295ull) { goto L294; }
-l16 = ((s64)l16 > (s64)0ull) ? l16 : 0ull;
-L307:;
-l48 = 0u;
-if (l13 > 4294967295ull) { goto L294; }
-l25 = l16 + l13;
-if (l25 > 4294967295ull) { goto L294; }
-put64(b, l7 + 2016, 0ull);
-put64(b, l7 + 2024, 0ull);
-put64(b, l7 + 2008, l7 + 2232ull);
-t42 = f188(b, l7 + 2008ull, l14, 0ull, 2ull);
-if (t42 & 255u) { goto L305; }
-l22 = (l25 < 4294967296ull) ? l25 : 4294967296ull;
-l25 = get64(b, l7 + 2016);
-if (get64(b, l7 + 2024) != l25) { goto L308; }
-t43 = f86(b, l7 + 2008ull, 1ull);
-if (!t43) { goto L299; }
-l25 = get64(b, l7 + 2016);
-L308:;
-l23 = get64(b, l7 + 2008) + (l25 * 24ull);
-put64(b, l23, 1ull);
-put64(b, l23 + 16ull, 0ull);
-put64(b, l23 + 8ull, l22);
-put64(b, l7 + 2016, l25 + 1ull);
-l16 = l16 << 1;
-t44 = f188(b, l7 + 2008ull, l14, 3ull, l16);
-if (t44 & 255u) { goto L298; }
-t45 = f366(b, l7 + 2008ull, l26, l13);
-if (t45 & 255u) { goto L297; }
-t46 = f188(b, l7 + 2008ull, l14, l16 + 3ull, get64(b, l14 + 8ull));
-if (!(t46 & 255u)) { goto L309; }
-f360(b, l7 + 2008ull);
-l48 = 1u;
-goto L294;
-L309:;
-put64(b, l7 + 1758, get64(b, l7 + 2024));
-put64(b, l7 + 1750, get64(b, l7 + 2016));
-put64(b, l7 + 1742, get64(b, l7 + 2008));
-l13 = l7 + 1742ull;
-l14 = (u64)(get32(b, l3) >> 1);
-if (get64(b, l7 + 2088) <= l14) { goto L304; }
-l14 = get64(b, l7 + 2080) + (l14 << 5);
-l48 = get8(b, l14);
-put64(b, l14, 1ull);
-l16 = l14 + 8ull;
-l26 = get64(b, l16);
-put64(b, l16, get64(b, l13));
-l16 = l14 + 16ull;
-l25 = get64(b, l16);
-put64(b, l16, get64(b, l13 + 8));
-l14 = l14 + 24ull;
-l16 = get64(b, l14);
-put64(b, l14, get64(b, l13 + 16));
-put64(b, l7 + 1872, l26);
-put64(b, l7 + 1880, l25);
-put64(b, l7 + 1888, l16);
-if (!l48) { goto L306; }
-f186(b, l7 + 1872ull);
-L306:;
-l22 = get64(b, l7 + 2192);
-l17 = get64(b, l7 + 2184);
-l21 = get64(b, l7 + 2176);
-l24 = get64(b, l7 + 2168);
-l18 = get64(b, l7 + 2160);
-l3 = get64(b, l7 + 2152);
-l19 = get64(b, l7 + 2144);
-l15 = get64(b, l7 + 2128);
-l5 = get64(b, l7 + 2120);
-l16 = get64(b, l7 + 2112);
-l23 = get64(b, l7 + 2104);
-l4 = get64(b, l7 + 2096);
-l14 = get64(b, l7 + 2088);
-l25 = get64(b, l7 + 2080);
-l47 = 0u;
-fill(b, l7 + 1736ull, 0u, 120u);
-fill(b, l7 + 1496ull, 0u, 120u);
-fill(b, l7 + 2080ull, 0u, 120u);
-put64(b, l7 + 1864, 0ull);
-put64(b, l7 + 1856, 0ull);
-f184(b, l7 + 2080ull, l1);
-l48 = 1u;
-if (get8(b, l7 + 2080)) { goto L301; }
-copy(b, l7 + 1872ull, l7 + 2088ull, 112u);
-f185(b, l7 + 1856ull, l7 + 1872ull, l1, l25, l14);
-if (get8(b, l7 + 1856)) { goto L302; }
-if (!l16) { goto L300; }
-l28 = get64(b, l7 + 1864);
-l13 = l7 + 2015ull;
-l26 = l23;
-l27 = l16;
-goto L303;
-L305:;
-f360(b, l7 + 2008ull);
-l48 = 1u;
-goto L294;
-L304:;
-put64(b, l7 + 2024, get64(b, l13 + 16));
-put64(b, l7 + 2016, get64(b, l13 + 8));
-put64(b, l7 + 2008, get64(b, l13));
-f186(b, l7 + 2008ull);
-l48 = 0u;
-goto L294;
-L303:;
-L311:;
-put64(b, l7 + 2040, 0ull);
-put64(b, l7 + 2048, 0ull);
-l48 = 0u;
-l44 = get32(b, l26);
-if (!(l44 & 1u)) { goto L310; }
-l20 = (u64)(l44 >> 1);
-if (get64(b, l1 + 64ull) <= l20) { goto L310; }
-l31 = get64(b, l1 + 56ull) + (l20 * 120ull);
-if (!get64(b, l31)) { goto L310; }
-l20 = get64(b, l26 + 16ull);
-if (!(u32)(!l20)) { goto L315; }
-l29 = l7 + 2232ull;
-l30 = 0ull;
-goto L314;
-L315:;
-if (l20 > 384307168202282325ull) { goto L313; }
-rattle_alloc(b, l7, l20 * 24ull, 8ull);
-if (!(((u32)get64(b, l7)) & 1u)) { goto L313; }
-l29 = get64(b, l7 + 8);
-l30 = get64(b, l26 + 16ull);
-L314:;
-put64(b, l7 + 2072, l20);
-put64(b, l7 + 2064, 0ull);
-put64(b, l7 + 2056, l29);
-t47 = f188(b, l7 + 2056ull, l26 + 8ull, 0ull, l30);
-if (!(t47 & 255u)) { goto L312; }
-f77(b, l7 + 2056ull);
-L313:;
-l48 = 1u;
-goto L310;
-L312:;
-put64(b, l13 + 16, get64(b, l7 + 2072));
-put64(b, l13 + 8, get64(b, l7 + 2064));
-put64(b, l13, get64(b, l7 + 2056));
-copy(b, l7 + 1616ull, l31, 104u);
-put64(b, l7 + 2000, get64(b, l13 + 16));
-put64(b, l7 + 1992, get64(b, l13 + 8));
-put64(b, l7 + 1984, get64(b, l13));
-f192(b, l7 + 2040ull, l7 + 1872ull, l28, l7 + 1616ull, l7 + 1984ull);
-if (get8(b, l7 + 2040)) { goto L316; }
-l28 = get64(b, l7 + 2048);
-l26 = l26 + 32ull;
-l27 = l27 + 18446744073709551615ull;
-if (!l27) { goto L300; }
-goto L311;
-L316:;
-l48 = get8(b, l7 + 2041);
-L310:;
-if (!get64(b, l7 + 1888)) { goto L317; }
-rattle_dealloc(b, get64(b, l7 + 1872));
-L317:;
-f186(b, l7 + 1904ull);
-l18 = get64(b, l7 + 1968);
-l26 = get64(b, l7 + 1960);
-l20 = get64(b, l7 + 1952);
-if (!get64(b, l7 + 1944)) { goto L318; }
-rattle_dealloc(b, get64(b, l7 + 1928));
-L318:;
-if (!l26) { goto L319; }
-l13 = l20;
-L320:;
-put64(b, l7 + 1632, get64(b, l13 + 16));
-put64(b, l7 + 1624, get64(b, l13 + 8));
-put64(b, l7 + 1616, get64(b, l13));
-l13 = l13 + 24ull;
-f186(b, l7 + 1616ull);
-l26 = l26 + 18446744073709551615ull;
-if (l26 != 0ull) { goto L320; }
-L319:;
-if (!l18) { goto L301; }
-rattle_dealloc(b, l20);
-goto L301;
-L302:;
-l48 = get8(b, l7 + 1857);
-if (!get64(b, l7 + 1888)) { goto L321; }
-rattle_dealloc(b, get64(b, l7 + 1872));
-L321:;
-f186(b, l7 + 1904ull);
-l18 = get64(b, l7 + 1968);
-l26 = get64(b, l7 + 1960);
-l20 = get64(b, l7 + 1952);
-if (!get64(b, l7 + 1944)) { goto L322; }
-rattle_dealloc(b, get64(b, l7 + 1928));
-L322:;
-if (!l26) { goto L323; }
-l13 = l20;
-L324:;
-put64(b, l7 + 1632, get64(b, l13 + 16));
-put64(b, l7 + 1624, get64(b, l13 + 8));
-put64(b, l7 + 1616, get64(b, l13));
-l13 = l13 + 24ull;
-f186(b, l7 + 1616ull);
-l26 = l26 + 18446744073709551615ull;
-if (l26 != 0ull) { goto L324; }
-L323:;
-if (!l18) { goto L301; }
-rattle_dealloc(b, l20);
-L301:;
-fill(b, l7 + 1286ull, 0u, 112u);
-goto L295;
-L300:;
-l13 = (l7 + 1616ull) + 6ull;
-copy(b, l13, l7 + 1872ull, 112u);
-copy(b, l7 + 2080ull, l13, 112u);
-f367(b, l7 + 1496ull, l7 + 2080ull, l3, l18);
-if (!get8(b, l7 + 1496)) { goto L296; }
-l48 = get8(b, l7 + 1497);
-l47 = 0u;
-fill(b, (l7 + 1280ull) + 6ull, 0u, 112u);
-goto L295;
-L299:;
-put64(b, l7 + 1888, 0ull);
-put64(b, l7 + 1880, l22);
-put64(b, l7 + 1872, 1ull);
-f36(b, l7 + 1872ull);
-f360(b, l7 + 2008ull);
-l48 = 1u;
-goto L294;
-L298:;
-f360(b, l7 + 2008ull);
-l48 = 1u;
-goto L294;
-L297:;
-f360(b, l7 + 2008ull);
-l48 = 1u;
-goto L294;
-L296:;
-f367(b, l7 + 1736ull, (l7 + 1496ull) + 8ull, l21, l17);
-l48 = get8(b, l7 + 1737);
-l47 = get8(b, l7 + 1736);
-copy(b, (l7 + 1280ull) + 6ull, (l7 + 1736ull) + 8ull, 112u);
-l47 = (u32)(!l47);
-L295:;
-if (!l14) { goto L325; }
-l13 = l25;
-L326:;
-if (!get8(b, l13)) { goto L327; }
-put64(b, l7 + 2096, get64(b, l13 + 24ull));
-put64(b, l7 + 2088, get64(b, l13 + 16ull));
-put64(b, l7 + 2080, get64(b, l13 + 8ull));
-f186(b, l7 + 2080ull);
-L327:;
-l13 = l13 + 32ull;
-l14 = l14 + 18446744073709551615ull;
-if (l14 != 0ull) { goto L326; }
-L325:;
-if (!l4) { goto L328; }
-rattle_dealloc(b, l25);
-L328:;
-if (!l16) { goto L329; }
-l13 = l23 + 8ull;
-L330:;
-put64(b, l7 + 2096, get64(b, l13 + 16));
-put64(b, l7 + 2088, get64(b, l13 + 8));
-put64(b, l7 + 2080, get64(b, l13));
-l13 = l13 + 32ull;
-f186(b, l7 + 2080ull);
-l16 = l16 + 18446744073709551615ull;
-if (l16 != 0ull) { goto L330; }
-L329:;
-if (!l5) { goto L331; }
-rattle_dealloc(b, l23);
-L331:;
-if (!l19) { goto L332; }
-rattle_dealloc(b, l15);
-L332:;
-if (!l24) { goto L333; }
-rattle_dealloc(b, l3);
-L333:;
-if (!l22) { goto L334; }
-rattle_dealloc(b, l21);
-L334:;
-l13 = (l7 + 1160ull) + 6ull;
-copy(b, l13, (l7 + 1280ull) + 6ull, 112u);
-if (!l47) { goto L139; }
-copy(b, l7 + 1048ull, l13, 112u);
-copy(b, l7 + 712ull, l7 + 1048ull, 112u);
-f368(b, l7 + 472ull, l7 + 712ull, l2, get64(b, l1 + 64ull));
-if (get8(b, l7 + 472)) { goto L337; }
-l48 = get8(b, l7 + 480);
-l13 = ((u64)l48) & 255ull;
-if ((l48 & 255u) != 1u) { goto L336; }
-copy(b, l7 + 360ull, l7 + 488ull, 112u);
-goto L335;
-L337:;
-if (!l9) { goto L338; }
-rattle_dealloc(b, l6);
-L338:;
-put64(b, l7 + 216, l11);
-put64(b, l7 + 208, l8);
-put64(b, l7 + 200, l12);
-f369(b, l7 + 200ull);
-put8(b, l0, 1u);
-fill(b, l0 + 8ull, 0u, 168u);
-goto L1;
-L336:;
-copy(b, l7 + 360ull, l7 + 248ull, 112u);
-if (!l9) { goto L339; }
-rattle_dealloc(b, l6);
-L339:;
-put64(b, l7 + 192, l11);
-put64(b, l7 + 184, l8);
-put64(b, l7 + 176, l12);
-f369(b, l7 + 176ull);
 l12 = 0ull;
-l8 = 0ull;
-l11 = 0ull;
-l6 = 0ull;
-l10 = 0ull;
-l9 = 0ull;
-L335:;
-put8(b, l0, 0u);
-put64(b, l0 + 8ull, l13);
-copy(b, l0 + 16ull, l7 + 360ull, 112u);
-put64(b, l0 + 168ull, l9);
-put64(b, l0 + 160ull, l10);
-put64(b, l0 + 152ull, l6);
-put64(b, l0 + 144ull, l11);
-put64(b, l0 + 136ull, l8);
-put64(b, l0 + 128ull, l12);
-goto L1;
+put64(b, l6 + 1720, 0ull);
+put64(b, l6 + 1728, 0ull);
+put64(b, l6 + 1736, 0ull);
+put64(b, l6 + 1743, 0ull);
+put64(b, l6 + 1480, 0ull);
+put64(b, l6 + 1488, 0ull);
+put64(b, l6 + 1976, 0ull);
+put64(b, l6 + 1984, 0ull);
+put64(b, l6 + 1248, 0ull);
+put64(b, l6 + 1256, 0ull);
+put64(b, l6 + 2168, 0ull);
+put64(b, l6 + 2176, 0ull);
+if (l44) { goto L138; }
+put64(b, l6 + 1743, get64(b, l6 + 1383));
+put64(b, l6 + 1735, get64(b, l6 + 1375));
+put64(b, l6 + 1727, get64(b, l6 + 1367));
+put64(b, l6 + 1480, get64(b, l6 + 1200));
+put64(b, l6 + 1488, get64(b, l6 + 1208));
+put64(b, l6 + 1976, get64(b, l6 + 1184));
+put64(b, l6 + 1984, get64(b, l6 + 1192));
+put64(b, l6 + 1248, get64(b, l6 + 1168));
+put64(b, l6 + 1256, get64(b, l6 + 1176));
+put64(b, l6 + 2176, get64(b, l6 + 1160));
+put64(b, l6 + 2168, get64(b, l6 + 1152));
+l12 = l13;
+L138:;
+put64(b, l6 + 1623, get64(b, l6 + 1743));
+put64(b, l6 + 1615, get64(b, l6 + 1735));
+put64(b, l6 + 1607, get64(b, l6 + 1727));
+put64(b, l6 + 2272, get64(b, l6 + 1480));
+put64(b, l6 + 2280, get64(b, l6 + 1488));
+put64(b, l6 + 1840, get64(b, l6 + 1976));
+put64(b, l6 + 1848, get64(b, l6 + 1984));
+put64(b, l6 + 1232, get64(b, l6 + 1248));
+put64(b, l6 + 1240, get64(b, l6 + 1256));
+put64(b, l6 + 1224, get64(b, l6 + 2176));
+put64(b, l6 + 1216, get64(b, l6 + 2168));
+l45 = 1u;
+if (l44) { goto L143; }
+put64(b, l6 + 1880, l12);
+put64(b, l6 + 1888, get64(b, l6 + 2272));
+put64(b, l6 + 1896, get64(b, l6 + 2280));
+put64(b, l6 + 1904, l12);
+put64(b, l6 + 1912, get64(b, l6 + 1840));
+put64(b, l6 + 1920, get64(b, l6 + 1848));
+put64(b, l6 + 1928, l12);
+l13 = (l6 + 1600ull) | 7ull;
+put64(b, l6 + 1872, get64(b, l13 + 16));
+put64(b, l6 + 1864, get64(b, l13 + 8));
+put64(b, l6 + 1856, get64(b, l13));
+put64(b, l6 + 1952, l12);
+put64(b, l6 + 1944, get64(b, l6 + 1240));
+put64(b, l6 + 1936, get64(b, l6 + 1232));
+put64(b, l6 + 1960, get64(b, l6 + 1216));
+put64(b, l6 + 1968, get64(b, l6 + 1224));
+if (!l7) { goto L148; }
+l17 = (l6 + 1480ull) + 6ull;
+l27 = (l6 + 1248ull) + 8ull;
+l20 = (l6 + 1720ull) + 8ull;
+l16 = (l6 + 1976ull) + 6ull;
+l3 = (l6 + 1720ull) + 6ull;
+l18 = 0ull;
+L149:;
+l45 = 0u;
+l19 = l11 + (l18 * 152ull);
+l12 = (u64)get32(b, l19);
+if (get64(b, l2 + 16ull) <= l12) { goto L144; }
+l14 = get64(b, l2 + 8ull) + (l12 << 5);
+l23 = get64(b, l14 + 16ull);
+l22 = get64(b, l19 + 16ull);
+if (!l22) { goto L151; }
+l15 = get64(b, l19 + 8ull);
+l13 = 0ull;
+l25 = 0ull;
+if (l22 == 1ull) { goto L153; }
+l4 = l22 & 1ull;
+l21 = l22 & 18446744073709551614ull;
+l13 = 0ull;
+l12 = l15;
+l25 = 0ull;
+L154:;
+if (!get8(b, l12)) { goto L155; }
+l24 = (u64)get32(b, l12 + 8ull) + 1ull;
+l13 = (l24 > l13) ? l24 : l13;
+L155:;
+if (!get8(b, l12 + 40ull)) { goto L156; }
+l24 = (u64)get32(b, l12 + 48ull) + 1ull;
+l13 = (l24 > l13) ? l24 : l13;
+L156:;
+l12 = l12 + 80ull;
+l25 = l25 + 2ull;
+if (l21 != l25) { goto L154; }
+if (!l4) { goto L152; }
+L153:;
+l12 = l15 + (l25 * 40ull);
+if (!get8(b, l12)) { goto L152; }
+l12 = (u64)get32(b, l12 + 8ull) + 1ull;
+l13 = (l12 > l13) ? l12 : l13;
+L152:;
+if (l22 < l13) { goto L144; }
+l24 = get64(b, l14 + 8ull);
+l12 = 0ull;
+put64(b, l20, 0ull);
+put64(b, l20 + 8, 0ull);
+put64(b, l6 + 1720, l6 + 2440ull);
+if (!(u32)(!l13)) { goto L158; }
+l4 = l6 + 2440ull;
+l44 = 1u;
+goto L157;
+L158:;
+l12 = 0ull;
+l21 = l6 + 2440ull;
+L159:;
+if (get64(b, l6 + 1736) != l12) { goto L160; }
+t11 = f359(b, l6 + 1720ull);
+if (!t11) { goto L145; }
+l21 = get64(b, l6 + 1720);
+l12 = get64(b, l6 + 1728);
+L160:;
+l25 = l21 + (l12 * 24ull);
+put64(b, l25 + 8, 0ull);
+put64(b, l25 + 16, 0ull);
+put64(b, l25, l6 + 2440ull);
+l12 = l12 + 1ull;
+put64(b, l6 + 1728, l12);
+l13 = l13 + 18446744073709551615ull;
+if (!(u32)(!l13)) { goto L159; }
+l44 = (u32)(!get64(b, l6 + 1736));
+l4 = get64(b, l6 + 1720);
+L157:;
+if (l22 != l23) { goto L163; }
+L164:;
+if (!get8(b, l15)) { goto L165; }
+l13 = (u64)get32(b, l15 + 8ull);
+if (l12 <= l13) { goto L163; }
+l21 = (u64)get8(b, l15 + 12ull);
+l23 = (u64)get32(b, l24);
+l13 = l4 + (l13 * 24ull);
+l25 = get64(b, l13 + 8ull);
+if (get64(b, l13 + 16ull) != l25) { goto L166; }
+t12 = f360(b, l13);
+if (t12) { goto L167; }
+l45 = 1u;
+goto L162;
+L167:;
+l25 = get64(b, l13 + 8ull);
+L166:;
+put64(b, get64(b, l13) + (l25 << 3), (l21 << 32) | l23);
+put64(b, l13 + 8ull, l25 + 1ull);
+L165:;
+l15 = l15 + 40ull;
+l24 = l24 + 104ull;
+l22 = l22 + 18446744073709551615ull;
+if (!(u32)(!l22)) { goto L164; }
+goto L150;
+L163:;
+l45 = 0u;
+if (!l12) { goto L161; }
+L162:;
+l13 = l4;
+L168:;
+if (!get64(b, l13 + 16ull)) { goto L169; }
+rattle_dealloc(b, get64(b, l13));
+L169:;
+l13 = l13 + 24ull;
+l12 = l12 + 18446744073709551615ull;
+if (l12 != 0ull) { goto L168; }
+L161:;
+if (l44) { goto L144; }
+rattle_dealloc(b, l4);
+goto L144;
+L151:;
+if (!(u32)(!l23)) { goto L144; }
+l44 = 1u;
+l12 = 0ull;
+l4 = l6 + 2440ull;
+L150:;
+l13 = get64(b, l6 + 1888);
+l15 = l13 + get64(b, l1 + 64ull);
+l22 = (l15 < l13) ? 18446744073709551615ull : l15;
+if (l22 <= 4999998ull) { goto L170; }
+l45 = 0u;
+goto L146;
+L170:;
+l24 = get64(b, l19 + 40ull);
+if (l24 != 0ull) { goto L175; }
+l21 = l22;
+goto L174;
+L175:;
+l45 = 0u;
+l41 = 0u;
+l15 = get64(b, l19 + 32ull);
+l13 = (u64)get32(b, l15);
+if (get64(b, l2 + 64ull) <= l13) { goto L176; }
+l41 = get32(b, get64(b, l2 + 56ull) + (l13 << 3));
+L176:;
+if (l24 > 4294967295ull) { goto L146; }
+l25 = (l24 * 3ull) + 1ull;
+rattle_alloc(b, l6 + 56ull, l25 * 24ull, 8ull);
+l45 = 1u;
+if (!(((u32)get64(b, l6 + 56)) & 1u)) { goto L146; }
+l13 = get64(b, l6 + 64);
+put64(b, l13, 1ull);
+put64(b, l13 + 16ull, 0ull);
+put64(b, l13 + 8ull, l24);
+put64(b, l6 + 1496, l25);
+put64(b, l6 + 1488, 1ull);
+put64(b, l6 + 1480, l13);
+L179:;
+l45 = 0u;
+l13 = (u64)get32(b, l15);
+if (get64(b, l2 + 64ull) <= l13) { goto L178; }
+l25 = get64(b, get64(b, l2 + 56ull) + (l13 << 3));
+if (!(l25 & 1ull)) { goto L178; }
+l13 = (l25 >> 1) & 2147483647ull;
+if (get64(b, l1 + 64ull) <= l13) { goto L178; }
+if (!get64(b, get64(b, l1 + 56ull) + (l13 * 120ull))) { goto L178; }
+if (get64(b, l1 + 88ull) <= l13) { goto L178; }
+l45 = (u32)(l25 >> 32);
+t13 = f187(b, l6 + 1480ull, get64(b, l1 + 80ull) + (l13 * 24ull), (((u64)(l45 - (u32)(l45 != 0u))) * 3ull) + 1ull, 3ull);
+if (t13 & 255u) { goto L180; }
+l15 = l15 + 4ull;
+l24 = l24 + 18446744073709551615ull;
+if (!l24) { goto L177; }
+goto L179;
+L180:;
+l45 = 1u;
+L178:;
+f361(b, l6 + 1480ull);
+goto L146;
+L177:;
+put64(b, l3 + 16, get64(b, l6 + 1496));
+put64(b, l3 + 8, get64(b, l6 + 1488));
+put64(b, l3, get64(b, l6 + 1480));
+l15 = get64(b, l6 + 1888);
+if (get64(b, l6 + 1896) != l15) { goto L181; }
+t14 = f362(b, l6 + 1880ull);
+if (!t14) { goto L173; }
+l15 = get64(b, l6 + 1888);
+L181:;
+l45 = 0u;
+l13 = get64(b, l6 + 1880) + (l15 << 5);
+put32(b, l13 + 4, 0u);
+put32(b, l13, l41);
+put64(b, l13 + 8, get64(b, l3));
+put64(b, l13 + 16, get64(b, l3 + 8));
+put64(b, l13 + 24, get64(b, l3 + 16));
+l13 = l15 + 1ull;
+put64(b, l6 + 1888, l13);
+l15 = l13 + get64(b, l1 + 64ull);
+l21 = (l15 < l13) ? 18446744073709551615ull : l15;
+if (l21 >= 4999999ull) { goto L146; }
+L174:;
+l46 = (l22 < 4999999ull) ? ((((u32)l22) << 1) | 1u) : 0u;
+l25 = get64(b, l19 + 64ull);
+if (!l25) { goto L184; }
+l45 = 0u;
+l47 = 0u;
+l13 = get64(b, l19 + 56ull);
+l15 = (u64)get32(b, l13);
+if (get64(b, l2 + 40ull) <= l15) { goto L185; }
+l47 = get32(b, get64(b, l2 + 32ull) + (l15 << 4));
+L185:;
+if (l25 > 4294967295ull) { goto L146; }
+l24 = (l25 * 5ull) + 1ull;
+rattle_alloc(b, l6 + 40ull, l24 * 24ull, 8ull);
+l45 = 1u;
+if (!(((u32)get64(b, l6 + 40)) & 1u)) { goto L146; }
+l15 = get64(b, l6 + 48);
+put64(b, l15, 1ull);
+put64(b, l15 + 16ull, 0ull);
+put64(b, l15 + 8ull, l25);
+put64(b, l6 + 1496, l24);
+put64(b, l6 + 1488, 1ull);
+put64(b, l6 + 1480, l15);
+L188:;
+l45 = 0u;
+l15 = (u64)get32(b, l13);
+if (get64(b, l2 + 40ull) <= l15) { goto L187; }
+l24 = get64(b, l2 + 32ull) + (l15 << 4);
+l41 = get32(b, l24);
+if (!(l41 & 1u)) { goto L187; }
+l15 = (u64)(l41 >> 1);
+if (get64(b, l1 + 64ull) <= l15) { goto L187; }
+if (!get64(b, get64(b, l1 + 56ull) + (l15 * 120ull))) { goto L187; }
+if (get64(b, l1 + 88ull) <= l15) { goto L187; }
+l40 = get32(b, l13 + 16ull);
+l48 = get8(b, l13 + 12ull);
+l42 = get32(b, l13 + 8ull);
+l43 = get8(b, l13 + 4ull);
+l45 = 1u;
+l41 = get32(b, l24 + 4);
+t15 = f187(b, l6 + 1480ull, get64(b, l1 + 80ull) + (l15 * 24ull), (((u64)(l41 - (u32)(l41 != 0u))) * 5ull) + 1ull, 1ull);
+if (t15 & 255u) { goto L187; }
+if (l43 & 255u) { goto L192; }
+l15 = 0ull;
+l22 = get64(b, l2 + 64ull);
+l24 = (u64)l42;
+if (l22 <= l24) { goto L193; }
+l15 = get64(b, get64(b, l2 + 56ull) + (l24 << 3));
+L193:;
+l42 = (u32)(l22 > l24);
+l41 = l42 ? ((u32)(l15 >> 32)) : 0u;
+l43 = l42 ? ((u32)l15) : 0u;
+goto L191;
+L192:;
+l43 = l46;
+l41 = l42 + 1u;
+if (!l41) { goto L190; }
+L191:;
+t16 = f363(b, l6 + 1480ull, l43, l41);
+if (t16 & 255u) { goto L187; }
+if (l48 & 255u) { goto L194; }
+l15 = 0ull;
+l22 = get64(b, l2 + 64ull);
+l24 = (u64)l40;
+if (l22 <= l24) { goto L195; }
+l15 = get64(b, get64(b, l2 + 56ull) + (l24 << 3));
+L195:;
+l42 = (u32)(l22 > l24);
+l41 = l42 ? ((u32)(l15 >> 32)) : 0u;
+l42 = l42 ? ((u32)l15) : 0u;
+goto L189;
+L194:;
+l42 = l46;
+l41 = l40 + 1u;
+if (l41) { goto L189; }
+L190:;
+l45 = 0u;
+goto L187;
+L189:;
+t17 = f363(b, l6 + 1480ull, l42, l41);
+if (t17 & 255u) { goto L187; }
+l13 = l13 + 36ull;
+l25 = l25 + 18446744073709551615ull;
+if (!l25) { goto L186; }
+goto L188;
+L187:;
+f361(b, l6 + 1480ull);
+goto L146;
+L186:;
+put64(b, l3 + 16, get64(b, l6 + 1496));
+put64(b, l3 + 8, get64(b, l6 + 1488));
+put64(b, l3, get64(b, l6 + 1480));
+l15 = get64(b, l6 + 1888);
+if (get64(b, l6 + 1896) != l15) { goto L196; }
+t18 = f362(b, l6 + 1880ull);
+if (!t18) { goto L183; }
+l15 = get64(b, l6 + 1888);
+L196:;
+l13 = get64(b, l6 + 1880) + (l15 << 5);
+put32(b, l13 + 4, 0u);
+put32(b, l13, l47);
+put64(b, l13 + 8, get64(b, l3));
+put64(b, l13 + 16, get64(b, l3 + 8));
+put64(b, l13 + 24, get64(b, l3 + 16));
+put64(b, l6 + 1888, l15 + 1ull);
+L184:;
+l31 = get64(b, l19 + 16ull);
+if (l31 == get64(b, l14 + 16ull)) { goto L197; }
+l45 = 0u;
+goto L146;
+L197:;
+if (!l31) { goto L206; }
+l49 = (((u32)l21) << 1) | 1u;
+l32 = get64(b, l14 + 8ull);
+l33 = get64(b, l19 + 8ull);
+l22 = 0ull;
+L207:;
+l13 = l33 + (l22 * 40ull);
+if (!get8(b, l13)) { goto L208; }
+l29 = get64(b, l13 + 24ull);
+l15 = l32 + (l22 * 104ull);
+if (get8(b, l15 + 8ull) != 1u) { goto L210; }
+l34 = l15 + 16ull;
+l25 = 1ull;
+goto L209;
+L210:;
+l25 = get64(b, l15 + 88ull);
+l34 = get64(b, l15 + 80ull);
+L209:;
+if (l29 == l25) { goto L211; }
+l45 = 0u;
+goto L146;
+L211:;
+if (!l29) { goto L208; }
+l35 = get64(b, l13 + 16ull);
+l36 = 0ull;
+L212:;
+put64(b, l6 + 1998, 0ull);
+put64(b, l6 + 1992, 0ull);
+put64(b, l6 + 1984, 0ull);
+put64(b, l6 + 1976, 0ull);
+l45 = 0u;
+l37 = l34 + (l36 << 6);
+l41 = get32(b, l37);
+if (!(l41 & 1u)) { goto L146; }
+l13 = (u64)(l41 >> 1);
+if (get64(b, l1 + 64ull) <= l13) { goto L146; }
+if (!get64(b, get64(b, l1 + 56ull) + (l13 * 120ull))) { goto L146; }
+if (get64(b, l1 + 88ull) <= l13) { goto L146; }
+l15 = get64(b, l1 + 80ull);
+put64(b, l6 + 1480, 0ull);
+put64(b, l6 + 1488, 0ull);
+put64(b, l6 + 1496, 0ull);
+put64(b, l6 + 1502, 0ull);
+put64(b, l6 + 2120, 0ull);
+put64(b, l6 + 2128, 0ull);
+put64(b, l6 + 2136, 0ull);
+l25 = l15 + (l13 * 24ull);
+l24 = get64(b, l25 + 8ull);
+if (l24 <= 164000000ull) { goto L213; }
+l45 = 0u;
+goto L146;
+L213:;
+put64(b, l20, 0ull);
+put64(b, l20 + 8, 0ull);
+put64(b, l6 + 1720, l6 + 2440ull);
+if (l24 != 0ull) { goto L217; }
+l47 = 1u;
+l15 = 0ull;
+l13 = 1ull;
+l24 = 0ull;
+l38 = l6 + 2440ull;
+l21 = l38;
+goto L216;
+L217:;
+l47 = 1u;
+l15 = get64(b, l25);
+if (get8(b, l15) != 1u) { goto L220; }
+l13 = 1ull;
+l23 = get64(b, l15 + 8ull);
+if ((s64)l23 < (s64)1ull) { goto L220; }
+l30 = l6 + 2440ull;
+l15 = 0ull;
+L223:;
+l24 = get64(b, l25 + 8ull);
+if (l24 <= l13) { goto L222; }
+l21 = 0ull;
+l26 = l13 + 4ull;
+if (l24 <= l26) { goto L224; }
+l26 = get64(b, l25) + (l26 * 24ull);
+if (get8(b, l26) != 1u) { goto L224; }
+l21 = get64(b, l26 + 8ull);
+l21 = ((s64)l21 > (s64)0ull) ? l21 : 0ull;
+if (l24 < l21) { goto L222; }
+L224:;
+if (get64(b, l6 + 1736) != l15) { goto L225; }
+t19 = f34(b, l6 + 1720ull);
+if (!t19) { goto L221; }
+l30 = get64(b, l6 + 1720);
+l15 = get64(b, l6 + 1728);
+L225:;
+put64(b, l30 + (l15 << 3), l13);
+l15 = l15 + 1ull;
+put64(b, l6 + 1728, l15);
+l13 = (l13 + (l21 << 1)) + 5ull;
+l23 = l23 + 18446744073709551615ull;
+if (!(u32)(!l23)) { goto L223; }
+l38 = get64(b, l6 + 1720);
+l47 = (u32)(!get64(b, l6 + 1736));
+l24 = get64(b, l25 + 8ull);
+if (!(u32)(!l24)) { goto L219; }
+l21 = l6 + 2440ull;
+l24 = 0ull;
+goto L216;
+L222:;
+l45 = 0u;
+if (!get64(b, l6 + 1736)) { goto L146; }
+rattle_dealloc(b, get64(b, l6 + 1720));
+goto L146;
+L221:;
+l45 = 1u;
+if (!get64(b, l6 + 1736)) { goto L146; }
+rattle_dealloc(b, get64(b, l6 + 1720));
+goto L146;
+L220:;
+l13 = 1ull;
+l15 = 0ull;
+l38 = l6 + 2440ull;
+goto L218;
+L219:;
+if (l24 > 384307168202282325ull) { goto L215; }
+L218:;
+rattle_alloc(b, l6 + 24ull, l24 * 24ull, 8ull);
+if (!(((u32)get64(b, l6 + 24)) & 1u)) { goto L215; }
+l21 = get64(b, l6 + 32);
+L216:;
+put64(b, l6 + 2136, l24);
+put64(b, l6 + 2128, 0ull);
+put64(b, l6 + 2120, l21);
+t20 = f187(b, l6 + 2120ull, l25, 0ull, 1ull);
+if (t20 & 255u) { goto L147; }
+put64(b, l6 + 2088, 0ull);
+put64(b, l6 + 2096, 0ull);
+put64(b, l6 + 2104, 0ull);
+put64(b, l6 + 2144, 0ull);
+put64(b, l6 + 2152, 0ull);
+put64(b, l6 + 2160, 0ull);
+l30 = l35 + (l36 << 5);
+if (get64(b, l30 + 16ull) == l15) { goto L214; }
+l45 = 0u;
+goto L203;
+L215:;
+put64(b, l6 + 1502, 0ull);
+put64(b, l6 + 1494, 0ull);
+put64(b, l6 + 1486, 0ull);
+l45 = 1u;
+if (l47) { goto L146; }
+rattle_dealloc(b, l38);
+goto L146;
+L214:;
+if (!l15) { goto L226; }
+l24 = get64(b, l30 + 8ull);
+l23 = l15 + 18446744073709551615ull;
+l26 = 0ull;
+L227:;
+l45 = 0u;
+l28 = get64(b, l25 + 8ull);
+l21 = get64(b, l38 + ((get8(b, l30) ? l23 : l26) << 3));
+if (l28 <= l21) { goto L203; }
+l15 = 5ull;
+l39 = l21 + 4ull;
+if (l28 <= l39) { goto L228; }
+l39 = get64(b, l25) + (l39 * 24ull);
+if (get8(b, l39) != 1u) { goto L228; }
+l15 = get64(b, l39 + 8ull);
+l15 = ((s64)l15 > (s64)0ull) ? l15 : 0ull;
+if (l28 < l15) { goto L203; }
+l15 = (l15 << 1) + 5ull;
+if (l15 <= 384307168202282325ull) { goto L228; }
+l45 = 1u;
+goto L203;
+L228:;
+rattle_alloc(b, l6 + 8ull, l15 * 24ull, 8ull);
+l45 = 1u;
+if (!(((u32)get64(b, l6 + 8)) & 1u)) { goto L203; }
+l28 = get64(b, l6 + 16);
+put64(b, l6 + 1264, l15);
+put64(b, l6 + 1256, 0ull);
+put64(b, l6 + 1248, l28);
+t21 = f187(b, l6 + 1248ull, l25, l21, l15);
+if (!(t21 & 255u)) { goto L229; }
+f361(b, l6 + 1248ull);
+goto L203;
+L229:;
+put64(b, l3 + 16, get64(b, l6 + 1264));
+put64(b, l3 + 8, get64(b, l6 + 1256));
+put64(b, l3, get64(b, l6 + 1248));
+put64(b, l6 + 2168, get64(b, l3));
+put64(b, l6 + 2176, get64(b, l3 + 8));
+put64(b, l6 + 2184, get64(b, l3 + 16));
+l41 = get8(b, l24 + 4ull);
+l42 = get32(b, l24 + 8ull);
+l48 = get8(b, l24 + 12ull);
+l40 = get8(b, l30);
+l43 = get8(b, l24);
+l45 = 1u;
+t22 = f187(b, l6 + 2120ull, l6 + 2168ull, 0ull, 1ull);
+if (t22 & 255u) { goto L204; }
+if (l43 & 255u) { goto L232; }
+if (l41 & 255u) { goto L233; }
+l41 = 0u;
+l43 = 0u;
+l15 = (u64)l42;
+if (get64(b, l2 + 40ull) <= l15) { goto L231; }
+l15 = get64(b, l2 + 32ull) + (l15 << 4);
+l43 = get32(b, l15 + 4);
+l41 = get32(b, l15);
+goto L231;
+L233:;
+l41 = l49;
+l43 = l42 + 1u;
+if (l43) { goto L231; }
+l45 = 0u;
+goto L204;
+L232:;
+if (l41 & 255u) { goto L235; }
+l15 = 0ull;
+l28 = get64(b, l2 + 64ull);
+l21 = (u64)l42;
+if (l28 <= l21) { goto L236; }
+l15 = get64(b, get64(b, l2 + 56ull) + (l21 << 3));
+L236:;
+l42 = (u32)(l28 > l21);
+l41 = l42 ? ((u32)(l15 >> 32)) : 0u;
+l43 = l42 ? ((u32)l15) : 0u;
+goto L234;
+L235:;
+l43 = l46;
+l41 = l42 + 1u;
+if (l41) { goto L234; }
+l45 = 0u;
+goto L204;
+L234:;
+t23 = f363(b, l6 + 2120ull, l43, l41);
+if (t23 & 255u) { goto L204; }
+t24 = f187(b, l6 + 2120ull, l6 + 2168ull, 3ull, 1ull);
+if (t24 & 255u) { goto L204; }
+goto L230;
+L231:;
+t25 = f363(b, l6 + 2120ull, l41, l43);
+if (t25 & 255u) { goto L204; }
+l28 = ((u64)l48) & 1ull;
+l15 = get64(b, l6 + 2128);
+if (get64(b, l6 + 2136) != l15) { goto L237; }
+t26 = f86(b, l6 + 2120ull, 1ull);
+if (!t26) { goto L205; }
+l15 = get64(b, l6 + 2128);
+L237:;
+l21 = get64(b, l6 + 2120) + (l15 * 24ull);
+put64(b, l21, 1ull);
+put64(b, l21 + 16ull, 0ull);
+put64(b, l21 + 8ull, l28);
+put64(b, l6 + 2128, l15 + 1ull);
+L230:;
+l15 = get64(b, l6 + 2176);
+if (l15 > 4ull) { goto L239; }
+if (!(l40 & 1u)) { goto L239; }
+l15 = get64(b, l6 + 2128);
+if (get64(b, l6 + 2136) != l15) { goto L241; }
+t27 = f86(b, l6 + 2120ull, 1ull);
+if (!t27) { goto L240; }
+l15 = get64(b, l6 + 2128);
+L241:;
+l21 = get64(b, l6 + 2120) + (l15 * 24ull);
+put64(b, l21, 1ull);
+put64(b, l21 + 8ull, 0ull);
+put64(b, l21 + 16ull, 0ull);
+put64(b, l6 + 2128, l15 + 1ull);
+goto L238;
+L240:;
+put64(b, l6 + 1264, 0ull);
+put64(b, l6 + 1256, 0ull);
+put64(b, l6 + 1248, 1ull);
+f36(b, l6 + 1248ull);
+l45 = 1u;
+goto L204;
+L239:;
+t28 = f187(b, l6 + 2120ull, l6 + 2168ull, 4ull, l15);
+if (t28 & 255u) { goto L204; }
+L238:;
+put64(b, l6 + 2160, get64(b, l3 + 16));
+put64(b, l6 + 2152, get64(b, l3 + 8));
+put64(b, l6 + 2144, get64(b, l3));
+l24 = l24 + 40ull;
+l26 = l26 + 1ull;
+f361(b, l6 + 2144ull);
+l23 = l23 + 18446744073709551615ull;
+if (l23 != 18446744073709551615ull) { goto L227; }
+L226:;
+t29 = f187(b, l6 + 2120ull, l25, l13, get64(b, l25 + 8ull));
+if (t29 & 255u) { goto L202; }
+put64(b, l17 + 16, get64(b, l6 + 2136));
+put64(b, l17 + 8, get64(b, l6 + 2128));
+put64(b, l17, get64(b, l6 + 2120));
+if (l47) { goto L242; }
+rattle_dealloc(b, l38);
+L242:;
+put64(b, l16 + 16, get64(b, l17 + 16));
+put64(b, l16 + 8, get64(b, l17 + 8));
+put64(b, l16, get64(b, l17));
+l13 = (u64)(get32(b, l37) >> 1);
+if (get64(b, l6 + 1864) <= l13) { goto L199; }
+l13 = get64(b, l6 + 1856) + (l13 << 5);
+l45 = get8(b, l13);
+put64(b, l13, 1ull);
+l15 = l13 + 8ull;
+l25 = get64(b, l15);
+put64(b, l15, get64(b, l16));
+l15 = l13 + 16ull;
+l24 = get64(b, l15);
+put64(b, l15, get64(b, l16 + 8));
+l13 = l13 + 24ull;
+l15 = get64(b, l13);
+put64(b, l13, get64(b, l16 + 16));
+put64(b, l6 + 1720, l25);
+put64(b, l6 + 1728, l24);
+put64(b, l6 + 1736, l15);
+if (!l45) { goto L243; }
+f185(b, l6 + 1720ull);
+L243:;
+l36 = l36 + 1ull;
+if (l36 != l29) { goto L212; }
+L208:;
+l22 = l22 + 1ull;
+if (l22 != l31) { goto L207; }
+L206:;
+l42 = (u32)(!l12);
+if (l42) { goto L171; }
+l45 = 0u;
+l41 = get32(b, l14);
+if (!(l41 & 1u)) { goto L182; }
+l13 = (u64)(l41 >> 1);
+if (get64(b, l1 + 64ull) <= l13) { goto L182; }
+if (!get64(b, get64(b, l1 + 56ull) + (l13 * 120ull))) { goto L182; }
+if (get64(b, l1 + 88ull) <= l13) { goto L182; }
+l41 = get32(b, l19);
+l24 = get64(b, l4 + 8ull);
+l22 = get64(b, l4);
+l25 = get64(b, l1 + 80ull);
+l15 = 0ull;
+put64(b, l6 + 1744, 0ull);
+put64(b, l6 + 1736, 0ull);
+put64(b, l6 + 1728, 0ull);
+put64(b, l6 + 1720, 0ull);
+l13 = l25 + (l13 * 24ull);
+if (!get64(b, l13 + 8ull)) { goto L244; }
+l25 = get64(b, l13);
+if (get8(b, l25) != 1u) { goto L244; }
+l15 = get64(b, l25 + 8ull);
+if ((s64)l15 > (s64)4294967295ull) { goto L200; }
+l15 = ((s64)l15 > (s64)0ull) ? l15 : 0ull;
+L244:;
+f364(b, l6 + 1720ull, l22, l24);
+if (get8(b, l6 + 1720)) { goto L198; }
+put64(b, l6 + 1992, get64(b, l20 + 16));
+put64(b, l6 + 1984, get64(b, l20 + 8));
+put64(b, l6 + 1976, get64(b, l20));
+t30 = f187(b, l6 + 1976ull, l13, (l15 << 1) | 1ull, get64(b, l13 + 8ull));
+if (!(t30 & 255u)) { goto L201; }
+f361(b, l6 + 1976ull);
+l45 = 1u;
+goto L182;
+L205:;
+put64(b, l6 + 1264, 0ull);
+put64(b, l6 + 1256, l28);
+put64(b, l6 + 1248, 1ull);
+f36(b, l6 + 1248ull);
+L204:;
+put64(b, l6 + 2104, get64(b, l3 + 16));
+put64(b, l6 + 2096, get64(b, l3 + 8));
+put64(b, l6 + 2088, get64(b, l3));
+f361(b, l6 + 2088ull);
+L203:;
+put64(b, l6 + 1486, 0ull);
+put64(b, l6 + 1494, 0ull);
+put64(b, l6 + 1502, 0ull);
+f361(b, l6 + 2120ull);
+if (l47) { goto L146; }
+rattle_dealloc(b, l38);
+goto L146;
+L202:;
+put64(b, l6 + 1502, 0ull);
+put64(b, l6 + 1494, 0ull);
+put64(b, l6 + 1486, 0ull);
+f361(b, l6 + 2120ull);
+l45 = 1u;
+if (l47) { goto L146; }
+rattle_dealloc(b, l38);
+goto L146;
+L201:;
+put64(b, l17 + 16, get64(b, l6 + 1992));
+put64(b, l17 + 8, get64(b, l6 + 1984));
+put64(b, l17, get64(b, l6 + 1976));
+l13 = (u64)(get32(b, l14) >> 1);
+if (get64(b, l6 + 1864) <= l13) { goto L245; }
+l13 = get64(b, l6 + 1856) + (l13 << 5);
+l45 = get8(b, l13);
+put64(b, l13, 1ull);
+l15 = l13 + 8ull;
+l25 = get64(b, l15);
+put64(b, l15, get64(b, l17));
+l15 = l13 + 16ull;
+l24 = get64(b, l15);
+put64(b, l15, get64(b, l17 + 8));
+l13 = l13 + 24ull;
+l15 = get64(b, l13);
+put64(b, l13, get64(b, l17 + 16));
+put64(b, l6 + 1720, l25);
+put64(b, l6 + 1728, l24);
+put64(b, l6 + 1736, l15);
+if (!l45) { goto L246; }
+f185(b, l6 + 1720ull);
+L246:;
+l25 = l12 + 18446744073709551615ull;
+if (!l25) { goto L171; }
+if (!l41) { goto L248; }
+l15 = l4 + 32ull;
+goto L247;
+L248:;
+l15 = l4 + 32ull;
+l13 = get64(b, l6 + 1888);
+L249:;
+l22 = get64(b, l15 + 18446744073709551608ull);
+l24 = get64(b, l1 + 64ull);
+l21 = get64(b, l15);
+put64(b, l6 + 1720, 0ull);
+put64(b, l6 + 1728, 0ull);
+put64(b, l6 + 1736, 0ull);
+put64(b, l6 + 1744, 0ull);
+put64(b, l6 + 1480, 0ull);
+put64(b, l6 + 1488, 0ull);
+put64(b, l6 + 1496, 0ull);
+put64(b, l6 + 1502, 0ull);
+l24 = l13 + l24;
+l23 = (l24 < l13) ? 18446744073709551615ull : l24;
+if (l23 >= 4999999ull) { goto L200; }
+l45 = get8(b, l14 + 4ull);
+f364(b, l6 + 1720ull, l22, l21);
+if (!get8(b, l6 + 1720)) { goto L250; }
+l45 = get8(b, l6 + 1721);
+goto L182;
+L250:;
+l41 = get32(b, l14);
+l24 = get64(b, l6 + 1888);
+if (get64(b, l6 + 1896) != l24) { goto L251; }
+t31 = f362(b, l6 + 1880ull);
+if (t31) { goto L252; }
+f185(b, l20);
+l45 = 1u;
+goto L182;
+L252:;
+l24 = get64(b, l6 + 1888);
+L251:;
+l13 = get64(b, l6 + 1880) + (l24 << 5);
+put32(b, l13 + 4, 0u);
+put32(b, l13, l41);
+put64(b, l13 + 8, get64(b, l20));
+put64(b, l13 + 16, get64(b, l20 + 8));
+put64(b, l13 + 24, get64(b, l20 + 16));
+put64(b, l6 + 1888, l24 + 1ull);
+put64(b, l27, 0ull);
+put64(b, l27 + 8, 0ull);
+put64(b, l6 + 1248, l6 + 2440ull);
+t32 = f365(b, l6 + 1248ull, (((u32)l23) << 1) | 1u, l45);
+if (t32 & 255u) { goto L253; }
+l13 = get64(b, l6 + 1256);
+if (get64(b, l6 + 1264) != l13) { goto L254; }
+t33 = f86(b, l6 + 1248ull, 1ull);
+if (t33) { goto L255; }
+put64(b, l6 + 1992, 0ull);
+put64(b, l6 + 1984, 0ull);
+put64(b, l6 + 1976, 1ull);
+f36(b, l6 + 1976ull);
+f361(b, l6 + 1248ull);
+l45 = 1u;
+goto L182;
+L255:;
+l13 = get64(b, l6 + 1256);
+L254:;
+l22 = get64(b, l6 + 1248);
+l24 = l22 + (l13 * 24ull);
+put64(b, l24, 1ull);
+put64(b, l24 + 8ull, 0ull);
+put64(b, l24 + 16ull, 0ull);
+put64(b, l17, l22);
+put64(b, l17 + 16, get64(b, l6 + 1264));
+put64(b, l17 + 8, l13 + 1ull);
+l45 = get32(b, l2);
+l24 = get64(b, l6 + 1888);
+if (get64(b, l6 + 1896) != l24) { goto L256; }
+t34 = f362(b, (l6 + 1856ull) + 24ull);
+if (t34) { goto L257; }
+put64(b, l6 + 1992, get64(b, l17 + 16));
+put64(b, l6 + 1984, get64(b, l17 + 8));
+put64(b, l6 + 1976, get64(b, l17));
+f185(b, l6 + 1976ull);
+l45 = 1u;
+goto L182;
+L257:;
+l24 = get64(b, l6 + 1888);
+L256:;
+l13 = get64(b, l6 + 1880) + (l24 << 5);
+put32(b, l13 + 4, 0u);
+put32(b, l13, l45);
+put64(b, l13 + 8, get64(b, l17));
+put64(b, l13 + 16, get64(b, l17 + 8));
+put64(b, l13 + 24, get64(b, l17 + 16));
+l13 = l24 + 1ull;
+put64(b, l6 + 1888, l13);
+l15 = l15 + 24ull;
+l25 = l25 + 18446744073709551615ull;
+if (!l25) { goto L171; }
+goto L249;
+L253:;
+f361(b, l6 + 1248ull);
+l45 = 1u;
+goto L182;
+L247:;
+L259:;
+l22 = get64(b, l15 + 18446744073709551608ull);
+l13 = get64(b, l1 + 64ull);
+l21 = get64(b, l15);
+put64(b, l6 + 1744, 0ull);
+put64(b, l6 + 1736, 0ull);
+put64(b, l6 + 1728, 0ull);
+put64(b, l6 + 1720, 0ull);
+l24 = get64(b, l6 + 1888);
+l13 = l13 + l24;
+l23 = (l13 < l24) ? 18446744073709551615ull : l13;
+if (l23 > 4999998ull) { goto L200; }
+l26 = (u64)get8(b, l14 + 4ull);
+f364(b, l6 + 1720ull, l22, l21);
+if (get8(b, l6 + 1720)) { goto L198; }
+l45 = get32(b, l14);
+l24 = get64(b, l6 + 1888);
+if (get64(b, l6 + 1896) != l24) { goto L261; }
+t35 = f362(b, l6 + 1880ull);
+if (!t35) { goto L260; }
+l24 = get64(b, l6 + 1888);
+L261:;
+l13 = get64(b, l6 + 1880) + (l24 << 5);
+put32(b, l13 + 4, 0u);
+put32(b, l13, l45);
+put64(b, l13 + 8, get64(b, l20));
+put64(b, l13 + 16, get64(b, l20 + 8));
+put64(b, l13 + 24, get64(b, l20 + 16));
+put64(b, l6 + 1888, l24 + 1ull);
+l13 = get64(b, l6 + 1912);
+if (get64(b, l6 + 1920) != l13) { goto L262; }
+t36 = f360(b, l6 + 1904ull);
+if (!t36) { goto L258; }
+l13 = get64(b, l6 + 1912);
+L262:;
+put64(b, get64(b, l6 + 1904) + (l13 << 3), (l26 << 32) | ((l23 << 1) | 1ull));
+put64(b, l6 + 1912, l13 + 1ull);
+l15 = l15 + 24ull;
+l25 = l25 + 18446744073709551615ull;
+if (!l25) { goto L171; }
+goto L259;
+L260:;
+f185(b, l20);
+L258:;
+l45 = 1u;
+goto L182;
+L245:;
+put64(b, l6 + 1992, get64(b, l17 + 16));
+put64(b, l6 + 1984, get64(b, l17 + 8));
+put64(b, l6 + 1976, get64(b, l17));
+f185(b, l6 + 1976ull);
+L200:;
+l45 = 0u;
+goto L182;
+L199:;
+put64(b, l6 + 1496, get64(b, l16 + 16));
+put64(b, l6 + 1488, get64(b, l16 + 8));
+put64(b, l6 + 1480, get64(b, l16));
+f185(b, l6 + 1480ull);
+l45 = 0u;
+goto L146;
+L198:;
+l45 = get8(b, l6 + 1721);
+goto L182;
+L183:;
+put64(b, l6 + 1496, get64(b, l3 + 16));
+put64(b, l6 + 1488, get64(b, l3 + 8));
+put64(b, l6 + 1480, get64(b, l3));
+f185(b, l6 + 1480ull);
+goto L172;
+L182:;
+l13 = l4;
+L263:;
+if (!get64(b, l13 + 16ull)) { goto L264; }
+rattle_dealloc(b, get64(b, l13));
+L264:;
+l13 = l13 + 24ull;
+l12 = l12 + 18446744073709551615ull;
+if (l12 != 0ull) { goto L263; }
+if (l44) { goto L144; }
+rattle_dealloc(b, l4);
+goto L144;
+L173:;
+put64(b, l6 + 1496, get64(b, l3 + 16));
+put64(b, l6 + 1488, get64(b, l3 + 8));
+put64(b, l6 + 1480, get64(b, l3));
+f185(b, l6 + 1480ull);
+L172:;
+l45 = 1u;
+goto L146;
+L171:;
+l45 = 0u;
+l41 = 0u;
+l21 = get64(b, l19 + 16ull);
+if (l21 != get64(b, l14 + 16ull)) { goto L265; }
+l41 = 1u;
+l45 = 0u;
+if (!l21) { goto L265; }
+l23 = get64(b, l19 + 8ull);
+l13 = l23;
+l25 = l21;
+l19 = get64(b, l14 + 8ull);
+l15 = l19;
+L267:;
+if (get8(b, l13)) { goto L268; }
+l22 = (u64)get32(b, l15);
+l24 = get64(b, l6 + 1936);
+if (get64(b, l6 + 1944) != l24) { goto L269; }
+t37 = f34(b, l6 + 1928ull);
+if (!t37) { goto L266; }
+l24 = get64(b, l6 + 1936);
+L269:;
+put64(b, get64(b, l6 + 1928) + (l24 << 3), l22);
+put64(b, l6 + 1936, l24 + 1ull);
+L268:;
+l13 = l13 + 40ull;
+l15 = l15 + 104ull;
+l22 = 0ull;
+l25 = l25 + 18446744073709551615ull;
+if (l25 != 0ull) { goto L267; }
+L270:;
+if (get8(b, l23 + (l22 * 40ull))) { goto L271; }
+l13 = l19 + (l22 * 104ull);
+if (get8(b, l13 + 8ull) != 1u) { goto L273; }
+l15 = l13 + 16ull;
+l25 = 1ull;
+goto L272;
+L273:;
+l25 = get64(b, l13 + 88ull);
+if (!l25) { goto L271; }
+l15 = get64(b, l13 + 80ull);
+L272:;
+l13 = get64(b, l6 + 1960);
+L274:;
+l24 = (u64)get32(b, l15);
+if (get64(b, l6 + 1968) != l13) { goto L275; }
+t38 = f34(b, l6 + 1952ull);
+if (!t38) { goto L266; }
+l13 = get64(b, l6 + 1960);
+L275:;
+put64(b, get64(b, l6 + 1952) + (l13 << 3), l24);
+l13 = l13 + 1ull;
+put64(b, l6 + 1960, l13);
+l15 = l15 + 64ull;
+l25 = l25 + 18446744073709551615ull;
+if (l25 != 0ull) { goto L274; }
+L271:;
+l22 = l22 + 1ull;
+if (l22 != l21) { goto L270; }
+goto L265;
+L266:;
+l41 = 0u;
+l45 = 1u;
+L265:;
+if (l42) { goto L276; }
+l13 = l4;
+L277:;
+if (!get64(b, l13 + 16ull)) { goto L278; }
+rattle_dealloc(b, get64(b, l13));
+L278:;
+l13 = l13 + 24ull;
+l12 = l12 + 18446744073709551615ull;
+if (l12 != 0ull) { goto L277; }
+L276:;
+if (l44) { goto L279; }
+rattle_dealloc(b, l4);
+L279:;
+if (!l41) { goto L144; }
+l18 = l18 + 1ull;
+if (l18 != l7) { goto L149; }
+L148:;
+l12 = get64(b, l6 + 1912);
+if (l12 == 0ull) { goto L292; }
+l45 = 0u;
+l44 = get32(b, l2);
+if (!(l44 & 1u)) { goto L280; }
+l13 = (u64)(l44 >> 1);
+if (get64(b, l1 + 64ull) <= l13) { goto L280; }
+if (!get64(b, get64(b, l1 + 56ull) + (l13 * 120ull))) { goto L280; }
+if (get64(b, l1 + 88ull) <= l13) { goto L280; }
+l25 = get64(b, l6 + 1904);
+l15 = 0ull;
+l13 = get64(b, l1 + 80ull) + (l13 * 24ull);
+if (get64(b, l13 + 8ull) < 3ull) { goto L293; }
+l24 = get64(b, l13);
+if (get8(b, l24 + 48ull) != 1u) { goto L293; }
+l45 = 0u;
+l15 = get64(b, l24 + 56ull);
+if ((s64)l15 > (s64)4294967295ull) { goto L280; }
+l15 = ((s64)l15 > (s64)0ull) ? l15 : 0ull;
+L293:;
+l45 = 0u;
+if (l12 > 4294967295ull) { goto L280; }
+l24 = l15 + l12;
+if (l24 > 4294967295ull) { goto L280; }
+put64(b, l6 + 1984, 0ull);
+put64(b, l6 + 1992, 0ull);
+put64(b, l6 + 1976, l6 + 2440ull);
+t39 = f187(b, l6 + 1976ull, l13, 0ull, 2ull);
+if (t39 & 255u) { goto L291; }
+l21 = (l24 < 4294967296ull) ? l24 : 4294967296ull;
+l24 = get64(b, l6 + 1984);
+if (get64(b, l6 + 1992) != l24) { goto L294; }
+t40 = f86(b, l6 + 1976ull, 1ull);
+if (!t40) { goto L286; }
+l24 = get64(b, l6 + 1984);
 L294:;
-l26 = get64(b, l7 + 2096);
-l16 = get64(b, l7 + 2080);
-l14 = get64(b, l7 + 2088);
-if (!l14) { goto L340; }
-l13 = l16;
+l22 = get64(b, l6 + 1976) + (l24 * 24ull);
+put64(b, l22, 1ull);
+put64(b, l22 + 16ull, 0ull);
+put64(b, l22 + 8ull, l21);
+put64(b, l6 + 1984, l24 + 1ull);
+l15 = l15 << 1;
+t41 = f187(b, l6 + 1976ull, l13, 3ull, l15);
+if (t41 & 255u) { goto L285; }
+t42 = f366(b, l6 + 1976ull, l25, l12);
+if (t42 & 255u) { goto L284; }
+t43 = f187(b, l6 + 1976ull, l13, l15 + 3ull, get64(b, l13 + 8ull));
+if (!(t43 & 255u)) { goto L295; }
+f361(b, l6 + 1976ull);
+l45 = 1u;
+goto L280;
+L295:;
+put64(b, l6 + 1742, get64(b, l6 + 1992));
+put64(b, l6 + 1734, get64(b, l6 + 1984));
+put64(b, l6 + 1726, get64(b, l6 + 1976));
+l12 = l6 + 1726ull;
+l13 = (u64)(get32(b, l2) >> 1);
+if (get64(b, l6 + 1864) <= l13) { goto L290; }
+l13 = get64(b, l6 + 1856) + (l13 << 5);
+l45 = get8(b, l13);
+put64(b, l13, 1ull);
+l15 = l13 + 8ull;
+l25 = get64(b, l15);
+put64(b, l15, get64(b, l12));
+l15 = l13 + 16ull;
+l24 = get64(b, l15);
+put64(b, l15, get64(b, l12 + 8));
+l13 = l13 + 24ull;
+l15 = get64(b, l13);
+put64(b, l13, get64(b, l12 + 16));
+put64(b, l6 + 1480, l25);
+put64(b, l6 + 1488, l24);
+put64(b, l6 + 1496, l15);
+if (!l45) { goto L292; }
+f185(b, l6 + 1480ull);
+L292:;
+l12 = l6 + 2294ull;
+copy(b, l12, l6 + 1856ull, 120u);
+fill(b, l6 + 1720ull, 0u, 120u);
+put16(b, l6 + 1484, 0u);
+put32(b, l6 + 1480, 0u);
+fill(b, l6 + 1360ull, 0u, 120u);
+copy(b, l6 + 1600ull, l12, 120u);
+fill(b, l6 + 1856ull, 0u, 120u);
+put64(b, l6 + 1848, 0ull);
+put64(b, l6 + 1840, 0ull);
+f183(b, l6 + 1856ull, l1);
+l45 = 1u;
+if (get8(b, l6 + 1856)) { goto L281; }
+copy(b, l6 + 1976ull, l6 + 1864ull, 112u);
+f184(b, l6 + 1840ull, l6 + 1976ull, l1, l6 + 1600ull);
+if (get8(b, l6 + 1840)) { goto L288; }
+l13 = get64(b, l6 + 1632);
+l41 = (u32)(!l13);
+if (l41) { goto L287; }
+l21 = get64(b, l6 + 1848);
+l15 = (l6 + 2088ull) + 4ull;
+l12 = get64(b, l6 + 1624);
+l23 = l13;
+goto L289;
+L291:;
+f361(b, l6 + 1976ull);
+l45 = 1u;
+goto L280;
+L290:;
+put64(b, l6 + 1992, get64(b, l12 + 16));
+put64(b, l6 + 1984, get64(b, l12 + 8));
+put64(b, l6 + 1976, get64(b, l12));
+f185(b, l6 + 1976ull);
+l45 = 0u;
+goto L280;
+L289:;
+L296:;
+l25 = get64(b, l12 + 20ull);
+l24 = get64(b, l12 + 12ull);
+put64(b, l12 + 16ull, 0ull);
+l44 = get32(b, l12 + 28ull);
+put64(b, l12 + 24ull, 0ull);
+l22 = get64(b, l12 + 4ull);
+l45 = get32(b, l12);
+put64(b, l12, 0ull);
+put64(b, l12 + 8ull, l6 + 2440ull);
+put64(b, l6 + 2088, l22);
+put64(b, l6 + 2096, l24);
+put64(b, l6 + 2104, l25);
+put32(b, l6 + 2112, l44);
+put64(b, l6 + 2272, 0ull);
+put64(b, l6 + 2280, 0ull);
+if (!(l45 & 1u)) { goto L298; }
+l25 = (u64)(l45 >> 1);
+if (get64(b, l1 + 64ull) <= l25) { goto L298; }
+l25 = get64(b, l1 + 56ull) + (l25 * 120ull);
+if (get64(b, l25) != 0ull) { goto L297; }
+L298:;
+put64(b, l6 + 2136, get64(b, l15 + 16));
+put64(b, l6 + 2128, get64(b, l15 + 8));
+put64(b, l6 + 2120, get64(b, l15));
+f185(b, l6 + 2120ull);
+l45 = 0u;
+goto L282;
+L297:;
+copy(b, l6 + 2168ull, l25, 104u);
+put64(b, l6 + 2160, get64(b, l15 + 16));
+put64(b, l6 + 2152, get64(b, l15 + 8));
+put64(b, l6 + 2144, get64(b, l15));
+f191(b, l6 + 2272ull, l6 + 1976ull, l21, l6 + 2168ull, l6 + 2144ull);
+if (get8(b, l6 + 2272)) { goto L299; }
+l21 = get64(b, l6 + 2280);
+l12 = l12 + 32ull;
+l23 = l23 + 18446744073709551615ull;
+if (!l23) { goto L287; }
+goto L296;
+L299:;
+l45 = get8(b, l6 + 2273);
+goto L282;
+L288:;
+l45 = get8(b, l6 + 1841);
+if (!get64(b, l6 + 1992)) { goto L300; }
+rattle_dealloc(b, get64(b, l6 + 1976));
+L300:;
+f185(b, l6 + 2008ull);
+l25 = get64(b, l6 + 2072);
+l13 = get64(b, l6 + 2064);
+l15 = get64(b, l6 + 2056);
+if (!get64(b, l6 + 2048)) { goto L301; }
+rattle_dealloc(b, get64(b, l6 + 2032));
+L301:;
+if (!l13) { goto L302; }
+l12 = l15;
+L303:;
+put64(b, l6 + 2184, get64(b, l12 + 16));
+put64(b, l6 + 2176, get64(b, l12 + 8));
+put64(b, l6 + 2168, get64(b, l12));
+l12 = l12 + 24ull;
+f185(b, l6 + 2168ull);
+l13 = l13 + 18446744073709551615ull;
+if (l13 != 0ull) { goto L303; }
+L302:;
+if (!l25) { goto L281; }
+rattle_dealloc(b, l15);
+goto L281;
+L287:;
+l12 = l6 + 1486ull;
+copy(b, l12, l6 + 1976ull, 112u);
+copy(b, l6 + 1248ull, l12, 112u);
+l25 = get64(b, l6 + 1672);
+f367(b, l6 + 1360ull, l6 + 1248ull, l25, get64(b, l6 + 1680));
+if (!get8(b, l6 + 1360)) { goto L283; }
+l45 = get8(b, l6 + 1361);
+l22 = get64(b, l6 + 1616);
+l24 = get64(b, l6 + 1600);
+l15 = get64(b, l6 + 1608);
+if (!l15) { goto L304; }
+l12 = l24;
+L305:;
+if (!get8(b, l12)) { goto L306; }
+put64(b, l6 + 1872, get64(b, l12 + 24ull));
+put64(b, l6 + 1864, get64(b, l12 + 16ull));
+put64(b, l6 + 1856, get64(b, l12 + 8ull));
+f185(b, l6 + 1856ull);
+L306:;
+l12 = l12 + 32ull;
+l15 = l15 + 18446744073709551615ull;
+if (l15 != 0ull) { goto L305; }
+L304:;
+if (!l22) { goto L307; }
+rattle_dealloc(b, l24);
+L307:;
+l24 = get64(b, l6 + 1640);
+l15 = get64(b, l6 + 1624);
+if (l41) { goto L308; }
+l12 = l15 + 8ull;
+L309:;
+put64(b, l6 + 1872, get64(b, l12 + 16));
+put64(b, l6 + 1864, get64(b, l12 + 8));
+put64(b, l6 + 1856, get64(b, l12));
+l12 = l12 + 32ull;
+f185(b, l6 + 1856ull);
+l13 = l13 + 18446744073709551615ull;
+if (l13 != 0ull) { goto L309; }
+L308:;
+if (!l24) { goto L310; }
+rattle_dealloc(b, l15);
+L310:;
+if (!get64(b, l6 + 1664)) { goto L311; }
+rattle_dealloc(b, get64(b, l6 + 1648));
+L311:;
+if (!get64(b, l6 + 1688)) { goto L312; }
+rattle_dealloc(b, l25);
+L312:;
+if (!get64(b, l6 + 1712)) { goto L143; }
+rattle_dealloc(b, get64(b, l6 + 1696));
+goto L143;
+L286:;
+put64(b, l6 + 1496, 0ull);
+put64(b, l6 + 1488, l21);
+put64(b, l6 + 1480, 1ull);
+f36(b, l6 + 1480ull);
+f361(b, l6 + 1976ull);
+l45 = 1u;
+goto L280;
+L285:;
+f361(b, l6 + 1976ull);
+l45 = 1u;
+goto L280;
+L284:;
+f361(b, l6 + 1976ull);
+l45 = 1u;
+goto L280;
+L283:;
+l21 = get64(b, l6 + 1696);
+f367(b, l6 + 1720ull, l6 + 1368ull, l21, get64(b, l6 + 1704));
+l22 = get64(b, l6 + 1616);
+l24 = get64(b, l6 + 1600);
+l15 = get64(b, l6 + 1608);
+if (!l15) { goto L313; }
+l12 = l24;
+L314:;
+if (!get8(b, l12)) { goto L315; }
+put64(b, l6 + 1872, get64(b, l12 + 24ull));
+put64(b, l6 + 1864, get64(b, l12 + 16ull));
+put64(b, l6 + 1856, get64(b, l12 + 8ull));
+f185(b, l6 + 1856ull);
+L315:;
+l12 = l12 + 32ull;
+l15 = l15 + 18446744073709551615ull;
+if (l15 != 0ull) { goto L314; }
+L313:;
+if (!l22) { goto L316; }
+rattle_dealloc(b, l24);
+L316:;
+l24 = get64(b, l6 + 1640);
+l15 = get64(b, l6 + 1624);
+if (l41) { goto L317; }
+l12 = l15 + 8ull;
+L318:;
+put64(b, l6 + 1872, get64(b, l12 + 16));
+put64(b, l6 + 1864, get64(b, l12 + 8));
+put64(b, l6 + 1856, get64(b, l12));
+l12 = l12 + 32ull;
+f185(b, l6 + 1856ull);
+l13 = l13 + 18446744073709551615ull;
+if (l13 != 0ull) { goto L318; }
+L317:;
+if (!l24) { goto L319; }
+rattle_dealloc(b, l15);
+L319:;
+if (!get64(b, l6 + 1664)) { goto L320; }
+rattle_dealloc(b, get64(b, l6 + 1648));
+L320:;
+if (!get64(b, l6 + 1688)) { goto L321; }
+rattle_dealloc(b, l25);
+L321:;
+if (!get64(b, l6 + 1712)) { goto L322; }
+rattle_dealloc(b, l21);
+L322:;
+l45 = get8(b, l6 + 1721);
+l44 = get8(b, l6 + 1720);
+l12 = (l6 + 1032ull) + 6ull;
+copy(b, l12, l6 + 1728ull, 112u);
+l13 = (l6 + 912ull) + 6ull;
+copy(b, l13, l12, 112u);
+if (l44) { goto L143; }
+copy(b, l6 + 800ull, l13, 112u);
+l12 = 1ull;
+l45 = 1u;
+goto L142;
+L282:;
+if (!get64(b, l6 + 1992)) { goto L323; }
+rattle_dealloc(b, get64(b, l6 + 1976));
+L323:;
+f185(b, l6 + 2008ull);
+l25 = get64(b, l6 + 2072);
+l13 = get64(b, l6 + 2064);
+l15 = get64(b, l6 + 2056);
+if (!get64(b, l6 + 2048)) { goto L324; }
+rattle_dealloc(b, get64(b, l6 + 2032));
+L324:;
+if (!l13) { goto L325; }
+l12 = l15;
+L326:;
+put64(b, l6 + 2184, get64(b, l12 + 16));
+put64(b, l6 + 2176, get64(b, l12 + 8));
+put64(b, l6 + 2168, get64(b, l12));
+l12 = l12 + 24ull;
+f185(b, l6 + 2168ull);
+l13 = l13 + 18446744073709551615ull;
+if (l13 != 0ull) { goto L326; }
+L325:;
+if (!l25) { goto L281; }
+rattle_dealloc(b, l15);
+L281:;
+l25 = get64(b, l6 + 1616);
+l15 = get64(b, l6 + 1600);
+l13 = get64(b, l6 + 1608);
+if (!l13) { goto L327; }
+l12 = l15;
+L328:;
+if (!get8(b, l12)) { goto L329; }
+put64(b, l6 + 1872, get64(b, l12 + 24ull));
+put64(b, l6 + 1864, get64(b, l12 + 16ull));
+put64(b, l6 + 1856, get64(b, l12 + 8ull));
+f185(b, l6 + 1856ull);
+L329:;
+l12 = l12 + 32ull;
+l13 = l13 + 18446744073709551615ull;
+if (l13 != 0ull) { goto L328; }
+L327:;
+if (!l25) { goto L330; }
+rattle_dealloc(b, l15);
+L330:;
+l25 = get64(b, l6 + 1640);
+l15 = get64(b, l6 + 1624);
+l13 = get64(b, l6 + 1632);
+if (!l13) { goto L331; }
+l12 = l15 + 8ull;
+L332:;
+put64(b, l6 + 1872, get64(b, l12 + 16));
+put64(b, l6 + 1864, get64(b, l12 + 8));
+put64(b, l6 + 1856, get64(b, l12));
+l12 = l12 + 32ull;
+f185(b, l6 + 1856ull);
+l13 = l13 + 18446744073709551615ull;
+if (l13 != 0ull) { goto L332; }
+L331:;
+if (!l25) { goto L333; }
+rattle_dealloc(b, l15);
+L333:;
+if (!get64(b, l6 + 1664)) { goto L334; }
+rattle_dealloc(b, get64(b, l6 + 1648));
+L334:;
+if (!get64(b, l6 + 1688)) { goto L335; }
+rattle_dealloc(b, get64(b, l6 + 1672));
+L335:;
+if (!get64(b, l6 + 1712)) { goto L143; }
+rattle_dealloc(b, get64(b, l6 + 1696));
+goto L143;
+L280:;
+l25 = get64(b, l6 + 1872);
+l15 = get64(b, l6 + 1856);
+l13 = get64(b, l6 + 1864);
+if (!l13) { goto L336; }
+l12 = l15;
+L337:;
+if (!get8(b, l12)) { goto L338; }
+put64(b, l6 + 1736, get64(b, l12 + 24ull));
+put64(b, l6 + 1728, get64(b, l12 + 16ull));
+put64(b, l6 + 1720, get64(b, l12 + 8ull));
+f185(b, l6 + 1720ull);
+L338:;
+l12 = l12 + 32ull;
+l13 = l13 + 18446744073709551615ull;
+if (l13 != 0ull) { goto L337; }
+L336:;
+if (!l25) { goto L339; }
+rattle_dealloc(b, l15);
+L339:;
+l25 = get64(b, l6 + 1896);
+l15 = get64(b, l6 + 1880);
+l13 = get64(b, l6 + 1888);
+if (!l13) { goto L340; }
+l12 = l15 + 8ull;
 L341:;
-if (!get8(b, l13)) { goto L342; }
-put64(b, l7 + 1752, get64(b, l13 + 24ull));
-put64(b, l7 + 1744, get64(b, l13 + 16ull));
-put64(b, l7 + 1736, get64(b, l13 + 8ull));
-f186(b, l7 + 1736ull);
-L342:;
-l13 = l13 + 32ull;
-l14 = l14 + 18446744073709551615ull;
-if (l14 != 0ull) { goto L341; }
+put64(b, l6 + 1736, get64(b, l12 + 16));
+put64(b, l6 + 1728, get64(b, l12 + 8));
+put64(b, l6 + 1720, get64(b, l12));
+l12 = l12 + 32ull;
+f185(b, l6 + 1720ull);
+l13 = l13 + 18446744073709551615ull;
+if (l13 != 0ull) { goto L341; }
 L340:;
-if (!l26) { goto L343; }
-rattle_dealloc(b, l16);
+if (!l25) { goto L342; }
+rattle_dealloc(b, l15);
+L342:;
+if (!get64(b, l6 + 1920)) { goto L343; }
+rattle_dealloc(b, get64(b, l6 + 1904));
 L343:;
-l26 = get64(b, l7 + 2120);
-l16 = get64(b, l7 + 2104);
-l14 = get64(b, l7 + 2112);
-if (!l14) { goto L344; }
-l13 = l16 + 8ull;
-L345:;
-put64(b, l7 + 1752, get64(b, l13 + 16));
-put64(b, l7 + 1744, get64(b, l13 + 8));
-put64(b, l7 + 1736, get64(b, l13));
-l13 = l13 + 32ull;
-f186(b, l7 + 1736ull);
-l14 = l14 + 18446744073709551615ull;
-if (l14 != 0ull) { goto L345; }
+if (!get64(b, l6 + 1944)) { goto L344; }
+rattle_dealloc(b, get64(b, l6 + 1928));
 L344:;
-if (!l26) { goto L346; }
-rattle_dealloc(b, l16);
+if (!get64(b, l6 + 1968)) { goto L143; }
+rattle_dealloc(b, get64(b, l6 + 1952));
+goto L143;
+L147:;
+put64(b, l6 + 1502, 0ull);
+put64(b, l6 + 1494, 0ull);
+put64(b, l6 + 1486, 0ull);
+f361(b, l6 + 2120ull);
+l45 = 1u;
+if (l47) { goto L146; }
+rattle_dealloc(b, l38);
+L146:;
+if (!l12) { goto L345; }
+l13 = l4;
 L346:;
-if (!get64(b, l7 + 2144)) { goto L347; }
-rattle_dealloc(b, get64(b, l7 + 2128));
+if (!get64(b, l13 + 16ull)) { goto L347; }
+rattle_dealloc(b, get64(b, l13));
 L347:;
-if (!get64(b, l7 + 2168)) { goto L348; }
-rattle_dealloc(b, get64(b, l7 + 2152));
+l13 = l13 + 24ull;
+l12 = l12 + 18446744073709551615ull;
+if (l12 != 0ull) { goto L346; }
+L345:;
+if (l44) { goto L144; }
+rattle_dealloc(b, l4);
+goto L144;
+L145:;
+l25 = get64(b, l6 + 1736);
+l15 = get64(b, l6 + 1720);
+l13 = get64(b, l6 + 1728);
+if (!l13) { goto L348; }
+l12 = l15;
+L349:;
+if (!get64(b, l12 + 16ull)) { goto L350; }
+rattle_dealloc(b, get64(b, l12));
+L350:;
+l12 = l12 + 24ull;
+l13 = l13 + 18446744073709551615ull;
+if (l13 != 0ull) { goto L349; }
 L348:;
-if (!get64(b, l7 + 2192)) { goto L139; }
-rattle_dealloc(b, get64(b, l7 + 2176));
+if (!l25) { goto L351; }
+rattle_dealloc(b, l15);
+L351:;
+l45 = 1u;
+L144:;
+l25 = get64(b, l6 + 1872);
+l15 = get64(b, l6 + 1856);
+l13 = get64(b, l6 + 1864);
+if (!l13) { goto L352; }
+l12 = l15;
+L353:;
+if (!get8(b, l12)) { goto L354; }
+put64(b, l6 + 1736, get64(b, l12 + 24ull));
+put64(b, l6 + 1728, get64(b, l12 + 16ull));
+put64(b, l6 + 1720, get64(b, l12 + 8ull));
+f185(b, l6 + 1720ull);
+L354:;
+l12 = l12 + 32ull;
+l13 = l13 + 18446744073709551615ull;
+if (l13 != 0ull) { goto L353; }
+L352:;
+if (!l25) { goto L355; }
+rattle_dealloc(b, l15);
+L355:;
+l25 = get64(b, l6 + 1896);
+l15 = get64(b, l6 + 1880);
+l13 = get64(b, l6 + 1888);
+if (!l13) { goto L356; }
+l12 = l15 + 8ull;
+L357:;
+put64(b, l6 + 1736, get64(b, l12 + 16));
+put64(b, l6 + 1728, get64(b, l12 + 8));
+put64(b, l6 + 1720, get64(b, l12));
+l12 = l12 + 32ull;
+f185(b, l6 + 1720ull);
+l13 = l13 + 18446744073709551615ull;
+if (l13 != 0ull) { goto L357; }
+L356:;
+if (!l25) { goto L358; }
+rattle_dealloc(b, l15);
+L358:;
+if (!get64(b, l6 + 1920)) { goto L359; }
+rattle_dealloc(b, get64(b, l6 + 1904));
+L359:;
+if (!get64(b, l6 + 1944)) { goto L360; }
+rattle_dealloc(b, get64(b, l6 + 1928));
+L360:;
+if (!get64(b, l6 + 1968)) { goto L143; }
+rattle_dealloc(b, get64(b, l6 + 1952));
+L143:;
+if (l45 & 255u) { goto L141; }
+copy(b, l6 + 800ull, l6 + 688ull, 112u);
+l12 = 0ull;
+l45 = 0u;
+L142:;
+copy(b, l6 + 464ull, l6 + 800ull, 112u);
+if (!l45) { goto L140; }
+copy(b, l6 + 352ull, l6 + 464ull, 112u);
 goto L139;
 L141:;
-l26 = get64(b, l7 + 1752);
-l16 = get64(b, l7 + 1736);
-l14 = get64(b, l7 + 1744);
-if (!l14) { goto L349; }
-l13 = l16;
-L350:;
-if (!get64(b, l13 + 16ull)) { goto L351; }
-rattle_dealloc(b, get64(b, l13));
-L351:;
-l13 = l13 + 24ull;
-l14 = l14 + 18446744073709551615ull;
-if (l14 != 0ull) { goto L350; }
-L349:;
-if (!l26) { goto L352; }
-rattle_dealloc(b, l16);
-L352:;
-l48 = 1u;
-L140:;
-l26 = get64(b, l7 + 2096);
-l16 = get64(b, l7 + 2080);
-l14 = get64(b, l7 + 2088);
-if (!l14) { goto L353; }
-l13 = l16;
-L354:;
-if (!get8(b, l13)) { goto L355; }
-put64(b, l7 + 1752, get64(b, l13 + 24ull));
-put64(b, l7 + 1744, get64(b, l13 + 16ull));
-put64(b, l7 + 1736, get64(b, l13 + 8ull));
-f186(b, l7 + 1736ull);
-L355:;
-l13 = l13 + 32ull;
-l14 = l14 + 18446744073709551615ull;
-if (l14 != 0ull) { goto L354; }
-L353:;
-if (!l26) { goto L356; }
-rattle_dealloc(b, l16);
-L356:;
-l26 = get64(b, l7 + 2120);
-l16 = get64(b, l7 + 2104);
-l14 = get64(b, l7 + 2112);
-if (!l14) { goto L357; }
-l13 = l16 + 8ull;
-L358:;
-put64(b, l7 + 1752, get64(b, l13 + 16));
-put64(b, l7 + 1744, get64(b, l13 + 8));
-put64(b, l7 + 1736, get64(b, l13));
-l13 = l13 + 32ull;
-f186(b, l7 + 1736ull);
-l14 = l14 + 18446744073709551615ull;
-if (l14 != 0ull) { goto L358; }
-L357:;
-if (!l26) { goto L359; }
-rattle_dealloc(b, l16);
-L359:;
-if (!get64(b, l7 + 2144)) { goto L360; }
-rattle_dealloc(b, get64(b, l7 + 2128));
-L360:;
-if (!get64(b, l7 + 2168)) { goto L361; }
-rattle_dealloc(b, get64(b, l7 + 2152));
+if (!l8) { goto L361; }
+rattle_dealloc(b, l5);
 L361:;
-if (!get64(b, l7 + 2192)) { goto L139; }
-rattle_dealloc(b, get64(b, l7 + 2176));
-L139:;
-if (l48 & 255u) { goto L362; }
-copy(b, l7 + 1048ull, l7 + 936ull, 112u);
-copy(b, l7 + 712ull, l7 + 1048ull, 112u);
-if (!l9) { goto L363; }
-rattle_dealloc(b, l6);
+if (!l7) { goto L362; }
+l12 = l11;
 L363:;
-put64(b, l7 + 240, l11);
-put64(b, l7 + 232, l8);
-put64(b, l7 + 224, l12);
-f369(b, l7 + 224ull);
-put64(b, l0 + 8ull, 0ull);
-put8(b, l0, 0u);
-copy(b, l0 + 16ull, l7 + 600ull, 112u);
-put64(b, l0 + 168ull, 0ull);
-put64(b, l0 + 160ull, 0ull);
-put64(b, l0 + 152ull, 0ull);
-put64(b, l0 + 144ull, 0ull);
-put64(b, l0 + 136ull, 0ull);
-put64(b, l0 + 128ull, 0ull);
-goto L1;
+copy(b, l6 + 2288ull, l12, 152u);
+l12 = l12 + 152ull;
+f196(b, l6 + 2288ull);
+l7 = l7 + 18446744073709551615ull;
+if (l7 != 0ull) { goto L363; }
 L362:;
-if (!l9) { goto L364; }
-rattle_dealloc(b, l6);
+if (!l10) { goto L364; }
+rattle_dealloc(b, l11);
 L364:;
-if (!l8) { goto L365; }
-l13 = l12;
-L366:;
-copy(b, l7 + 2080ull, l13, 152u);
-l13 = l13 + 152ull;
-f197(b, l7 + 2080ull);
-l8 = l8 + 18446744073709551615ull;
-if (l8 != 0ull) { goto L366; }
-L365:;
-if (!l11) { goto L367; }
-rattle_dealloc(b, l12);
-L367:;
 put8(b, l0, 1u);
 fill(b, l0 + 8ull, 0u, 168u);
 goto L1;
+L140:;
+copy(b, l6 + 352ull, l6 + 240ull, 112u);
+if (!l8) { goto L365; }
+rattle_dealloc(b, l5);
+L365:;
+put64(b, l6 + 232, l10);
+put64(b, l6 + 224, l7);
+put64(b, l6 + 216, l11);
+f368(b, l6 + 216ull);
+l11 = 0ull;
+l7 = 0ull;
+l10 = 0ull;
+l5 = 0ull;
+l9 = 0ull;
+l8 = 0ull;
+L139:;
+put8(b, l0, 0u);
+put64(b, l0 + 8ull, l12);
+copy(b, l0 + 16ull, l6 + 352ull, 112u);
+put64(b, l0 + 168ull, l8);
+put64(b, l0 + 160ull, l9);
+put64(b, l0 + 152ull, l5);
+put64(b, l0 + 144ull, l10);
+put64(b, l0 + 136ull, l7);
+put64(b, l0 + 128ull, l11);
+goto L1;
 L6:;
-put64(b, l7 + 1759, 0ull);
-put64(b, l7 + 1751, 0ull);
-put64(b, l7 + 1743, 0ull);
+put64(b, l6 + 1879, 0ull);
+put64(b, l6 + 1871, 0ull);
+put64(b, l6 + 1863, 0ull);
 L5:;
-if (!l30) { goto L368; }
-rattle_dealloc(b, l32);
+if (!l29) { goto L366; }
+rattle_dealloc(b, l31);
+L366:;
+if (!l30) { goto L367; }
+rattle_dealloc(b, l28);
+L367:;
+if (!l26) { goto L368; }
+rattle_dealloc(b, l8);
 L368:;
-if (!l31) { goto L369; }
-rattle_dealloc(b, l29);
+if (!l27) { goto L369; }
+rattle_dealloc(b, l18);
 L369:;
-if (!l27) { goto L370; }
-rattle_dealloc(b, l11);
-L370:;
-if (!l28) { goto L371; }
-rattle_dealloc(b, l20);
-L371:;
-put64(b, l7 + 1176, l18);
-put64(b, l7 + 1168, l19);
-put64(b, l7 + 1160, l10);
-f355(b, l7 + 1160ull);
+put64(b, l6 + 1496, l17);
+put64(b, l6 + 1488, l10);
+put64(b, l6 + 1480, l19);
+f356(b, l6 + 1480ull);
 L4:;
-l16 = get64(b, l7 + 1064);
-l14 = get64(b, l7 + 1048);
-l13 = get64(b, l7 + 1056);
-if (!l13) { goto L372; }
-l8 = l14;
-L373:;
-copy(b, l7 + 2080ull, l8, 152u);
-l8 = l8 + 152ull;
-f197(b, l7 + 2080ull);
-l13 = l13 + 18446744073709551615ull;
-if (l13 != 0ull) { goto L373; }
-L372:;
-if (!l16) { goto L3; }
-rattle_dealloc(b, l14);
+l15 = get64(b, l6 + 928);
+l13 = get64(b, l6 + 912);
+l12 = get64(b, l6 + 920);
+if (!l12) { goto L370; }
+l7 = l13;
+L371:;
+copy(b, l6 + 2288ull, l7, 152u);
+l7 = l7 + 152ull;
+f196(b, l6 + 2288ull);
+l12 = l12 + 18446744073709551615ull;
+if (l12 != 0ull) { goto L371; }
+L370:;
+if (!l15) { goto L3; }
+rattle_dealloc(b, l13);
 L3:;
 put8(b, l0, 1u);
 fill(b, l0 + 8ull, 0u, 168u);
 goto L1;
 L2:;
-l14 = get64(b, l7 + 1064);
-if (!l8) { goto L374; }
-l13 = l12;
-L375:;
-copy(b, l7 + 2080ull, l13, 152u);
-l13 = l13 + 152ull;
-f197(b, l7 + 2080ull);
-l8 = l8 + 18446744073709551615ull;
-if (l8 != 0ull) { goto L375; }
+l13 = get64(b, l6 + 928);
+if (!l7) { goto L372; }
+l12 = l11;
+L373:;
+copy(b, l6 + 2288ull, l12, 152u);
+l12 = l12 + 152ull;
+f196(b, l6 + 2288ull);
+l7 = l7 + 18446744073709551615ull;
+if (l7 != 0ull) { goto L373; }
+L372:;
+if (!l13) { goto L374; }
+rattle_dealloc(b, l11);
 L374:;
-if (!l14) { goto L376; }
-rattle_dealloc(b, l12);
-L376:;
 put64(b, l0 + 8ull, 0ull);
 put8(b, l0, 0u);
-copy(b, l0 + 16ull, l7 + 824ull, 112u);
+copy(b, l0 + 16ull, l6 + 576ull, 112u);
 put64(b, l0 + 168ull, 0ull);
 put64(b, l0 + 160ull, 0ull);
 put64(b, l0 + 152ull, 0ull);
@@ -38794,10 +39043,461 @@ put64(b, l0 + 144ull, 0ull);
 put64(b, l0 + 136ull, 0ull);
 put64(b, l0 + 128ull, 0ull);
 L1:;
-SP = l7 + 2240ull;
+SP = l6 + 2448ull;
 }
 
-FN void f201(B b, u64 l0) {
+FN void f201(B b, u64 l0, u64 l1, u32 l2, u64 l3) {
+u32 l57 = 0, l58 = 0, l59 = 0;
+u64 l4 = 0, l5 = 0, l6 = 0, l7 = 0, l8 = 0, l9 = 0, l10 = 0, l11 = 0, l12 = 0, l13 = 0, l14 = 0, l15 = 0, l16 = 0, l17 = 0, l18 = 0, l19 = 0, l20 = 0, l21 = 0, l22 = 0, l23 = 0, l24 = 0, l25 = 0, l26 = 0, l27 = 0, l28 = 0, l29 = 0, l30 = 0, l31 = 0, l32 = 0, l33 = 0, l34 = 0, l35 = 0, l36 = 0, l37 = 0, l38 = 0, l39 = 0, l40 = 0, l41 = 0, l42 = 0, l43 = 0, l44 = 0, l45 = 0, l46 = 0, l47 = 0, l48 = 0, l49 = 0, l50 = 0, l51 = 0, l52 = 0, l53 = 0, l54 = 0, l55 = 0, l56 = 0;
+l4 = SP - 1312ull;
+SP = l4;
+l57 = 0u;
+fill(b, l4 + 208ull, 0u, 160u);
+fill(b, l4 + 48ull, 0u, 160u);
+put64(b, l4 + 40, 0ull);
+put64(b, l4 + 32, 0ull);
+put64(b, l4 + 24, 0ull);
+put64(b, l4 + 16, 0ull);
+copy(b, l4 + 368ull, l1, 160u);
+put64(b, l4 + 544, 0ull);
+put64(b, l4 + 552, 0ull);
+put64(b, l4 + 568, 0ull);
+put64(b, l4 + 576, 0ull);
+put64(b, l4 + 592, 0ull);
+put64(b, l4 + 600, 0ull);
+put64(b, l4 + 616, 0ull);
+put64(b, l4 + 624, 0ull);
+put64(b, l4 + 640, 0ull);
+put64(b, l4 + 648, 0ull);
+put64(b, l4 + 672, 0ull);
+put64(b, l4 + 664, 0ull);
+put64(b, l4 + 536, l4 + 1304ull);
+put64(b, l4 + 528, l4 + 368ull);
+put64(b, l4 + 560, l4 + 1304ull);
+put64(b, l4 + 584, l4 + 1304ull);
+put64(b, l4 + 608, l4 + 1304ull);
+put64(b, l4 + 632, l4 + 1304ull);
+put64(b, l4 + 656, l4 + 1304ull);
+put64(b, l4 + 688, 0ull);
+put64(b, l4 + 696, 0ull);
+put64(b, l4 + 712, 0ull);
+put64(b, l4 + 720, 0ull);
+put64(b, l4 + 736, 0ull);
+put64(b, l4 + 744, 0ull);
+put64(b, l4 + 760, 0ull);
+put64(b, l4 + 768, 0ull);
+put64(b, l4 + 784, 0ull);
+put64(b, l4 + 792, 0ull);
+put64(b, l4 + 800, 0ull);
+put64(b, l4 + 808, 2611923443488327891ull);
+put64(b, l4 + 680, l4 + 1304ull);
+put64(b, l4 + 704, l4 + 1304ull);
+put64(b, l4 + 728, l4 + 1304ull);
+put64(b, l4 + 752, l4 + 1304ull);
+put64(b, l4 + 776, l4 + 1304ull);
+put64(b, l4 + 816, l4 + 1304ull);
+put64(b, l4 + 832, 0ull);
+put64(b, l4 + 824, 0ull);
+put64(b, l4 + 856, 0ull);
+put64(b, l4 + 848, 0ull);
+put64(b, l4 + 880, 0ull);
+put64(b, l4 + 872, 0ull);
+put64(b, l4 + 904, 0ull);
+put64(b, l4 + 896, 0ull);
+put64(b, l4 + 928, 0ull);
+put64(b, l4 + 920, 0ull);
+put64(b, l4 + 952, 0ull);
+put64(b, l4 + 944, 0ull);
+put64(b, l4 + 840, l4 + 1304ull);
+put64(b, l4 + 864, l4 + 1304ull);
+put64(b, l4 + 888, l4 + 1304ull);
+put64(b, l4 + 912, l4 + 1304ull);
+put64(b, l4 + 936, l4 + 1304ull);
+put64(b, l4 + 960, l4 + 1304ull);
+put64(b, l4 + 984, 0ull);
+put64(b, l4 + 976, 0ull);
+put64(b, l4 + 968, 0ull);
+put64(b, l4 + 992, 2611923443488327891ull);
+put64(b, l4 + 1000, l4 + 1304ull);
+put64(b, l4 + 1016, 0ull);
+put64(b, l4 + 1008, 0ull);
+put64(b, l4 + 1024, l4 + 1304ull);
+put64(b, l4 + 1040, 0ull);
+put64(b, l4 + 1032, 0ull);
+put64(b, l4 + 1048, l4 + 1304ull);
+put64(b, l4 + 1064, 0ull);
+put64(b, l4 + 1056, 0ull);
+put64(b, l4 + 1072, l4 + 1304ull);
+put64(b, l4 + 1088, 0ull);
+put64(b, l4 + 1080, 0ull);
+put64(b, l4 + 1096, l4 + 1304ull);
+put64(b, l4 + 1112, 0ull);
+put64(b, l4 + 1104, 0ull);
+put64(b, l4 + 1120, l4 + 1304ull);
+put64(b, l4 + 1136, 0ull);
+put64(b, l4 + 1128, 0ull);
+put64(b, l4 + 1144, l4 + 1304ull);
+put64(b, l4 + 1160, 0ull);
+put64(b, l4 + 1152, 0ull);
+put64(b, l4 + 1168, l4 + 1304ull);
+put64(b, l4 + 1184, 0ull);
+put64(b, l4 + 1176, 0ull);
+put64(b, l4 + 1192, l4 + 1304ull);
+put64(b, l4 + 1208, 0ull);
+put64(b, l4 + 1200, 0ull);
+fill(b, l4 + 1216ull, 0u, 88u);
+f24(b, l4 + 1216ull, l4 + 528ull, l2);
+if (get8(b, l4 + 1216)) { goto L2; }
+l1 = get64(b, l4 + 1296);
+l5 = get64(b, l4 + 1280);
+l6 = get64(b, l4 + 1256);
+l7 = get64(b, l4 + 1272);
+f371(b, l4 + 8ull, l4 + 1224ull);
+l57 = get8(b, l4 + 9);
+l2 = get8(b, l4 + 8);
+f199(b, l4 + 1232ull);
+if (!l7) { goto L3; }
+rattle_dealloc(b, l6);
+L3:;
+if (!l1) { goto L1; }
+rattle_dealloc(b, l5);
+goto L1;
+L2:;
+l2 = (u32)(get8(b, l4 + 1220) != 0u);
+L1:;
+l58 = 0u;
+if (!(l2 & 255u)) { goto L7; }
+l59 = 0u;
+goto L6;
+L7:;
+l59 = 1u;
+if (!(l57 & 1u)) { goto L6; }
+l7 = get64(b, l4 + 432);
+if (l3 >= l7) { goto L8; }
+l1 = l3 * 120ull;
+l2 = (((u32)l3) << 1) | 1u;
+l8 = l4 + 1232ull;
+l9 = l4 + 1224ull;
+L9:;
+if (get64(b, l4 + 432) <= l3) { goto L5; }
+if (get64(b, get64(b, l4 + 424) + l1) != 186ull) { goto L10; }
+l57 = 0u;
+fill(b, l4 + 1216ull, 0u, 88u);
+f24(b, l4 + 1216ull, l4 + 528ull, l2);
+if (get8(b, l4 + 1216)) { goto L12; }
+l5 = get64(b, l4 + 1296);
+l10 = get64(b, l4 + 1280);
+l11 = get64(b, l4 + 1256);
+l6 = get64(b, l4 + 1272);
+f371(b, l4, l9);
+l57 = get8(b, l4 + 1);
+l59 = get8(b, l4);
+f199(b, l8);
+if (!l6) { goto L13; }
+rattle_dealloc(b, l11);
+L13:;
+if (!l5) { goto L11; }
+rattle_dealloc(b, l10);
+goto L11;
+L12:;
+l59 = (u32)(get8(b, l4 + 1220) != 0u);
+L11:;
+l58 = 0u;
+if (!(l59 & 255u)) { goto L14; }
+l59 = 0u;
+goto L6;
+L14:;
+l59 = 1u;
+if (!(l57 & 1u)) { goto L6; }
+L10:;
+l2 = l2 + 2u;
+l1 = l1 + 120ull;
+l3 = l3 + 1ull;
+if (l7 != l3) { goto L9; }
+L8:;
+l58 = 1u;
+l59 = 1u;
+L6:;
+l10 = get64(b, l4 + 1208);
+l12 = get64(b, l4 + 1192);
+l11 = get64(b, l4 + 1184);
+l13 = get64(b, l4 + 1168);
+l8 = get64(b, l4 + 1160);
+l14 = get64(b, l4 + 1144);
+l9 = get64(b, l4 + 1136);
+l15 = get64(b, l4 + 1120);
+l16 = get64(b, l4 + 1112);
+l17 = get64(b, l4 + 1096);
+l18 = get64(b, l4 + 1088);
+l19 = get64(b, l4 + 1072);
+l20 = get64(b, l4 + 1064);
+l21 = get64(b, l4 + 1048);
+l22 = get64(b, l4 + 1040);
+l1 = get64(b, l4 + 1032);
+l5 = get64(b, l4 + 1024);
+l23 = get64(b, l4 + 1016);
+l24 = get64(b, l4 + 1000);
+l25 = get64(b, l4 + 976);
+l26 = get64(b, l4 + 960);
+l27 = get64(b, l4 + 952);
+l28 = get64(b, l4 + 936);
+l29 = get64(b, l4 + 928);
+l30 = get64(b, l4 + 912);
+l31 = get64(b, l4 + 904);
+l32 = get64(b, l4 + 888);
+l33 = get64(b, l4 + 880);
+l34 = get64(b, l4 + 864);
+l35 = get64(b, l4 + 856);
+l7 = get64(b, l4 + 848);
+l6 = get64(b, l4 + 840);
+l3 = get64(b, l4 + 832);
+l36 = get64(b, l4 + 816);
+l37 = get64(b, l4 + 792);
+l38 = get64(b, l4 + 776);
+l39 = get64(b, l4 + 768);
+l40 = get64(b, l4 + 752);
+l41 = get64(b, l4 + 744);
+l42 = get64(b, l4 + 728);
+l43 = get64(b, l4 + 720);
+l44 = get64(b, l4 + 704);
+l45 = get64(b, l4 + 696);
+l46 = get64(b, l4 + 680);
+l47 = get64(b, l4 + 672);
+l48 = get64(b, l4 + 656);
+l49 = get64(b, l4 + 648);
+l50 = get64(b, l4 + 632);
+l51 = get64(b, l4 + 624);
+l52 = get64(b, l4 + 608);
+l53 = get64(b, l4 + 600);
+l54 = get64(b, l4 + 584);
+l55 = get64(b, l4 + 576);
+l56 = get64(b, l4 + 560);
+if (!get64(b, l4 + 552)) { goto L15; }
+rattle_dealloc(b, get64(b, l4 + 536));
+L15:;
+if (!l55) { goto L16; }
+rattle_dealloc(b, l56);
+L16:;
+if (!l53) { goto L17; }
+rattle_dealloc(b, l54);
+L17:;
+if (!l51) { goto L18; }
+rattle_dealloc(b, l52);
+L18:;
+if (!l49) { goto L19; }
+rattle_dealloc(b, l50);
+L19:;
+if (!l47) { goto L20; }
+rattle_dealloc(b, l48);
+L20:;
+if (!l45) { goto L21; }
+rattle_dealloc(b, l46);
+L21:;
+if (!l43) { goto L22; }
+rattle_dealloc(b, l44);
+L22:;
+if (!l41) { goto L23; }
+rattle_dealloc(b, l42);
+L23:;
+if (!l39) { goto L24; }
+rattle_dealloc(b, l40);
+L24:;
+if (!l37) { goto L25; }
+rattle_dealloc(b, l38);
+L25:;
+if (!l3) { goto L26; }
+rattle_dealloc(b, l36);
+L26:;
+if (!l7) { goto L27; }
+l3 = l6 + 24ull;
+L28:;
+if (!get64(b, l3)) { goto L29; }
+rattle_dealloc(b, get64(b, l3 + 18446744073709551600ull));
+L29:;
+l3 = l3 + 32ull;
+l7 = l7 + 18446744073709551615ull;
+if (l7 != 0ull) { goto L28; }
+L27:;
+if (!l35) { goto L30; }
+rattle_dealloc(b, l6);
+L30:;
+if (!l33) { goto L31; }
+rattle_dealloc(b, l34);
+L31:;
+if (!l31) { goto L32; }
+rattle_dealloc(b, l32);
+L32:;
+if (!l29) { goto L33; }
+rattle_dealloc(b, l30);
+L33:;
+if (!l27) { goto L34; }
+rattle_dealloc(b, l28);
+L34:;
+if (!l25) { goto L35; }
+rattle_dealloc(b, l26);
+L35:;
+if (!l23) { goto L36; }
+rattle_dealloc(b, l24);
+L36:;
+if (!l1) { goto L37; }
+l3 = l5 + 24ull;
+L38:;
+if (!get64(b, l3)) { goto L39; }
+rattle_dealloc(b, get64(b, l3 + 18446744073709551600ull));
+L39:;
+l3 = l3 + 32ull;
+l1 = l1 + 18446744073709551615ull;
+if (l1 != 0ull) { goto L38; }
+L37:;
+if (!l22) { goto L40; }
+rattle_dealloc(b, l5);
+L40:;
+if (!l20) { goto L41; }
+rattle_dealloc(b, l21);
+L41:;
+if (!l18) { goto L42; }
+rattle_dealloc(b, l19);
+L42:;
+if (!l16) { goto L43; }
+rattle_dealloc(b, l17);
+L43:;
+if (!l9) { goto L44; }
+rattle_dealloc(b, l15);
+L44:;
+if (!l8) { goto L45; }
+rattle_dealloc(b, l14);
+L45:;
+if (!l11) { goto L46; }
+rattle_dealloc(b, l13);
+L46:;
+if (!l10) { goto L47; }
+rattle_dealloc(b, l12);
+L47:;
+if (!l59) { goto L49; }
+if (l58) { goto L48; }
+put64(b, l4 + 16, get64(b, l4 + 392));
+put64(b, l4 + 24, get64(b, l4 + 400));
+put64(b, l4 + 32, get64(b, l4 + 408));
+put64(b, l4 + 40, get64(b, l4 + 416));
+l5 = get64(b, l4 + 464);
+l1 = get64(b, l4 + 456);
+l7 = get64(b, l4 + 448);
+l3 = get64(b, l4 + 440);
+l6 = get64(b, l4 + 424);
+if (!get64(b, l4 + 384)) { goto L50; }
+rattle_dealloc(b, get64(b, l4 + 368));
+L50:;
+f202(b, l4 + 24ull);
+if (!l3) { goto L51; }
+rattle_dealloc(b, l6);
+L51:;
+if (!l1) { goto L52; }
+l3 = l7;
+L53:;
+put64(b, l4 + 544, get64(b, l3 + 16));
+put64(b, l4 + 536, get64(b, l3 + 8));
+put64(b, l4 + 528, get64(b, l3));
+l3 = l3 + 24ull;
+f202(b, l4 + 528ull);
+l1 = l1 + 18446744073709551615ull;
+if (l1 != 0ull) { goto L53; }
+L52:;
+if (!l5) { goto L54; }
+rattle_dealloc(b, l7);
+L54:;
+l5 = get64(b, l4 + 496);
+l7 = get64(b, l4 + 480);
+l1 = get64(b, l4 + 488);
+if (!l1) { goto L55; }
+l3 = l7;
+L56:;
+copy(b, l4 + 528ull, l3, 152u);
+l3 = l3 + 152ull;
+f196(b, l4 + 528ull);
+l1 = l1 + 18446744073709551615ull;
+if (l1 != 0ull) { goto L56; }
+L55:;
+if (!l5) { goto L57; }
+rattle_dealloc(b, l7);
+L57:;
+if (!get64(b, l4 + 520)) { goto L58; }
+rattle_dealloc(b, get64(b, l4 + 504));
+L58:;
+put8(b, l0, 0u);
+put64(b, l0 + 8ull, 0ull);
+copy(b, l0 + 16ull, l4 + 208ull, 160u);
+goto L4;
+L49:;
+put64(b, l4 + 16, get64(b, l4 + 392));
+put64(b, l4 + 24, get64(b, l4 + 400));
+put64(b, l4 + 32, get64(b, l4 + 408));
+put64(b, l4 + 40, get64(b, l4 + 416));
+l5 = get64(b, l4 + 464);
+l1 = get64(b, l4 + 456);
+l7 = get64(b, l4 + 448);
+l3 = get64(b, l4 + 440);
+l6 = get64(b, l4 + 424);
+if (!get64(b, l4 + 384)) { goto L59; }
+rattle_dealloc(b, get64(b, l4 + 368));
+L59:;
+f202(b, l4 + 24ull);
+if (!l3) { goto L60; }
+rattle_dealloc(b, l6);
+L60:;
+if (!l1) { goto L61; }
+l3 = l7;
+L62:;
+put64(b, l4 + 544, get64(b, l3 + 16));
+put64(b, l4 + 536, get64(b, l3 + 8));
+put64(b, l4 + 528, get64(b, l3));
+l3 = l3 + 24ull;
+f202(b, l4 + 528ull);
+l1 = l1 + 18446744073709551615ull;
+if (l1 != 0ull) { goto L62; }
+L61:;
+if (!l5) { goto L63; }
+rattle_dealloc(b, l7);
+L63:;
+l5 = get64(b, l4 + 496);
+l7 = get64(b, l4 + 480);
+l1 = get64(b, l4 + 488);
+if (!l1) { goto L64; }
+l3 = l7;
+L65:;
+copy(b, l4 + 528ull, l3, 152u);
+l3 = l3 + 152ull;
+f196(b, l4 + 528ull);
+l1 = l1 + 18446744073709551615ull;
+if (l1 != 0ull) { goto L65; }
+L64:;
+if (!l5) { goto L66; }
+rattle_dealloc(b, l7);
+L66:;
+if (!get64(b, l4 + 520)) { goto L67; }
+rattle_dealloc(b, get64(b, l4 + 504));
+L67:;
+put8(b, l0, 1u);
+fill(b, l0 + 8ull, 0u, 168u);
+goto L4;
+L48:;
+copy(b, l4 + 48ull, l4 + 368ull, 112u);
+put64(b, l0 + 8ull, 1ull);
+put8(b, l0, 0u);
+put64(b, l4 + 176, get64(b, l4 + 496));
+put64(b, l4 + 168, get64(b, l4 + 488));
+put64(b, l4 + 160, get64(b, l4 + 480));
+put64(b, l4 + 184, get64(b, l4 + 504));
+put64(b, l4 + 192, get64(b, l4 + 512));
+put64(b, l4 + 200, get64(b, l4 + 520));
+copy(b, l0 + 16ull, l4 + 48ull, 160u);
+goto L4;
+L5:;
+abort();
+L4:;
+SP = l4 + 1312ull;
+}
+
+FN void f202(B b, u64 l0) {
 u32 l7 = 0;
 u64 l1 = 0, l2 = 0, l3 = 0, l4 = 0, l5 = 0, l6 = 0;
 l1 = get64(b, l0 + 16);
@@ -38846,7 +39546,7 @@ rattle_dealloc(b, l2);
 L8:;
 }
 
-FN u32 f202(B b, u64 l0) {
+FN u32 f203(B b, u64 l0) {
 u32 l6 = 0;
 u64 l1 = 0, l2 = 0, l3 = 0, l4 = 0, l5 = 0;
 l1 = SP - 32ull;
@@ -38878,7 +39578,7 @@ SP = l1 + 32ull;
 return l6;
 }
 
-FN u32 f203(B b, u64 l0) {
+FN u32 f204(B b, u64 l0) {
 u32 l6 = 0;
 u64 l1 = 0, l2 = 0, l3 = 0, l4 = 0, l5 = 0;
 l1 = SP - 32ull;
@@ -38910,7 +39610,7 @@ SP = l1 + 32ull;
 return l6;
 }
 
-FN u32 f204(B b, u64 l0, u64 l1) {
+FN u32 f205(B b, u64 l0, u64 l1) {
 u32 l13 = 0, t0, t1, t2, t3, t4;
 u64 l2 = 0, l3 = 0, l4 = 0, l5 = 0, l6 = 0, l7 = 0, l8 = 0, l9 = 0, l10 = 0, l11 = 0, l12 = 0;
 l2 = SP - 96ull;
@@ -38950,7 +39650,7 @@ l1 = get64(b, l1 + 16ull);
 l4 = get64(b, l1);
 l1 = get64(b, l1 + 8ull);
 L7:;
-t0 = f222(b, l2 + 24ull, l4, l1);
+t0 = f223(b, l2 + 24ull, l4, l1);
 if (!(t0 & 255u)) { goto L3; }
 goto L2;
 L5:;
@@ -38966,7 +39666,7 @@ l6 = l2 + 95ull;
 l7 = get64(b, l2 + 40);
 l1 = get64(b, l2 + 32);
 if (l7 != l1) { goto L14; }
-t1 = f223(b, l2 + 24ull, 1ull);
+t1 = f224(b, l2 + 24ull, 1ull);
 if (!t1) { goto L2; }
 l7 = get64(b, l2 + 40);
 l6 = get64(b, l2 + 24);
@@ -38976,7 +39676,7 @@ put8(b, l6 + l1, 72u);
 l8 = l1 + 1ull;
 put64(b, l2 + 32, l8);
 if (l3 <= (l7 - l8)) { goto L15; }
-t2 = f223(b, l2 + 24ull, l3);
+t2 = f224(b, l2 + 24ull, l3);
 if (!t2) { goto L2; }
 l6 = get64(b, l2 + 24);
 l7 = get64(b, l2 + 40);
@@ -39024,11 +39724,11 @@ put64(b, l2 + 64, 0ull);
 put64(b, l2 + 56, 0ull);
 put64(b, l2 + 48, 0ull);
 f161(b, l2 + 8ull, l2 + 48ull, get64(b, l1 + 8ull));
-t3 = f222(b, l2 + 24ull, get64(b, l2 + 8), get64(b, l2 + 16));
+t3 = f223(b, l2 + 24ull, get64(b, l2 + 8), get64(b, l2 + 16));
 if (t3 & 255u) { goto L2; }
 L3:;
 l1 = get64(b, l2 + 24);
-t4 = f219(b, l0, l1, get64(b, l2 + 32));
+t4 = f220(b, l0, l1, get64(b, l2 + 32));
 l13 = t4 & 255u;
 if (!get64(b, l2 + 40)) { goto L1; }
 rattle_dealloc(b, l1);
@@ -39042,7 +39742,7 @@ SP = l2 + 96ull;
 return l13;
 }
 
-FN void f205(B b, u64 l0) {
+FN void f206(B b, u64 l0) {
 u32 l23 = 0, l24 = 0;
 u64 l1 = 0, l2 = 0, l3 = 0, l4 = 0, l5 = 0, l6 = 0, l7 = 0, l8 = 0, l9 = 0, l10 = 0, l11 = 0, l12 = 0, l13 = 0, l14 = 0, l15 = 0, l16 = 0, l17 = 0, l18 = 0, l19 = 0, l20 = 0, l21 = 0, l22 = 0;
 l1 = SP - 80ull;
@@ -39104,7 +39804,7 @@ if (!l14) { goto L8; }
 l16 = l2 + (l12 << 3);
 copy(b, l16, l16 + 8ull, l14);
 L8:;
-f205(b, l11);
+f206(b, l11);
 l21 = get64(b, l0 + 24ull);
 l22 = get64(b, l0 + 8ull);
 l15 = 0ull;
@@ -39273,10 +39973,10 @@ if (!l14) { goto L29; }
 l16 = l2 + (l12 << 3);
 copy(b, l16, l16 + 8ull, l14);
 L29:;
-f205(b, l6);
+f206(b, l6);
 goto L1;
 L2:;
-f224(b, l1);
+f225(b, l1);
 if (!(l24 & 65535u)) { goto L1; }
 l14 = l5 * 24ull;
 L30:;
@@ -39291,7 +39991,7 @@ rattle_dealloc(b, l0);
 SP = l1 + 80ull;
 }
 
-FN void f206(B b, u64 l0, u64 l1, u64 l2) {
+FN void f207(B b, u64 l0, u64 l1, u64 l2) {
 u64 l3 = 0, l4 = 0, l5 = 0, l6 = 0, l7 = 0, l8 = 0, l9 = 0, l10 = 0, l11 = 0, l12 = 0, l13 = 0, l14 = 0;
 l3 = SP;
 l4 = l0 + 8ull;
@@ -39434,7 +40134,7 @@ put64(b, l0 + 8ull, l5 + 1ull);
 put64(b, l0, l11);
 }
 
-FN void f207(B b, u64 l0, u64 l1, u32 l2) {
+FN void f208(B b, u64 l0, u64 l1, u32 l2) {
 u32 l13 = 0;
 u64 l3 = 0, l4 = 0, l5 = 0, l6 = 0, l7 = 0, l8 = 0, l9 = 0, l10 = 0, l11 = 0, l12 = 0;
 l3 = l0 + 8ull;
@@ -39531,7 +40231,7 @@ put64(b, l0 + 8ull, l4 + 1ull);
 put64(b, l0, l6);
 }
 
-FN void f208(B b, u64 l0, u64 l1, u64 l2) {
+FN void f209(B b, u64 l0, u64 l1, u64 l2) {
 u64 l3 = 0, l4 = 0, l5 = 0, l6 = 0, l7 = 0, l8 = 0, l9 = 0, l10 = 0, l11 = 0, l12 = 0, l13 = 0, l14 = 0, l15 = 0;
 l3 = l0 + 8ull;
 l4 = get64(b, l3);
@@ -39633,7 +40333,7 @@ put64(b, l0 + 8ull, l4 + 1ull);
 put64(b, l0, l6);
 }
 
-FN u32 f209(B b, u64 l0) {
+FN u32 f210(B b, u64 l0) {
 u32 l6 = 0;
 u64 l1 = 0, l2 = 0, l3 = 0, l4 = 0, l5 = 0;
 l1 = SP - 32ull;
@@ -39665,7 +40365,7 @@ SP = l1 + 32ull;
 return l6;
 }
 
-FN void f210(B b, u64 l0, u64 l1, u64 l2) {
+FN void f211(B b, u64 l0, u64 l1, u64 l2) {
 u32 l6 = 0, t0;
 u64 l3 = 0, l4 = 0, l5 = 0;
 l3 = SP - 48ull;
@@ -39724,7 +40424,7 @@ L1:;
 SP = l3 + 48ull;
 }
 
-FN void f211(B b, u64 l0, u64 l1, u64 l2, u64 l3) {
+FN void f212(B b, u64 l0, u64 l1, u64 l2, u64 l3) {
 u32 l20 = 0, l21 = 0, l22 = 0, l23 = 0, t0, t1, t2, t3, t4, t5, t6, t7, t8, t9, t10, t11;
 u64 l4 = 0, l5 = 0, l6 = 0, l7 = 0, l8 = 0, l9 = 0, l10 = 0, l11 = 0, l12 = 0, l13 = 0, l14 = 0, l15 = 0, l16 = 0, l17 = 0, l18 = 0, l19 = 0;
 l4 = SP - 464ull;
@@ -39769,7 +40469,7 @@ l8 = 0ull;
 L13:;
 l6 = get64(b, l2 + (l8 << 3));
 if (get64(b, l4 + 240) != l5) { goto L14; }
-t0 = f226(b, l4 + 224ull);
+t0 = f227(b, l4 + 224ull);
 if (!t0) { goto L11; }
 l5 = get64(b, l4 + 232);
 L14:;
@@ -39804,7 +40504,7 @@ l12 = get64(b, l4 + 200) + l12;
 if (get8(b, l12)) { goto L17; }
 put8(b, l12, 1u);
 if (get64(b, l4 + 240) != l5) { goto L19; }
-t1 = f226(b, l4 + 224ull);
+t1 = f227(b, l4 + 224ull);
 if (!t1) { goto L6; }
 l5 = get64(b, l4 + 232);
 l7 = l5 + 1ull;
@@ -39862,7 +40562,7 @@ if (!(u32)(!get64(b, l11 + 40ull))) { goto L26; }
 l5 = l7;
 goto L17;
 L26:;
-f227(b, l4 + 272ull, l1, l6);
+f228(b, l4 + 272ull, l1, l6);
 if (get8(b, l4 + 272)) { goto L6; }
 if (get8(b, l4 + 280) == 1u) { goto L28; }
 l5 = l7;
@@ -39878,7 +40578,7 @@ if (get8(b, l5)) { goto L33; }
 if (get8(b, l5 + 8ull) != 1u) { goto L33; }
 l12 = get64(b, l5 + 16ull);
 if (get64(b, l4 + 240) != l7) { goto L34; }
-t2 = f226(b, l4 + 224ull);
+t2 = f227(b, l4 + 224ull);
 if (!t2) { goto L30; }
 l10 = get64(b, l4 + 224);
 l7 = get64(b, l4 + 232);
@@ -39907,7 +40607,7 @@ goto L17;
 L18:;
 l7 = get64(b, l4 + 256);
 if (get64(b, l4 + 264) != l7) { goto L35; }
-t3 = f228(b, l4 + 248ull);
+t3 = f229(b, l4 + 248ull);
 if (!t3) { goto L6; }
 l5 = get64(b, l4 + 232);
 l7 = get64(b, l4 + 256);
@@ -39987,7 +40687,7 @@ put64(b, l4 + 352, 0ull);
 put64(b, l4 + 360, 0ull);
 put64(b, l4 + 368, 0ull);
 put64(b, l4 + 376, 0ull);
-f227(b, l4 + 200ull, l1, l5);
+f228(b, l4 + 200ull, l1, l5);
 if (get8(b, l4 + 200)) { goto L50; }
 if (get8(b, l4 + 208) != 1u) { goto L61; }
 l17 = get64(b, l4 + 248);
@@ -40004,7 +40704,7 @@ put64(b, l4 + 288, 0ull);
 put64(b, l4 + 280, 0ull);
 put64(b, l4 + 272, 0ull);
 f161(b, l4 + 72ull, l4 + 272ull, l6);
-t4 = f219(b, l4 + 408ull, get64(b, l4 + 72), get64(b, l4 + 80));
+t4 = f220(b, l4 + 408ull, get64(b, l4 + 72), get64(b, l4 + 80));
 if (t4 & 255u) { goto L59; }
 put64(b, l4 + 304, 0ull);
 put64(b, l4 + 296, 0ull);
@@ -40012,7 +40712,7 @@ put64(b, l4 + 288, 0ull);
 put64(b, l4 + 280, 0ull);
 put64(b, l4 + 272, 0ull);
 f161(b, l4 + 56ull, l4 + 272ull, l19);
-t5 = f219(b, l4 + 408ull, get64(b, l4 + 56), get64(b, l4 + 64));
+t5 = f220(b, l4 + 408ull, get64(b, l4 + 56), get64(b, l4 + 64));
 if (t5 & 255u) { goto L62; }
 if (!l12) { goto L64; }
 l6 = l18;
@@ -40037,7 +40737,7 @@ l19 = get64(b, l4 + 416);
 if (get64(b, l4 + 424) != l19) { goto L73; }
 l20 = 1u;
 l22 = 1u;
-t6 = f229(b, l4 + 408ull, 1ull);
+t6 = f230(b, l4 + 408ull, 1ull);
 if (!t6) { goto L67; }
 l19 = get64(b, l4 + 416);
 L73:;
@@ -40048,14 +40748,14 @@ put64(b, l4 + 296, 0ull);
 put64(b, l4 + 288, 0ull);
 put64(b, l4 + 280, 0ull);
 put64(b, l4 + 272, 0ull);
-f230(b, l4 + 40ull, l4 + 272ull, l23);
-t7 = f219(b, l4 + 408ull, get64(b, l4 + 40), get64(b, l4 + 48));
+f231(b, l4 + 40ull, l4 + 272ull, l23);
+t7 = f220(b, l4 + 408ull, get64(b, l4 + 40), get64(b, l4 + 48));
 l20 = t7 & 255u;
 goto L68;
 L72:;
 l19 = get64(b, l4 + 416);
 if (get64(b, l4 + 424) != l19) { goto L74; }
-t8 = f229(b, l4 + 408ull, 1ull);
+t8 = f230(b, l4 + 408ull, 1ull);
 if (t8) { goto L75; }
 l6 = get64(b, l4 + 424);
 goto L60;
@@ -40069,11 +40769,11 @@ L70:;
 put64(b, l16, 0ull);
 put64(b, l16 + 8, 0ull);
 put64(b, l4 + 432, 1ull);
-t9 = f204(b, l4 + 408ull, l4 + 432ull);
+t9 = f205(b, l4 + 408ull, l4 + 432ull);
 l20 = t9 & 255u;
 goto L68;
 L69:;
-t10 = f204(b, l4 + 408ull, get64(b, l6 + 8ull));
+t10 = f205(b, l4 + 408ull, get64(b, l6 + 8ull));
 l20 = t10 & 255u;
 L68:;
 l22 = l20;
@@ -40112,7 +40812,7 @@ put64(b, l4 + 392, 0ull);
 put64(b, l4 + 384, 0ull);
 goto L58;
 L61:;
-f231(b, l4 + 352ull, l5);
+f232(b, l4 + 352ull, l5);
 if (get8(b, l4 + 352)) { goto L50; }
 put64(b, l4 + 344, get64(b, l13 + 16));
 put64(b, l4 + 336, get64(b, l13 + 8));
@@ -40149,7 +40849,7 @@ l20 = 1u;
 l22 = 0u;
 goto L55;
 L56:;
-f213(b, l4 + 32ull, l4 + 176ull, l4 + 328ull);
+f214(b, l4 + 32ull, l4 + 176ull, l4 + 328ull);
 if (get8(b, l4 + 32)) { goto L50; }
 l20 = 2u;
 l22 = get32(b, l4 + 36);
@@ -40177,7 +40877,7 @@ put64(b, l4 + 224, 0ull);
 put64(b, l4 + 216, 0ull);
 put64(b, l4 + 208, 0ull);
 put64(b, l4 + 200, 0ull);
-f227(b, l4 + 200ull, l1, l7);
+f228(b, l4 + 200ull, l1, l7);
 if (get8(b, l4 + 200)) { goto L49; }
 if (get8(b, l4 + 208) != 1u) { goto L48; }
 l13 = get64(b, l4 + 232);
@@ -40227,7 +40927,7 @@ put64(b, l4 + 352, l4 + 456ull);
 goto L46;
 L50:;
 if (get8(b, l4 + 176) != 1u) { goto L90; }
-f232(b, get64(b, l4 + 184));
+f233(b, get64(b, l4 + 184));
 L90:;
 if (l21) { goto L91; }
 rattle_dealloc(b, l10);
@@ -40236,14 +40936,14 @@ if (!(u32)(!l15)) { goto L7; }
 goto L2;
 L49:;
 if (get8(b, l4 + 176) != 1u) { goto L92; }
-f232(b, get64(b, l4 + 184));
+f233(b, get64(b, l4 + 184));
 L92:;
 rattle_dealloc(b, l10);
 if (!(u32)(!l15)) { goto L7; }
 goto L2;
 L48:;
 if (get8(b, l4 + 176) != 1u) { goto L93; }
-f232(b, get64(b, l4 + 184));
+f233(b, get64(b, l4 + 184));
 L93:;
 if (l21) { goto L94; }
 rattle_dealloc(b, l10);
@@ -40284,14 +40984,14 @@ l11 = (u64)((s64)l5 >> 63) ^ l5;
 if (l11 > 4294967295ull) { goto L97; }
 if ((get64(b, l1 + 64ull) << 1) > l11) { goto L45; }
 L97:;
-f231(b, l4 + 200ull, l5);
+f232(b, l4 + 200ull, l5);
 if (get8(b, l4 + 200)) { goto L45; }
-f213(b, l4 + 8ull, l4 + 120ull, l12);
+f214(b, l4 + 8ull, l4 + 120ull, l12);
 if (get8(b, l4 + 8)) { goto L45; }
 l20 = get32(b, l4 + 12);
 L96:;
 if (get64(b, l4 + 368) != l6) { goto L100; }
-t11 = f233(b, l4 + 352ull);
+t11 = f234(b, l4 + 352ull);
 if (!t11) { goto L44; }
 l7 = get64(b, l4 + 352);
 l6 = get64(b, l4 + 360);
@@ -40336,7 +41036,7 @@ L42:;
 l20 = 1u;
 L41:;
 if (get8(b, l4 + 120) != 1u) { goto L103; }
-f232(b, get64(b, l4 + 128));
+f233(b, get64(b, l4 + 128));
 L103:;
 if (l21) { goto L104; }
 rattle_dealloc(b, l10);
@@ -40369,7 +41069,7 @@ L1:;
 SP = l4 + 464ull;
 }
 
-FN void f212(B b, u64 l0, u64 l1, u64 l2, u64 l3) {
+FN void f213(B b, u64 l0, u64 l1, u64 l2, u64 l3) {
 u32 t0, t1, t2;
 u64 l4 = 0;
 l4 = SP - 32ull;
@@ -40377,11 +41077,11 @@ SP = l4;
 put64(b, l4 + 8, 0ull);
 put64(b, l4 + 16, 0ull);
 put64(b, l4, l4 + 31ull);
-t0 = f218(b, l4, l1, l2, l3);
+t0 = f219(b, l4, l1, l2, l3);
 if (t0 & 255u) { goto L4; }
-t1 = f218(b, l4, l1, l2, l3 + 1ull);
+t1 = f219(b, l4, l1, l2, l3 + 1ull);
 if (t1 & 255u) { goto L3; }
-t2 = f218(b, l4, l1, l2, l3 + 2ull);
+t2 = f219(b, l4, l1, l2, l3 + 2ull);
 if (t2 & 255u) { goto L2; }
 put8(b, l0, 0u);
 put64(b, l0 + 8ull, get64(b, l4));
@@ -40418,7 +41118,7 @@ L1:;
 SP = l4 + 32ull;
 }
 
-FN void f213(B b, u64 l0, u64 l1, u64 l2) {
+FN void f214(B b, u64 l0, u64 l1, u64 l2) {
 u32 l26 = 0, l27 = 0, l28 = 0, l29 = 0;
 u64 l3 = 0, l4 = 0, l5 = 0, l6 = 0, l7 = 0, l8 = 0, l9 = 0, l10 = 0, l11 = 0, l12 = 0, l13 = 0, l14 = 0, l15 = 0, l16 = 0, l17 = 0, l18 = 0, l19 = 0, l20 = 0, l21 = 0, l22 = 0, l23 = 0, l24 = 0, l25 = 0;
 l3 = SP - 352ull;
@@ -40429,13 +41129,13 @@ put64(b, l3 + 136, get64(b, l2));
 l26 = get8(b, l1);
 if (l26 != 1u) { goto L3; }
 l4 = get64(b, l1 + 8ull);
-f235(b, l3 + 120ull, l4, l3 + 136ull);
+f236(b, l3 + 120ull, l4, l3 + 136ull);
 l5 = get64(b, l3 + 128);
 if (!get8(b, l3 + 120)) { goto L4; }
 L5:;
 if (!get16(b, l4 + 2ull)) { goto L3; }
 l4 = get64(b, (l4 + (l5 << 3)) + 432ull);
-f235(b, l3 + 104ull, l4, l3 + 136ull);
+f236(b, l3 + 104ull, l4, l3 + 136ull);
 l5 = get64(b, l3 + 112);
 if (get8(b, l3 + 104)) { goto L5; }
 L4:;
@@ -40467,7 +41167,7 @@ put64(b, l1, 1ull);
 if (l26 == 1u) { goto L1; }
 L8:;
 l26 = (u32)((l4 < 4294967296ull) ? l4 : 4294967296ull);
-f235(b, l3 + 72ull, l6, l3 + 184ull);
+f236(b, l3 + 72ull, l6, l3 + 184ull);
 l7 = l1 + 8ull;
 l27 = get16(b, l6 + 2ull);
 l8 = ((u64)l27) & 65535ull;
@@ -40485,7 +41185,7 @@ l11 = l4;
 l12 = l10;
 l9 = l12 << 3;
 l4 = get64(b, (l11 + l9) + 432ull);
-f235(b, l3 + 56ull, l4, l3 + 184ull);
+f236(b, l3 + 56ull, l4, l3 + 184ull);
 l10 = get64(b, l3 + 64);
 l5 = l10 + (l5 << 4);
 if (!get8(b, l3 + 56)) { goto L17; }
@@ -40756,9 +41456,9 @@ put64(b, l21, l10);
 put64(b, l3 + 224, get64(b, l3 + 248));
 put64(b, l3 + 232, get64(b, l3 + 256));
 put64(b, l3 + 240, get64(b, l3 + 264));
-f206(b, l3 + 272ull, l19, l3 + 224ull);
-f207(b, l15, l19, l29);
-f208(b, l14, l19 + 1ull, l12);
+f207(b, l3 + 272ull, l19, l3 + 224ull);
+f208(b, l15, l19, l29);
+f209(b, l14, l19 + 1ull, l12);
 l11 = get64(b, l3 + 344);
 put16(b, l11, (u32)get64(b, l3 + 280));
 put64(b, l17, l11);
@@ -40802,8 +41502,8 @@ l27 = get16(b, l4 + 2ull);
 put64(b, l3 + 336, l27 ? 16ull : 0ull);
 put64(b, l3 + 328, l27 ? (l2 + 1ull) : 0ull);
 l4 = l5 & 15ull;
-f206(b, l3 + 272ull, l4, l3 + 160ull);
-f207(b, l3 + 296ull, l4, l26);
+f207(b, l3 + 272ull, l4, l3 + 160ull);
+f208(b, l3 + 296ull, l4, l26);
 l4 = get64(b, l3 + 344);
 put16(b, l4, (u32)get64(b, l3 + 280));
 put64(b, l10, l4);
@@ -40840,7 +41540,7 @@ L1:;
 abort();
 }
 
-FN void f214(B b, u64 l0, u32 l1, u32 l2) {
+FN void f215(B b, u64 l0, u32 l1, u32 l2) {
 u32 t0, t1;
 u64 l3 = 0;
 l3 = SP - 144ull;
@@ -40853,16 +41553,16 @@ put64(b, l3 + 88, 0ull);
 put64(b, l3 + 96, 0ull);
 put64(b, l3 + 104, 0ull);
 put64(b, l3 + 112, l3 + 143ull);
-f230(b, l3 + 16ull, l3 + 72ull, l1);
-t0 = f219(b, l3 + 112ull, get64(b, l3 + 16), get64(b, l3 + 24));
+f231(b, l3 + 16ull, l3 + 72ull, l1);
+t0 = f220(b, l3 + 112ull, get64(b, l3 + 16), get64(b, l3 + 24));
 if (t0 & 255u) { goto L3; }
 put64(b, l3 + 64, 0ull);
 put64(b, l3 + 56, 0ull);
 put64(b, l3 + 48, 0ull);
 put64(b, l3 + 40, 0ull);
 put64(b, l3 + 32, 0ull);
-f230(b, l3, l3 + 32ull, l2);
-t1 = f219(b, l3 + 112ull, get64(b, l3), get64(b, l3 + 8));
+f231(b, l3, l3 + 32ull, l2);
+t1 = f220(b, l3 + 112ull, get64(b, l3), get64(b, l3 + 8));
 if (t1 & 255u) { goto L2; }
 put8(b, l0, 0u);
 put64(b, l0 + 8ull, get64(b, l3 + 112));
@@ -40890,7 +41590,7 @@ L1:;
 SP = l3 + 144ull;
 }
 
-FN u32 f215(B b, u64 l0) {
+FN u32 f216(B b, u64 l0) {
 u32 l6 = 0;
 u64 l1 = 0, l2 = 0, l3 = 0, l4 = 0, l5 = 0;
 l1 = SP - 32ull;
@@ -40922,7 +41622,7 @@ SP = l1 + 32ull;
 return l6;
 }
 
-FN u32 f216(B b, u64 l0) {
+FN u32 f217(B b, u64 l0) {
 u32 l6 = 0;
 u64 l1 = 0, l2 = 0, l3 = 0, l4 = 0, l5 = 0;
 l1 = SP - 32ull;
@@ -40954,7 +41654,7 @@ SP = l1 + 32ull;
 return l6;
 }
 
-FN void f217(B b, u64 l0) {
+FN void f218(B b, u64 l0) {
 u32 l23 = 0, l24 = 0;
 u64 l1 = 0, l2 = 0, l3 = 0, l4 = 0, l5 = 0, l6 = 0, l7 = 0, l8 = 0, l9 = 0, l10 = 0, l11 = 0, l12 = 0, l13 = 0, l14 = 0, l15 = 0, l16 = 0, l17 = 0, l18 = 0, l19 = 0, l20 = 0, l21 = 0, l22 = 0;
 l1 = SP - 80ull;
@@ -41016,7 +41716,7 @@ if (!l14) { goto L8; }
 l16 = l2 + (l12 << 3);
 copy(b, l16, l16 + 8ull, l14);
 L8:;
-f217(b, l11);
+f218(b, l11);
 l21 = get64(b, l0 + 24ull);
 l22 = get64(b, l0 + 8ull);
 l15 = 0ull;
@@ -41185,10 +41885,10 @@ if (!l14) { goto L29; }
 l16 = l2 + (l12 << 3);
 copy(b, l16, l16 + 8ull, l14);
 L29:;
-f217(b, l6);
+f218(b, l6);
 goto L1;
 L2:;
-f224(b, l1);
+f225(b, l1);
 if (!(l24 & 65535u)) { goto L1; }
 l14 = l5 * 24ull;
 L30:;
@@ -41203,7 +41903,7 @@ rattle_dealloc(b, l0);
 SP = l1 + 80ull;
 }
 
-FN u32 f218(B b, u64 l0, u64 l1, u64 l2, u64 l3) {
+FN u32 f219(B b, u64 l0, u64 l1, u64 l2, u64 l3) {
 u32 l7 = 0, t0, t1, t2;
 u64 l4 = 0, l5 = 0, l6 = 0;
 l4 = SP - 32ull;
@@ -41220,28 +41920,28 @@ if (!get64(b, get64(b, l1 + 56ull) + (l2 * 120ull))) { goto L2; }
 if (get64(b, l1 + 88ull) <= l2) { goto L2; }
 l2 = get64(b, l1 + 80ull) + (l2 * 24ull);
 if (get64(b, l2 + 8ull) <= l3) { goto L3; }
-t0 = f204(b, l0, get64(b, l2) + (l3 * 24ull));
+t0 = f205(b, l0, get64(b, l2) + (l3 * 24ull));
 l7 = t0 & 255u;
 goto L1;
 L3:;
 put64(b, l4 + 24, 0ull);
 put64(b, l4 + 16, 0ull);
 put64(b, l4 + 8, 0ull);
-t1 = f204(b, l0, l4 + 8ull);
+t1 = f205(b, l0, l4 + 8ull);
 l7 = t1 & 255u;
 goto L1;
 L2:;
 put64(b, l4 + 24, 0ull);
 put64(b, l4 + 16, 0ull);
 put64(b, l4 + 8, 0ull);
-t2 = f204(b, l0, l4 + 8ull);
+t2 = f205(b, l0, l4 + 8ull);
 l7 = t2 & 255u;
 L1:;
 SP = l4 + 32ull;
 return l7;
 }
 
-FN u32 f219(B b, u64 l0, u64 l1, u64 l2) {
+FN u32 f220(B b, u64 l0, u64 l1, u64 l2) {
 u32 l6 = 0, l7 = 0, t0, t1, t2;
 u64 l3 = 0, l4 = 0, l5 = 0;
 if (l2 != 0ull) { goto L3; }
@@ -41252,7 +41952,7 @@ l3 = get64(b, l0 + 8ull);
 L4:;
 l4 = l0 + 16ull;
 if (get64(b, l4) != l3) { goto L5; }
-t0 = f223(b, l0, 1ull);
+t0 = f224(b, l0, 1ull);
 if (t0) { goto L6; }
 return 1u;
 L6:;
@@ -41265,7 +41965,7 @@ l3 = l3 + 1ull;
 put64(b, l5, l3);
 l7 = get8(b, l1);
 if (get64(b, l4) != l3) { goto L7; }
-t1 = f223(b, l0, 1ull);
+t1 = f224(b, l0, 1ull);
 if (!t1) { goto L1; }
 l3 = get64(b, l0 + 8ull);
 L7:;
@@ -41277,7 +41977,7 @@ l2 = l2 + 18446744073709551615ull;
 if (l2 != 0ull) { goto L4; }
 L2:;
 if (get64(b, l0 + 16ull) != l3) { goto L8; }
-t2 = f223(b, l0, 1ull);
+t2 = f224(b, l0, 1ull);
 if (t2) { goto L9; }
 return 1u;
 L9:;
@@ -41290,7 +41990,7 @@ L1:;
 return l6;
 }
 
-FN void f220(B b, u64 l0, u64 l1, u64 l2, u64 l3, u64 l4) {
+FN void f221(B b, u64 l0, u64 l1, u64 l2, u64 l3, u64 l4) {
 u32 t0;
 u64 l5 = 0;
 l5 = SP - 32ull;
@@ -41300,7 +42000,7 @@ put64(b, l5 + 16, 0ull);
 put64(b, l5, l5 + 31ull);
 if (l3 >= l4) { goto L2; }
 L4:;
-t0 = f218(b, l5, l1, l2, l3);
+t0 = f219(b, l5, l1, l2, l3);
 if (t0 & 255u) { goto L3; }
 l3 = l3 + 1ull;
 if (l4 == l3) { goto L2; }
@@ -41323,7 +42023,7 @@ L1:;
 SP = l5 + 32ull;
 }
 
-FN u32 f221(B b, u64 l0) {
+FN u32 f222(B b, u64 l0) {
 u32 l6 = 0;
 u64 l1 = 0, l2 = 0, l3 = 0, l4 = 0, l5 = 0;
 l1 = SP - 32ull;
@@ -41355,7 +42055,7 @@ SP = l1 + 32ull;
 return l6;
 }
 
-FN u32 f222(B b, u64 l0, u64 l1, u64 l2) {
+FN u32 f223(B b, u64 l0, u64 l1, u64 l2) {
 u32 l19 = 0, l20 = 0, l21 = 0, t0, t1, t2, t3, t4, t5, t6, t7, t8, t9, t10, t11;
 u64 l3 = 0, l4 = 0, l5 = 0, l6 = 0, l7 = 0, l8 = 0, l9 = 0, l10 = 0, l11 = 0, l12 = 0, l13 = 0, l14 = 0, l15 = 0, l16 = 0, l17 = 0, l18 = 0;
 l3 = SP - 80ull;
@@ -41457,7 +42157,7 @@ l8 = l0 + 16ull;
 l7 = l0 + 8ull;
 l6 = get64(b, l7);
 if (get64(b, l8) != l6) { goto L19; }
-t0 = f223(b, l0, 1ull);
+t0 = f224(b, l0, 1ull);
 if (t0) { goto L20; }
 l20 = 1u;
 goto L16;
@@ -41469,7 +42169,7 @@ l9 = l6 + 1ull;
 put64(b, l7, l9);
 l12 = get64(b, l8);
 if (l2 <= (l12 - l9)) { goto L21; }
-t1 = f223(b, l0, l2);
+t1 = f224(b, l0, l2);
 if (t1) { goto L22; }
 l20 = 1u;
 goto L16;
@@ -41596,7 +42296,7 @@ if ((l5 | l7) != 0ull) { goto L43; }
 l20 = (u32)(l11 == l6);
 L45:;
 if (!l20) { goto L47; }
-t2 = f223(b, l0, 1ull);
+t2 = f224(b, l0, 1ull);
 if (t2) { goto L48; }
 l20 = 1u;
 goto L16;
@@ -41608,7 +42308,7 @@ put64(b, l0 + 8ull, l6 + 1ull);
 goto L17;
 L44:;
 if (l11 != l6) { goto L49; }
-t3 = f223(b, l0, 1ull);
+t3 = f224(b, l0, 1ull);
 if (t3) { goto L50; }
 l20 = 1u;
 goto L16;
@@ -41620,7 +42320,7 @@ l16 = l6 + 1ull;
 put64(b, l0 + 8ull, l16);
 l17 = get64(b, l0 + 16ull);
 if (l7 <= (l17 - l16)) { goto L51; }
-t4 = f223(b, l0, l7);
+t4 = f224(b, l0, l7);
 if (t4) { goto L52; }
 l20 = 1u;
 goto L16;
@@ -41661,7 +42361,7 @@ copy(b, l2, l4, l7);
 goto L42;
 L43:;
 if (l11 != l6) { goto L57; }
-t5 = f223(b, l0, 1ull);
+t5 = f224(b, l0, 1ull);
 if (t5) { goto L58; }
 l20 = 1u;
 goto L16;
@@ -41673,7 +42373,7 @@ l16 = l6 + 1ull;
 put64(b, l0 + 8ull, l16);
 l17 = get64(b, l0 + 16ull);
 if (l7 <= (l17 - l16)) { goto L59; }
-t6 = f223(b, l0, l7);
+t6 = f224(b, l0, l7);
 if (t6) { goto L60; }
 l20 = 1u;
 goto L16;
@@ -41717,7 +42417,7 @@ put64(b, l0 + 16ull, l17);
 l1 = l16 + l7;
 put64(b, l0 + 8ull, l1);
 if (l5 <= (l17 - l1)) { goto L65; }
-t7 = f223(b, l0, l5);
+t7 = f224(b, l0, l5);
 if (t7) { goto L66; }
 l20 = 1u;
 goto L16;
@@ -41774,7 +42474,7 @@ f47(b, l3 + 8ull, l3 + 40ull, l14 + 13835058055282163712ull);
 l7 = get64(b, l3 + 16);
 l10 = get64(b, l3 + 8);
 if (l17 != l9) { goto L73; }
-t8 = f223(b, l0, 1ull);
+t8 = f224(b, l0, 1ull);
 if (t8) { goto L74; }
 l20 = 1u;
 goto L16;
@@ -41787,7 +42487,7 @@ l5 = l9 + 1ull;
 put64(b, l12, l5);
 l2 = get64(b, l15);
 if (l7 <= (l2 - l5)) { goto L75; }
-t9 = f223(b, l0, l7);
+t9 = f224(b, l0, l7);
 if (t9) { goto L76; }
 l20 = 1u;
 goto L16;
@@ -41839,7 +42539,7 @@ f47(b, l3 + 24ull, l3 + 40ull, 4611686018427387904ull - l14);
 l7 = get64(b, l3 + 32);
 l10 = get64(b, l3 + 24);
 if (l17 != l9) { goto L82; }
-t10 = f223(b, l0, 1ull);
+t10 = f224(b, l0, 1ull);
 if (t10) { goto L83; }
 l20 = 1u;
 goto L16;
@@ -41852,7 +42552,7 @@ l5 = l9 + 1ull;
 put64(b, l12, l5);
 l2 = get64(b, l15);
 if (l7 <= (l2 - l5)) { goto L84; }
-t11 = f223(b, l0, l7);
+t11 = f224(b, l0, l7);
 if (t11) { goto L85; }
 l20 = 1u;
 goto L16;
@@ -41905,7 +42605,7 @@ SP = l3 + 80ull;
 return l20;
 }
 
-FN u32 f223(B b, u64 l0, u64 l1) {
+FN u32 f224(B b, u64 l0, u64 l1) {
 u32 l6 = 0;
 u64 l2 = 0, l3 = 0, l4 = 0, l5 = 0;
 l2 = SP - 32ull;
@@ -41938,7 +42638,7 @@ SP = l2 + 32ull;
 return l6;
 }
 
-FN void f224(B b, u64 l0) {
+FN void f225(B b, u64 l0) {
 u32 l10 = 0;
 u64 l1 = 0, l2 = 0, l3 = 0, l4 = 0, l5 = 0, l6 = 0, l7 = 0, l8 = 0, l9 = 0;
 l1 = SP - 32ull;
@@ -42151,7 +42851,7 @@ put64(b, l3 + 16, l4);
 goto L1;
 L2:;
 l5 = l3 >> 1;
-f225(b, l2, l2 + ((l3 - l5) * 24ull), l5);
+f226(b, l2, l2 + ((l3 - l5) * 24ull), l5);
 L1:;
 l2 = get64(b, l0 + 24ull);
 l0 = get64(b, l0 + 32ull);
@@ -42259,7 +42959,7 @@ L15:;
 SP = l1 + 32ull;
 }
 
-FN void f225(B b, u64 l0, u64 l1, u64 l2) {
+FN void f226(B b, u64 l0, u64 l1, u64 l2) {
 u64 l3 = 0, l4 = 0, l5 = 0, l6 = 0;
 l1 = ((l2 * 24ull) + l1) + 18446744073709551592ull;
 L1:;
@@ -42280,7 +42980,7 @@ l2 = l2 + 18446744073709551615ull;
 if (l2 != 0ull) { goto L1; }
 }
 
-FN u32 f226(B b, u64 l0) {
+FN u32 f227(B b, u64 l0) {
 u32 l6 = 0;
 u64 l1 = 0, l2 = 0, l3 = 0, l4 = 0, l5 = 0;
 l1 = SP - 32ull;
@@ -42312,7 +43012,7 @@ SP = l1 + 32ull;
 return l6;
 }
 
-FN void f227(B b, u64 l0, u64 l1, u64 l2) {
+FN void f228(B b, u64 l0, u64 l1, u64 l2) {
 u32 l22 = 0, l23 = 0, l24 = 0, t0, t1;
 u64 l3 = 0, l4 = 0, l5 = 0, l6 = 0, l7 = 0, l8 = 0, l9 = 0, l10 = 0, l11 = 0, l12 = 0, l13 = 0, l14 = 0, l15 = 0, l16 = 0, l17 = 0, l18 = 0, l19 = 0, l20 = 0, l21 = 0;
 l3 = SP - 192ull;
@@ -42441,7 +43141,7 @@ put64(b, l3 + 168, 0ull);
 put64(b, l3 + 176, 0ull);
 l2 = get64(b, l4 + 40ull);
 put64(b, l3 + 160, l3 + 184ull);
-t0 = f234(b, l3 + 160ull);
+t0 = f235(b, l3 + 160ull);
 if (!t0) { goto L25; }
 l19 = get64(b, l3 + 160);
 l4 = get64(b, l3 + 168);
@@ -42526,7 +43226,7 @@ l18 = 0ull;
 l4 = l22 ? 0ull : l2;
 L39:;
 if (get64(b, l3 + 176) != l16) { goto L42; }
-t1 = f234(b, l3 + 160ull);
+t1 = f235(b, l3 + 160ull);
 if (!t1) { goto L24; }
 l19 = get64(b, l3 + 160);
 l16 = get64(b, l3 + 168);
@@ -42619,7 +43319,7 @@ L1:;
 SP = l3 + 192ull;
 }
 
-FN u32 f228(B b, u64 l0) {
+FN u32 f229(B b, u64 l0) {
 u32 l6 = 0;
 u64 l1 = 0, l2 = 0, l3 = 0, l4 = 0, l5 = 0;
 l1 = SP - 32ull;
@@ -42651,7 +43351,7 @@ SP = l1 + 32ull;
 return l6;
 }
 
-FN u32 f229(B b, u64 l0, u64 l1) {
+FN u32 f230(B b, u64 l0, u64 l1) {
 u32 l6 = 0;
 u64 l2 = 0, l3 = 0, l4 = 0, l5 = 0;
 l2 = SP - 32ull;
@@ -42684,7 +43384,7 @@ SP = l2 + 32ull;
 return l6;
 }
 
-FN void f230(B b, u64 l0, u64 l1, u32 l2) {
+FN void f231(B b, u64 l0, u64 l1, u32 l2) {
 u32 l7 = 0, t0;
 u64 l3 = 0, l4 = 0, l5 = 0, l6 = 0;
 l3 = (u64)l2;
@@ -42728,7 +43428,7 @@ put64(b, l0 + 8, 40ull - l4);
 put64(b, l0, l1 + l4);
 }
 
-FN void f231(B b, u64 l0, u64 l1) {
+FN void f232(B b, u64 l0, u64 l1) {
 u32 l13 = 0, t0, t1;
 u64 l2 = 0, l3 = 0, l4 = 0, l5 = 0, l6 = 0, l7 = 0, l8 = 0, l9 = 0, l10 = 0, l11 = 0, l12 = 0;
 l2 = SP - 96ull;
@@ -42736,7 +43436,7 @@ SP = l2;
 put64(b, l2 + 72, 0ull);
 put64(b, l2 + 80, 0ull);
 put64(b, l2 + 64, l2 + 95ull);
-t0 = f229(b, l2 + 64ull, 1ull);
+t0 = f230(b, l2 + 64ull, 1ull);
 l13 = t0;
 l3 = get64(b, l2 + 80);
 if (!l13) { goto L4; }
@@ -42754,7 +43454,7 @@ f161(b, l2 + 8ull, l2 + 24ull, l1);
 l7 = get64(b, l2 + 8);
 l1 = get64(b, l2 + 16);
 if (l1 <= (l3 - l6)) { goto L5; }
-t1 = f229(b, l2 + 64ull, l1);
+t1 = f230(b, l2 + 64ull, l1);
 if (!t1) { goto L3; }
 l4 = get64(b, l2 + 64);
 l3 = get64(b, l2 + 80);
@@ -42821,7 +43521,7 @@ L1:;
 SP = l2 + 96ull;
 }
 
-FN void f232(B b, u64 l0) {
+FN void f233(B b, u64 l0) {
 u32 l23 = 0, l24 = 0;
 u64 l1 = 0, l2 = 0, l3 = 0, l4 = 0, l5 = 0, l6 = 0, l7 = 0, l8 = 0, l9 = 0, l10 = 0, l11 = 0, l12 = 0, l13 = 0, l14 = 0, l15 = 0, l16 = 0, l17 = 0, l18 = 0, l19 = 0, l20 = 0, l21 = 0, l22 = 0;
 l1 = SP - 80ull;
@@ -42883,7 +43583,7 @@ if (!l14) { goto L8; }
 l16 = l2 + (l12 << 3);
 copy(b, l16, l16 + 8ull, l14);
 L8:;
-f232(b, l11);
+f233(b, l11);
 l21 = get64(b, l0 + 24ull);
 l22 = get64(b, l0 + 8ull);
 l15 = 0ull;
@@ -43052,10 +43752,10 @@ if (!l14) { goto L29; }
 l16 = l2 + (l12 << 3);
 copy(b, l16, l16 + 8ull, l14);
 L29:;
-f232(b, l6);
+f233(b, l6);
 goto L1;
 L2:;
-f224(b, l1);
+f225(b, l1);
 if (!(l24 & 65535u)) { goto L1; }
 l14 = l5 * 24ull;
 L30:;
@@ -43070,7 +43770,7 @@ rattle_dealloc(b, l0);
 SP = l1 + 80ull;
 }
 
-FN u32 f233(B b, u64 l0) {
+FN u32 f234(B b, u64 l0) {
 u32 l6 = 0;
 u64 l1 = 0, l2 = 0, l3 = 0, l4 = 0, l5 = 0;
 l1 = SP - 32ull;
@@ -43102,7 +43802,7 @@ SP = l1 + 32ull;
 return l6;
 }
 
-FN u32 f234(B b, u64 l0) {
+FN u32 f235(B b, u64 l0) {
 u32 l6 = 0;
 u64 l1 = 0, l2 = 0, l3 = 0, l4 = 0, l5 = 0;
 l1 = SP - 32ull;
@@ -43134,7 +43834,7 @@ SP = l1 + 32ull;
 return l6;
 }
 
-FN void f235(B b, u64 l0, u64 l1, u64 l2) {
+FN void f236(B b, u64 l0, u64 l1, u64 l2) {
 u32 l3 = 0, l4 = 0, l5 = 0;
 u64 l6 = 0, l7 = 0, l8 = 0, l9 = 0, l10 = 0, l11 = 0, l12 = 0, l13 = 0, l14 = 0, l15 = 0, l16 = 0, l17 = 0, l18 = 0;
 l3 = 1u;
@@ -43212,7 +43912,7 @@ put64(b, l0 + 8, l7);
 put8(b, l0, l3);
 }
 
-FN u32 f236(B b, u64 l0) {
+FN u32 f237(B b, u64 l0) {
 u32 l6 = 0;
 u64 l1 = 0, l2 = 0, l3 = 0, l4 = 0, l5 = 0;
 l1 = SP - 32ull;
@@ -43244,7 +43944,7 @@ SP = l1 + 32ull;
 return l6;
 }
 
-FN u32 f237(B b, u64 l0) {
+FN u32 f238(B b, u64 l0) {
 u32 l6 = 0;
 u64 l1 = 0, l2 = 0, l3 = 0, l4 = 0, l5 = 0;
 l1 = SP - 32ull;
@@ -43276,7 +43976,7 @@ SP = l1 + 32ull;
 return l6;
 }
 
-FN u32 f238(B b, u64 l0) {
+FN u32 f239(B b, u64 l0) {
 u32 l6 = 0;
 u64 l1 = 0, l2 = 0, l3 = 0, l4 = 0, l5 = 0;
 l1 = SP - 32ull;
@@ -43308,7 +44008,7 @@ SP = l1 + 32ull;
 return l6;
 }
 
-FN void f239(B b, u64 l0, u64 l1, u64 l2, u64 l3) {
+FN void f240(B b, u64 l0, u64 l1, u64 l2, u64 l3) {
 u32 l11 = 0, l12 = 0, l13 = 0, t0;
 u64 l4 = 0, l5 = 0, l6 = 0, l7 = 0, l8 = 0, l9 = 0, l10 = 0;
 l4 = SP - 32ull;
@@ -43415,7 +44115,7 @@ L1:;
 SP = l4 + 32ull;
 }
 
-FN u32 f240(B b, u64 l0) {
+FN u32 f241(B b, u64 l0) {
 u32 l6 = 0;
 u64 l1 = 0, l2 = 0, l3 = 0, l4 = 0, l5 = 0;
 l1 = SP - 32ull;
@@ -43447,7 +44147,7 @@ SP = l1 + 32ull;
 return l6;
 }
 
-FN void f241(B b, u64 l0, u64 l1, u64 l2) {
+FN void f242(B b, u64 l0, u64 l1, u64 l2) {
 u32 l9 = 0, t0;
 u64 l3 = 0, l4 = 0, l5 = 0, l6 = 0, l7 = 0, l8 = 0;
 l3 = SP - 32ull;
@@ -43498,7 +44198,7 @@ L1:;
 abort();
 }
 
-FN void f242(B b, u64 l0, u64 l1, u64 l2, u64 l3) {
+FN void f243(B b, u64 l0, u64 l1, u64 l2, u64 l3) {
 u32 l50 = 0, l51 = 0, l52 = 0, l53 = 0, l54 = 0, l55 = 0, l56 = 0, l57 = 0, l58 = 0, l59 = 0, l60 = 0, l61 = 0, l62 = 0, l63 = 0, l64 = 0, l65 = 0, l66 = 0, l67 = 0, t0, t1, t2, t3, t4, t5, t6, t7, t8, t9, t10, t11, t12, t13, t14, t15, t16, t17, t18, t19, t20, t21, t22, t23, t24, t25, t26, t27, t28, t29, t30, t31, t32, t33;
 u64 l4 = 0, l5 = 0, l6 = 0, l7 = 0, l8 = 0, l9 = 0, l10 = 0, l11 = 0, l12 = 0, l13 = 0, l14 = 0, l15 = 0, l16 = 0, l17 = 0, l18 = 0, l19 = 0, l20 = 0, l21 = 0, l22 = 0, l23 = 0, l24 = 0, l25 = 0, l26 = 0, l27 = 0, l28 = 0, l29 = 0, l30 = 0, l31 = 0, l32 = 0, l33 = 0, l34 = 0, l35 = 0, l36 = 0, l37 = 0, l38 = 0, l39 = 0, l40 = 0, l41 = 0, l42 = 0, l43 = 0, l44 = 0, l45 = 0, l46 = 0, l47 = 0, l48 = 0, l49 = 0;
 l4 = SP - 2656ull;
@@ -43767,7 +44467,7 @@ l13 = get64(b, l4 + 2464);
 l8 = get64(b, l4 + 2440);
 l12 = l8;
 if (get64(b, l4 + 2448) != l8) { goto L35; }
-t0 = f243(b, l4 + 2432ull);
+t0 = f244(b, l4 + 2432ull);
 if (!t0) { goto L34; }
 l12 = get64(b, l4 + 2440);
 L35:;
@@ -43801,7 +44501,7 @@ l12 = get64(b, l4 + 2488);
 l3 = get64(b, l4 + 2464);
 l8 = l3;
 if (get64(b, l4 + 2472) != l3) { goto L42; }
-t1 = f244(b, l4 + 2456ull);
+t1 = f245(b, l4 + 2456ull);
 if (!t1) { goto L41; }
 l8 = get64(b, l4 + 2464);
 L42:;
@@ -43895,7 +44595,7 @@ l53 = (u32)((l3 < 4294967295ull) ? l3 : 4294967295ull);
 L45:;
 l8 = get64(b, l4 + 2488);
 if (get64(b, l4 + 2496) != l8) { goto L61; }
-t2 = f245(b, l4 + 2480ull, 1ull);
+t2 = f246(b, l4 + 2480ull, 1ull);
 if (!t2) { goto L60; }
 l8 = get64(b, l4 + 2488);
 L61:;
@@ -43915,7 +44615,7 @@ put8(b, l4 + 503, 1u);
 L59:;
 l3 = get64(b, l4 + 2512);
 if (get64(b, l4 + 2520) != l3) { goto L64; }
-t3 = f246(b, l4 + 2504ull, 1ull);
+t3 = f247(b, l4 + 2504ull, 1ull);
 if (!t3) { goto L63; }
 l3 = get64(b, l4 + 2512);
 L64:;
@@ -43928,7 +44628,7 @@ put8(b, l4 + 503, 1u);
 L62:;
 l3 = get64(b, l4 + 2536);
 if (get64(b, l4 + 2544) != l3) { goto L67; }
-t4 = f246(b, l4 + 2528ull, 1ull);
+t4 = f247(b, l4 + 2528ull, 1ull);
 if (!t4) { goto L66; }
 l3 = get64(b, l4 + 2536);
 L67:;
@@ -44101,7 +44801,7 @@ put64(b, l4 + 1232, get64(b, l4 + 1016));
 l8 = get64(b, l4 + 1696);
 if (get64(b, l4 + 1704) != l8) { goto L94; }
 l52 = 1u;
-t5 = f247(b, l4 + 1688ull);
+t5 = f248(b, l4 + 1688ull);
 if (!t5) { goto L93; }
 l8 = get64(b, l4 + 1696);
 L94:;
@@ -44166,7 +44866,7 @@ L100:;
 l8 = get64(b, l4 + 1696);
 if (get64(b, l4 + 1704) != l8) { goto L102; }
 l53 = 1u;
-t6 = f248(b, l4 + 1688ull);
+t6 = f249(b, l4 + 1688ull);
 if (!t6) { goto L101; }
 l8 = get64(b, l4 + 1696);
 L102:;
@@ -44240,7 +44940,7 @@ L108:;
 l11 = get64(b, l4 + 1128);
 if (get64(b, l4 + 1136) != l11) { goto L112; }
 l53 = 1u;
-t7 = f249(b, l4 + 1120ull);
+t7 = f250(b, l4 + 1120ull);
 if (!t7) { goto L111; }
 l11 = get64(b, l4 + 1128);
 L112:;
@@ -44260,7 +44960,7 @@ if (l13 != l12) { goto L107; }
 put8(b, l4 + 503, l53);
 L103:;
 l58 = (u32)((l13 < 4294967295ull) ? l13 : 4294967295ull);
-f250(b, l4 + 1688ull, l4 + 503ull, l4 + 1120ull, l58);
+f251(b, l4 + 1688ull, l4 + 503ull, l4 + 1120ull, l58);
 put64(b, l4 + 1560, get64(b, l4 + 1704));
 put64(b, l4 + 1552, get64(b, l4 + 1696));
 put64(b, l4 + 1544, get64(b, l4 + 1688));
@@ -44300,7 +45000,7 @@ l53 = get32(b, l3);
 l11 = get64(b, l4 + 1128);
 if (get64(b, l4 + 1136) != l11) { goto L119; }
 l55 = 1u;
-t8 = f249(b, l4 + 1120ull);
+t8 = f250(b, l4 + 1120ull);
 if (!t8) { goto L118; }
 l11 = get64(b, l4 + 1128);
 L119:;
@@ -44318,7 +45018,7 @@ l8 = l8 + 1ull;
 if (l13 != l8) { goto L117; }
 put8(b, l4 + 503, l55);
 L113:;
-f250(b, l4 + 1688ull, l4 + 503ull, l4 + 1120ull, l58);
+f251(b, l4 + 1688ull, l4 + 503ull, l4 + 1120ull, l58);
 put64(b, l4 + 1304, get64(b, l4 + 1704));
 put64(b, l4 + 1296, get64(b, l4 + 1696));
 put64(b, l4 + 1288, get64(b, l4 + 1688));
@@ -44370,7 +45070,7 @@ L125:;
 l11 = get64(b, l4 + 1128);
 if (get64(b, l4 + 1136) != l11) { goto L128; }
 l52 = 1u;
-t9 = f249(b, l4 + 1120ull);
+t9 = f250(b, l4 + 1120ull);
 if (!t9) { goto L127; }
 l11 = get64(b, l4 + 1128);
 L128:;
@@ -44388,7 +45088,7 @@ l3 = l3 + 1ull;
 if (l13 != l3) { goto L124; }
 put8(b, l4 + 503, l52);
 L120:;
-f250(b, l4 + 1688ull, l4 + 503ull, l4 + 1120ull, l58);
+f251(b, l4 + 1688ull, l4 + 503ull, l4 + 1120ull, l58);
 put64(b, l4 + 1846, get64(b, l4 + 2432));
 put64(b, l4 + 1854, get64(b, l4 + 2440));
 l3 = get64(b, l4 + 2448);
@@ -44553,7 +45253,7 @@ L135:;
 l12 = get64(b, l4 + 2440);
 if (get64(b, l4 + 2448) != l12) { goto L140; }
 l53 = 1u;
-t10 = f251(b, l4 + 2432ull);
+t10 = f252(b, l4 + 2432ull);
 if (!t10) { goto L139; }
 l12 = get64(b, l4 + 2440);
 L140:;
@@ -44570,7 +45270,7 @@ L132:;
 put64(b, l4 + 1856, get64(b, l4 + 2448));
 put64(b, l4 + 1848, get64(b, l4 + 2440));
 put64(b, l4 + 1840, get64(b, l4 + 2432));
-f252(b, l4 + 2272ull, l4 + 503ull, l4 + 1840ull, l58);
+f253(b, l4 + 2272ull, l4 + 503ull, l4 + 1840ull, l58);
 l24 = get64(b, l4 + 2288);
 l10 = get64(b, l4 + 2280);
 l23 = get64(b, l4 + 2272);
@@ -44619,7 +45319,7 @@ L147:;
 l12 = get64(b, l4 + 2064);
 if (get64(b, l4 + 2072) != l12) { goto L149; }
 l59 = 1u;
-t11 = f249(b, l4 + 2056ull);
+t11 = f250(b, l4 + 2056ull);
 if (!t11) { goto L148; }
 l12 = get64(b, l4 + 2064);
 L149:;
@@ -44639,7 +45339,7 @@ l3 = l3 + 1ull;
 if (l14 != l3) { goto L145; }
 put8(b, l4 + 503, l59);
 L141:;
-f250(b, l4 + 2432ull, l4 + 503ull, l4 + 2056ull, (u32)l14);
+f251(b, l4 + 2432ull, l4 + 503ull, l4 + 2056ull, (u32)l14);
 l26 = get64(b, l4 + 2448);
 l21 = get64(b, l4 + 2440);
 l22 = get64(b, l4 + 2432);
@@ -44651,7 +45351,7 @@ put64(b, l4 + 2432, l4 + 2648ull);
 l10 = l4 + 2648ull;
 if (!l3) { goto L150; }
 l3 = (l3 < 4294967295ull) ? l3 : 4294967295ull;
-t12 = f253(b, l4 + 2432ull, l3);
+t12 = f254(b, l4 + 2432ull, l3);
 if (!t12) { goto L151; }
 l10 = get64(b, l4 + 2432);
 l8 = get64(b, l4 + 2440);
@@ -44689,7 +45389,7 @@ put64(b, l4 + 2448, 0ull);
 put64(b, l4 + 2440, 0ull);
 put64(b, l4 + 2432, l4 + 2648ull);
 if (!l18) { goto L159; }
-t13 = f246(b, l4 + 2432ull, l20);
+t13 = f247(b, l4 + 2432ull, l20);
 if (!t13) { goto L161; }
 l11 = get64(b, l4 + 2432);
 l3 = get64(b, l4 + 2440);
@@ -44708,7 +45408,7 @@ l16 = get64(b, l4 + 2448);
 put64(b, l4 + 2448, 0ull);
 put64(b, l4 + 2440, 0ull);
 put64(b, l4 + 2432, l4 + 2648ull);
-t14 = f246(b, l4 + 2432ull, l20);
+t14 = f247(b, l4 + 2432ull, l20);
 if (!t14) { goto L158; }
 l18 = get64(b, l4 + 2432);
 l3 = get64(b, l4 + 2440);
@@ -44817,7 +45517,7 @@ l10 = l4 + 2648ull;
 l12 = 0ull;
 l11 = 0ull;
 if (!l8) { goto L174; }
-t15 = f245(b, l4 + 1664ull, l8);
+t15 = f246(b, l4 + 1664ull, l8);
 if (!t15) { goto L172; }
 l3 = get64(b, l4 + 1672);
 l12 = l3 + l8;
@@ -44884,7 +45584,7 @@ put64(b, l4 + 1672, 0ull);
 put64(b, l4 + 1664, l4 + 2648ull);
 if (!l3) { goto L178; }
 l3 = (l3 < 4294967295ull) ? l3 : 4294967295ull;
-t16 = f253(b, l4 + 1664ull, l3);
+t16 = f254(b, l4 + 1664ull, l3);
 if (!t16) { goto L179; }
 l8 = get64(b, l4 + 1672);
 l12 = l8 + l3;
@@ -44932,7 +45632,7 @@ l55 = get8(b, l3);
 l8 = get64(b, l4 + 1672);
 if (get64(b, l4 + 1680) != l8) { goto L187; }
 l52 = 1u;
-t17 = f253(b, l4 + 1664ull, 1ull);
+t17 = f254(b, l4 + 1664ull, 1ull);
 if (!t17) { goto L186; }
 l8 = get64(b, l4 + 1672);
 L187:;
@@ -44954,7 +45654,7 @@ put64(b, l4 + 1656, 0ull);
 put64(b, l4 + 1640, l4 + 2648ull);
 if (!l13) { goto L188; }
 l3 = (l13 < 4294967295ull) ? l13 : 4294967295ull;
-t18 = f246(b, l4 + 1640ull, l3);
+t18 = f247(b, l4 + 1640ull, l3);
 if (!t18) { goto L189; }
 l8 = get64(b, l4 + 1648);
 l12 = l8 + l3;
@@ -45003,7 +45703,7 @@ l59 = get32(b, l3);
 l13 = get64(b, l4 + 1672);
 if (get64(b, l4 + 1680) != l13) { goto L197; }
 l52 = 1u;
-t19 = f254(b, l4 + 1664ull, 1ull);
+t19 = f255(b, l4 + 1664ull, 1ull);
 if (!t19) { goto L196; }
 l13 = get64(b, l4 + 1672);
 L197:;
@@ -45055,7 +45755,7 @@ L202:;
 l8 = get64(b, l4 + 1672);
 if (get64(b, l4 + 1680) != l8) { goto L204; }
 l52 = 1u;
-t20 = f255(b, l4 + 1664ull, 1ull);
+t20 = f256(b, l4 + 1664ull, 1ull);
 if (!t20) { goto L203; }
 l8 = get64(b, l4 + 1672);
 L204:;
@@ -45116,9 +45816,9 @@ put64(b, l4 + 2640, 0ull);
 put16(b, l4 + 2637, get16(b, l4 + 1228));
 put8(b, l4 + 2639, get8(b, l4 + 1230));
 put64(b, l4 + 2608, l4 + 2648ull);
-f256(b, l4 + 1120ull, l4 + 503ull, l4 + 768ull, l4 + 2432ull);
+f257(b, l4 + 1120ull, l4 + 503ull, l4 + 768ull, l4 + 2432ull);
 copy(b, l4 + 2272ull, l4 + 1120ull, 104u);
-f257(b, l4 + 503ull, l4 + 768ull, l4 + 2432ull, l4 + 2272ull, l4 + 728ull);
+f258(b, l4 + 503ull, l4 + 768ull, l4 + 2432ull, l4 + 2272ull, l4 + 728ull);
 if (get8(b, l4 + 764)) { goto L207; }
 if (get32(b, l4 + 760) < 24u) { goto L206; }
 L207:;
@@ -45165,7 +45865,7 @@ put64(b, l4 + 1512, l4 + 2648ull);
 l20 = l4 + 2648ull;
 if (!l3) { goto L217; }
 l3 = (l3 < 4294967295ull) ? l3 : 4294967295ull;
-t21 = f246(b, l4 + 1512ull, l3);
+t21 = f247(b, l4 + 1512ull, l3);
 if (!t21) { goto L218; }
 l20 = get64(b, l4 + 1512);
 l8 = get64(b, l4 + 1520);
@@ -45215,7 +45915,7 @@ l23 = l4 + 1520ull;
 put64(b, l23 + 8, 0ull);
 put64(b, l23, 0ull);
 put64(b, l4 + 1512, l4 + 2648ull);
-t22 = f246(b, l4 + 1512ull, l24);
+t22 = f247(b, l4 + 1512ull, l24);
 if (!t22) { goto L226; }
 l14 = get64(b, l4 + 1512);
 l3 = get64(b, l4 + 1520);
@@ -45273,7 +45973,7 @@ if (l52 == l53) { goto L235; }
 l8 = get64(b, l4 + 1520);
 if (get64(b, l4 + 1528) != l8) { goto L236; }
 l52 = 1u;
-t23 = f246(b, l4 + 1512ull, 1ull);
+t23 = f247(b, l4 + 1512ull, 1ull);
 if (!t23) { goto L234; }
 l8 = get64(b, l4 + 1520);
 L236:;
@@ -45293,7 +45993,7 @@ put32(b, l4 + 1568, 1u);
 put64(b, l4 + 1560, l3);
 put64(b, l4 + 1552, l13);
 put64(b, l4 + 1544, l8);
-f258(b, l4 + 503ull, l4 + 1664ull, l4 + 1544ull);
+f259(b, l4 + 503ull, l4 + 1664ull, l4 + 1544ull);
 goto L237;
 L238:;
 if (!l3) { goto L237; }
@@ -45305,7 +46005,7 @@ L239:;
 put64(b, l23 + 8, 0ull);
 put64(b, l23, 0ull);
 put64(b, l4 + 1512, l4 + 2648ull);
-t24 = f246(b, l4 + 1512ull, l24);
+t24 = f247(b, l4 + 1512ull, l24);
 if (t24) { goto L241; }
 put8(b, l4 + 503, 1u);
 l13 = get64(b, l4 + 1520);
@@ -45373,7 +46073,7 @@ if (l52 == l53) { goto L252; }
 l8 = get64(b, l4 + 1520);
 if (get64(b, l4 + 1528) != l8) { goto L253; }
 l52 = 1u;
-t25 = f246(b, l4 + 1512ull, 1ull);
+t25 = f247(b, l4 + 1512ull, 1ull);
 if (!t25) { goto L251; }
 l8 = get64(b, l4 + 1520);
 L253:;
@@ -45393,7 +46093,7 @@ put32(b, l4 + 1568, 1u);
 put64(b, l4 + 1560, l3);
 put64(b, l4 + 1552, l12);
 put64(b, l4 + 1544, l8);
-f258(b, l4 + 503ull, l4 + 1664ull, l4 + 1544ull);
+f259(b, l4 + 503ull, l4 + 1664ull, l4 + 1544ull);
 goto L254;
 L255:;
 if (!l3) { goto L254; }
@@ -45413,7 +46113,7 @@ l21 = 0ull;
 L259:;
 if (get8(b, l4 + 764)) { goto L258; }
 if (get32(b, l4 + 760) > 23u) { goto L258; }
-f259(b, l4 + 1840ull, l4 + 503ull, l4 + 2432ull);
+f260(b, l4 + 1840ull, l4 + 503ull, l4 + 2432ull);
 copy(b, l4 + 2056ull, l4 + 1840ull, 216u);
 l8 = l22 + (l21 << 5);
 l3 = get64(b, l8 + 8ull);
@@ -45447,9 +46147,9 @@ L260:;
 l52 = get32(b, l8 + 24ull);
 l53 = l52 + get32(b, l4 + 2256);
 put32(b, l4 + 2256, (l53 < l52) ? 4294967295u : l53);
-f260(b, l4 + 1016ull, l4 + 503ull, l4 + 768ull, l4 + 2056ull, l4 + 2272ull);
+f261(b, l4 + 1016ull, l4 + 503ull, l4 + 768ull, l4 + 2056ull, l4 + 2272ull);
 copy(b, l4 + 1688ull, l4 + 1016ull, 104u);
-f257(b, l4 + 503ull, l4 + 768ull, l4 + 2056ull, l4 + 1688ull, l4 + 728ull);
+f258(b, l4 + 503ull, l4 + 768ull, l4 + 2056ull, l4 + 1688ull, l4 + 728ull);
 if (!get64(b, l4 + 1704)) { goto L265; }
 rattle_dealloc(b, get64(b, l4 + 1688));
 L265:;
@@ -45536,7 +46236,7 @@ l14 = get64(b, l4 + 736);
 l10 = get64(b, l4 + 752);
 l12 = get64(b, l4 + 744);
 fill(b, l4 + 1840ull, 0u, 216u);
-f261(b, l4 + 1840ull, l4 + 503ull, get64(b, l4 + 904), get64(b, l4 + 928));
+f262(b, l4 + 1840ull, l4 + 503ull, get64(b, l4 + 904), get64(b, l4 + 928));
 copy(b, l4 + 2056ull, l4 + 1840ull, 216u);
 put64(b, l4 + 1024, 0ull);
 put64(b, l4 + 1032, 0ull);
@@ -45562,8 +46262,8 @@ copy(b, l4 + 1688ull, l8, 152u);
 goto L292;
 L293:;
 copy(b, l4 + 2432ull, l8, 216u);
-f262(b, l4 + 1120ull, l4 + 503ull, l4 + 768ull, l4 + 2432ull, l4 + 2056ull);
-f263(b, l4 + 2272ull, l4 + 503ull, l4 + 768ull, l4 + 2056ull, l4 + 2432ull, l4 + 1120ull, l59);
+f263(b, l4 + 1120ull, l4 + 503ull, l4 + 768ull, l4 + 2432ull, l4 + 2056ull);
+f264(b, l4 + 2272ull, l4 + 503ull, l4 + 768ull, l4 + 2056ull, l4 + 2432ull, l4 + 1120ull, l59);
 if (!get64(b, l4 + 2448)) { goto L294; }
 rattle_dealloc(b, get64(b, l4 + 2432));
 L294:;
@@ -45594,7 +46294,7 @@ if (l52 != 1u) { goto L291; }
 L292:;
 l13 = get64(b, l4 + 1024);
 if (get64(b, l4 + 1032) != l13) { goto L303; }
-t26 = f264(b, l4 + 1016ull);
+t26 = f265(b, l4 + 1016ull);
 if (!t26) { goto L302; }
 l13 = get64(b, l4 + 1024);
 L303:;
@@ -45607,7 +46307,7 @@ put8(b, l8 + 159, 0u);
 put64(b, l4 + 1024, l13 + 1ull);
 goto L291;
 L302:;
-f265(b, l4 + 1688ull);
+f266(b, l4 + 1688ull);
 put8(b, l4 + 503, 1u);
 L291:;
 l3 = l3 + 240ull;
@@ -45649,7 +46349,7 @@ put64(b, l4 + 2432, l4 + 2648ull);
 l59 = (u32)(!l20);
 if (l59) { goto L313; }
 l3 = (l20 < 4294967295ull) ? l20 : 4294967295ull;
-t27 = f253(b, l4 + 2432ull, l3);
+t27 = f254(b, l4 + 2432ull, l3);
 if (!t27) { goto L315; }
 l16 = get64(b, l4 + 2432);
 l8 = get64(b, l4 + 2440);
@@ -45680,11 +46380,11 @@ put64(b, l4 + 2448, 0ull);
 put64(b, l4 + 2056, 0ull);
 put64(b, l4 + 2064, 0ull);
 put64(b, l4 + 2072, 0ull);
-f266(b, l4 + 2432ull, l4 + 503ull, l12, l3, l18, l17);
+f267(b, l4 + 2432ull, l4 + 503ull, l12, l3, l18, l17);
 l22 = get64(b, l4 + 2448);
 l13 = get64(b, l4 + 2432);
 l3 = get64(b, l4 + 2440);
-f266(b, l4 + 2056ull, l4 + 503ull, get64(b, l8 + 8ull), get64(b, l8 + 16ull), l18, l17);
+f267(b, l4 + 2056ull, l4 + 503ull, get64(b, l8 + 8ull), get64(b, l8 + 16ull), l18, l17);
 l23 = get64(b, l4 + 2072);
 l11 = get64(b, l4 + 2056);
 if (l3 != get64(b, l4 + 2064)) { goto L325; }
@@ -45826,7 +46526,7 @@ l3 = l21;
 L351:;
 copy(b, l4 + 768ull, l3, 152u);
 l3 = l3 + 160ull;
-f265(b, l4 + 768ull);
+f266(b, l4 + 768ull);
 l20 = l20 + 18446744073709551615ull;
 if (l20 != 0ull) { goto L351; }
 L350:;
@@ -46549,7 +47249,7 @@ l3 = l15 + (l24 << 5);
 l14 = get64(b, l3 + 8ull);
 l3 = get64(b, l3 + 16ull);
 if (l3 <= (l19 - l11)) { goto L466; }
-t28 = f267(b, l4 + 2432ull, l3);
+t28 = f268(b, l4 + 2432ull, l3);
 if (!t28) { goto L462; }
 l25 = get64(b, l4 + 2432);
 l19 = get64(b, l4 + 2448);
@@ -46911,7 +47611,7 @@ if (get8(b, l3)) { goto L516; }
 if (!(get8(b, l3 + 4ull) & 1u)) { goto L516; }
 l52 = get32(b, l3 + 8ull);
 if (get64(b, l4 + 784) != l13) { goto L517; }
-t29 = f268(b, l4 + 768ull);
+t29 = f269(b, l4 + 768ull);
 if (!t29) { goto L401; }
 l12 = get64(b, l4 + 768);
 l13 = get64(b, l4 + 776);
@@ -46939,7 +47639,7 @@ if (!get8(b, l3)) { goto L519; }
 if (!(get8(b, l3 + 4ull) & 1u)) { goto L519; }
 l52 = get32(b, l3 + 8ull);
 if (get64(b, l4 + 2448) != l8) { goto L520; }
-t30 = f268(b, l4 + 2432ull);
+t30 = f269(b, l4 + 2432ull);
 if (!t30) { goto L400; }
 l12 = get64(b, l4 + 2432);
 l8 = get64(b, l4 + 2440);
@@ -46967,7 +47667,7 @@ if (!(get8(b, l3 + 18446744073709551604ull) & 1u)) { goto L523; }
 l55 = get32(b, l3 + 18446744073709551608ull);
 l8 = get64(b, l4 + 2064);
 if (get64(b, l4 + 2072) != l8) { goto L524; }
-t31 = f268(b, l4 + 2056ull);
+t31 = f269(b, l4 + 2056ull);
 if (!t31) { goto L399; }
 l8 = get64(b, l4 + 2064);
 L524:;
@@ -46977,7 +47677,7 @@ L523:;
 if (!(l52 & 1u)) { goto L525; }
 l8 = get64(b, l4 + 2064);
 if (get64(b, l4 + 2072) != l8) { goto L526; }
-t32 = f268(b, l4 + 2056ull);
+t32 = f269(b, l4 + 2056ull);
 if (!t32) { goto L399; }
 l8 = get64(b, l4 + 2064);
 L526:;
@@ -47154,7 +47854,7 @@ put64(b, l4 + 776, 0ull);
 put64(b, l4 + 768, 0ull);
 l3 = (u64)get32(b, l4 + 288);
 if (get64(b, l1 + 16ull) <= l3) { goto L356; }
-f269(b, l4 + 768ull, l1, l4 + 288ull, get8(b, (get64(b, l1 + 8ull) + (l3 << 5)) + 4ull));
+f270(b, l4 + 768ull, l1, l4 + 288ull, get8(b, (get64(b, l1 + 8ull) + (l3 << 5)) + 4ull));
 if (get8(b, l4 + 768)) { goto L2; }
 l53 = 1u;
 if ((get8(b, l4 + 776) & 255u) != 1u) { goto L356; }
@@ -47180,7 +47880,7 @@ put32(b, l4 + 771, 0u);
 put32(b, l4 + 768, 0u);
 l3 = get64(b, l4 + 456);
 if (get64(b, l4 + 464) != l3) { goto L555; }
-t33 = f270(b, l4 + 448ull);
+t33 = f271(b, l4 + 448ull);
 if (!t33) { goto L390; }
 l3 = get64(b, l4 + 456);
 L555:;
@@ -47205,14 +47905,14 @@ L390:;
 l3 = l4 + 775ull;
 copy(b, l3, l4 + 2432ull, 160u);
 copy(b, l4 + 2432ull, l3, 160u);
-f271(b, l4 + 2432ull);
+f272(b, l4 + 2432ull);
 if (!l20) { goto L558; }
 if (l23 >= (l18 + l26)) { goto L558; }
 l3 = 1ull;
 L559:;
 copy(b, l4 + 768ull, l22, 160u);
 l22 = l22 + 160ull;
-f271(b, l4 + 768ull);
+f272(b, l4 + 768ull);
 l3 = l3 + 1ull;
 if (l26 != l3) { goto L559; }
 L558:;
@@ -47227,7 +47927,7 @@ l3 = l12;
 L562:;
 copy(b, l4 + 768ull, l3, 160u);
 l3 = l3 + 160ull;
-f271(b, l4 + 768ull);
+f272(b, l4 + 768ull);
 l8 = l8 + 18446744073709551615ull;
 if (l8 != 0ull) { goto L562; }
 L561:;
@@ -47405,7 +48105,7 @@ l3 = 1ull;
 L595:;
 copy(b, l4 + 768ull, l22, 160u);
 l22 = l22 + 160ull;
-f271(b, l4 + 768ull);
+f272(b, l4 + 768ull);
 l3 = l3 + 1ull;
 if (l26 != l3) { goto L595; }
 L594:;
@@ -47420,7 +48120,7 @@ l3 = l12;
 L598:;
 copy(b, l4 + 768ull, l3, 160u);
 l3 = l3 + 160ull;
-f271(b, l4 + 768ull);
+f272(b, l4 + 768ull);
 l8 = l8 + 18446744073709551615ull;
 if (l8 != 0ull) { goto L598; }
 L597:;
@@ -47436,7 +48136,7 @@ L1:;
 SP = l4 + 2656ull;
 }
 
-FN u32 f243(B b, u64 l0) {
+FN u32 f244(B b, u64 l0) {
 u32 l6 = 0;
 u64 l1 = 0, l2 = 0, l3 = 0, l4 = 0, l5 = 0;
 l1 = SP - 32ull;
@@ -47468,7 +48168,7 @@ SP = l1 + 32ull;
 return l6;
 }
 
-FN u32 f244(B b, u64 l0) {
+FN u32 f245(B b, u64 l0) {
 u32 l6 = 0;
 u64 l1 = 0, l2 = 0, l3 = 0, l4 = 0, l5 = 0;
 l1 = SP - 32ull;
@@ -47500,7 +48200,7 @@ SP = l1 + 32ull;
 return l6;
 }
 
-FN u32 f245(B b, u64 l0, u64 l1) {
+FN u32 f246(B b, u64 l0, u64 l1) {
 u32 l6 = 0;
 u64 l2 = 0, l3 = 0, l4 = 0, l5 = 0;
 l2 = SP - 32ull;
@@ -47533,7 +48233,7 @@ SP = l2 + 32ull;
 return l6;
 }
 
-FN u32 f246(B b, u64 l0, u64 l1) {
+FN u32 f247(B b, u64 l0, u64 l1) {
 u32 l6 = 0;
 u64 l2 = 0, l3 = 0, l4 = 0, l5 = 0;
 l2 = SP - 32ull;
@@ -47566,7 +48266,7 @@ SP = l2 + 32ull;
 return l6;
 }
 
-FN u32 f247(B b, u64 l0) {
+FN u32 f248(B b, u64 l0) {
 u32 l6 = 0;
 u64 l1 = 0, l2 = 0, l3 = 0, l4 = 0, l5 = 0;
 l1 = SP - 32ull;
@@ -47598,7 +48298,7 @@ SP = l1 + 32ull;
 return l6;
 }
 
-FN u32 f248(B b, u64 l0) {
+FN u32 f249(B b, u64 l0) {
 u32 l6 = 0;
 u64 l1 = 0, l2 = 0, l3 = 0, l4 = 0, l5 = 0;
 l1 = SP - 32ull;
@@ -47630,7 +48330,7 @@ SP = l1 + 32ull;
 return l6;
 }
 
-FN u32 f249(B b, u64 l0) {
+FN u32 f250(B b, u64 l0) {
 u32 l6 = 0;
 u64 l1 = 0, l2 = 0, l3 = 0, l4 = 0, l5 = 0;
 l1 = SP - 32ull;
@@ -47662,7 +48362,7 @@ SP = l1 + 32ull;
 return l6;
 }
 
-FN void f250(B b, u64 l0, u64 l1, u64 l2, u32 l3) {
+FN void f251(B b, u64 l0, u64 l1, u64 l2, u32 l3) {
 u32 l9 = 0, l10 = 0, l11 = 0, l12 = 0, l13 = 0, l14 = 0, l15 = 0, l16 = 0, t0, t1;
 u64 l4 = 0, l5 = 0, l6 = 0, l7 = 0, l8 = 0;
 l4 = SP - 64ull;
@@ -47670,7 +48370,7 @@ SP = l4;
 put64(b, l4 + 24, get64(b, l2 + 16));
 put64(b, l4 + 16, get64(b, l2 + 8));
 put64(b, l4 + 8, get64(b, l2));
-t0 = f272(b, l4 + 8ull);
+t0 = f273(b, l4 + 8ull);
 if (!(t0 & 255u)) { goto L1; }
 put8(b, l1, 1u);
 L1:;
@@ -47681,7 +48381,7 @@ put64(b, l4 + 32, l4 + 60ull);
 l6 = l4 + 60ull;
 if (!l3) { goto L2; }
 l2 = (u64)l3;
-t1 = f246(b, l4 + 32ull, l2);
+t1 = f247(b, l4 + 32ull, l2);
 if (!t1) { goto L3; }
 l6 = get64(b, l4 + 32);
 l1 = get64(b, l4 + 40);
@@ -47740,7 +48440,7 @@ put64(b, l0, l6);
 SP = l4 + 64ull;
 }
 
-FN u32 f251(B b, u64 l0) {
+FN u32 f252(B b, u64 l0) {
 u32 l6 = 0;
 u64 l1 = 0, l2 = 0, l3 = 0, l4 = 0, l5 = 0;
 l1 = SP - 32ull;
@@ -47772,7 +48472,7 @@ SP = l1 + 32ull;
 return l6;
 }
 
-FN void f252(B b, u64 l0, u64 l1, u64 l2, u32 l3) {
+FN void f253(B b, u64 l0, u64 l1, u64 l2, u32 l3) {
 u32 l17 = 0, l18 = 0, l19 = 0, l20 = 0, l21 = 0, t0, t1, t2;
 u64 l4 = 0, l5 = 0, l6 = 0, l7 = 0, l8 = 0, l9 = 0, l10 = 0, l11 = 0, l12 = 0, l13 = 0, l14 = 0, l15 = 0, l16 = 0;
 l4 = SP - 144ull;
@@ -47880,7 +48580,7 @@ if (l10 != l7) { goto L14; }
 if (!l18) { goto L2; }
 L15:;
 l2 = l7 >> 1;
-f284(b, l6, l6 + ((l7 - l2) << 3), l2);
+f285(b, l6, l6 + ((l7 - l2) << 3), l2);
 l20 = 0u;
 goto L1;
 L14:;
@@ -47897,7 +48597,7 @@ l8 = l7 >> 1;
 l2 = 64ull;
 if (l7 > 64ull) { goto L32; }
 if (l10 >= l8) { goto L32; }
-f285(b, l6, l7, l7, 126u - (((u32)clz64(l7)) << 1), l4 + 112ull);
+f286(b, l6, l7, l7, 126u - (((u32)clz64(l7)) << 1), l4 + 112ull);
 goto L27;
 L32:;
 l11 = 0ull;
@@ -47953,14 +48653,14 @@ l20 = 0u;
 goto L1;
 L30:;
 l2 = l10 >> 1;
-f284(b, l6, l6 + ((l10 - l2) << 3), l2);
+f285(b, l6, l6 + ((l10 - l2) << 3), l2);
 L29:;
 l17 = 1u;
 L28:;
-f286(b, l4 + 48ull, l6, l7, 0ull, l10, l17, 0u, l15, l14, l4 + 112ull);
+f287(b, l4 + 48ull, l6, l7, 0ull, l10, l17, 0u, l15, l14, l4 + 112ull);
 if (get8(b, l4 + 56) & 1u) { goto L27; }
 l2 = get64(b, l4 + 48);
-f285(b, l6, l2, l2, 126u - (((u32)clz64(l2)) << 1), l4 + 112ull);
+f286(b, l6, l2, l2, 126u - (((u32)clz64(l2)) << 1), l4 + 112ull);
 L27:;
 rattle_dealloc(b, l13);
 L2:;
@@ -48011,7 +48711,7 @@ l19 = get32(b, l10 + 4);
 l17 = (u32)(l17 == ((u32)l11));
 l9 = get64(b, l4 + 56);
 if (get64(b, l4 + 64) != l9) { goto L49; }
-t0 = f249(b, l4 + 48ull);
+t0 = f250(b, l4 + 48ull);
 if (!t0) { goto L48; }
 l9 = get64(b, l4 + 56);
 L49:;
@@ -48037,7 +48737,7 @@ L40:;
 put64(b, l4 + 104, l10);
 put64(b, l4 + 88, l11);
 put64(b, l4 + 96, l2);
-f250(b, l4 + 112ull, l1, l4 + 88ull, (u32)((l2 < 4294967295ull) ? l2 : 4294967295ull));
+f251(b, l4 + 112ull, l1, l4 + 88ull, (u32)((l2 < 4294967295ull) ? l2 : 4294967295ull));
 l13 = get64(b, l4 + 128);
 l12 = get64(b, l4 + 112);
 l2 = 0ull;
@@ -48081,7 +48781,7 @@ L57:;
 l18 = get32(b, l10);
 l10 = get64(b, l4 + 56);
 if (get64(b, l4 + 64) != l10) { goto L60; }
-t1 = f251(b, l4 + 48ull);
+t1 = f252(b, l4 + 48ull);
 if (!t1) { goto L59; }
 l10 = get64(b, l4 + 56);
 L60:;
@@ -48121,7 +48821,7 @@ put64(b, l4 + 48, l4 + 140ull);
 l6 = l4 + 140ull;
 if (!l3) { goto L64; }
 l2 = (u64)l3;
-t2 = f246(b, l4 + 48ull, l2);
+t2 = f247(b, l4 + 48ull, l2);
 if (!t2) { goto L65; }
 l6 = get64(b, l4 + 48);
 l11 = get64(b, l4 + 56);
@@ -48172,7 +48872,7 @@ put64(b, l0, l6);
 SP = l4 + 144ull;
 }
 
-FN u32 f253(B b, u64 l0, u64 l1) {
+FN u32 f254(B b, u64 l0, u64 l1) {
 u32 l6 = 0;
 u64 l2 = 0, l3 = 0, l4 = 0, l5 = 0;
 l2 = SP - 32ull;
@@ -48205,7 +48905,7 @@ SP = l2 + 32ull;
 return l6;
 }
 
-FN u32 f254(B b, u64 l0, u64 l1) {
+FN u32 f255(B b, u64 l0, u64 l1) {
 u32 l6 = 0;
 u64 l2 = 0, l3 = 0, l4 = 0, l5 = 0;
 l2 = SP - 32ull;
@@ -48238,7 +48938,7 @@ SP = l2 + 32ull;
 return l6;
 }
 
-FN u32 f255(B b, u64 l0, u64 l1) {
+FN u32 f256(B b, u64 l0, u64 l1) {
 u32 l6 = 0;
 u64 l2 = 0, l3 = 0, l4 = 0, l5 = 0;
 l2 = SP - 32ull;
@@ -48271,7 +48971,7 @@ SP = l2 + 32ull;
 return l6;
 }
 
-FN void f256(B b, u64 l0, u64 l1, u64 l2, u64 l3) {
+FN void f257(B b, u64 l0, u64 l1, u64 l2, u64 l3) {
 u32 l20 = 0, l21 = 0, l22 = 0, l23 = 0, l24 = 0, l25 = 0, l26 = 0, l27 = 0, l28 = 0, l29 = 0, l30 = 0, t0, t1, t2, t3;
 u64 l4 = 0, l5 = 0, l6 = 0, l7 = 0, l8 = 0, l9 = 0, l10 = 0, l11 = 0, l12 = 0, l13 = 0, l14 = 0, l15 = 0, l16 = 0, l17 = 0, l18 = 0, l19 = 0;
 l4 = SP - 272ull;
@@ -48283,7 +48983,7 @@ put64(b, l4 + 248, 0ull);
 put64(b, l4 + 240, l4 + 268ull);
 if (!l5) { goto L1; }
 l7 = (l5 < 4294967295ull) ? l5 : 4294967295ull;
-t0 = f292(b, l4 + 240ull, l7);
+t0 = f293(b, l4 + 240ull, l7);
 if (!t0) { goto L2; }
 l8 = get64(b, l4 + 248);
 l9 = l8 + l7;
@@ -48326,7 +49026,7 @@ put64(b, l4 + 232, get64(b, l4 + 256));
 put64(b, l4 + 224, get64(b, l4 + 248));
 put64(b, l4 + 216, get64(b, l4 + 240));
 l5 = l3 + 112ull;
-f293(b, l4 + 8ull, l1, get64(b, l5), l4 + 216ull);
+f294(b, l4 + 8ull, l1, get64(b, l5), l4 + 216ull);
 copy(b, l4 + 112ull, l4 + 8ull, 104u);
 l5 = get64(b, l5);
 put64(b, l4 + 256, 0ull);
@@ -48335,7 +49035,7 @@ put64(b, l4 + 240, l4 + 268ull);
 l10 = l4 + 268ull;
 if (!l5) { goto L7; }
 l5 = (l5 < 4294967295ull) ? l5 : 4294967295ull;
-t1 = f246(b, l4 + 240ull, l5);
+t1 = f247(b, l4 + 240ull, l5);
 if (!t1) { goto L8; }
 l10 = get64(b, l4 + 240);
 l7 = get64(b, l4 + 248);
@@ -48509,7 +49209,7 @@ L33:;
 if (l25 == l28) { goto L36; }
 l5 = get64(b, l4 + 192);
 if (get64(b, l4 + 200) != l5) { goto L38; }
-t2 = f294(b, l4 + 184ull);
+t2 = f295(b, l4 + 184ull);
 if (!t2) { goto L37; }
 l5 = get64(b, l4 + 192);
 L38:;
@@ -48528,7 +49228,7 @@ L31:;
 if (l27 == l29) { goto L12; }
 l5 = get64(b, l4 + 192);
 if (get64(b, l4 + 200) != l5) { goto L40; }
-t3 = f294(b, l4 + 184ull);
+t3 = f295(b, l4 + 184ull);
 if (!t3) { goto L39; }
 l5 = get64(b, l4 + 192);
 L40:;
@@ -48608,7 +49308,7 @@ copy(b, l0, l4 + 112ull, 104u);
 SP = l4 + 272ull;
 }
 
-FN void f257(B b, u64 l0, u64 l1, u64 l2, u64 l3, u64 l4) {
+FN void f258(B b, u64 l0, u64 l1, u64 l2, u64 l3, u64 l4) {
 u32 l37 = 0, l38 = 0, l39 = 0, l40 = 0, l41 = 0, l42 = 0, l43 = 0, l44 = 0, l45 = 0, l46 = 0, l47 = 0, l48 = 0, l49 = 0, l50 = 0, t0, t1, t2, t3, t4, t5, t6, t7, t8, t9;
 u64 l5 = 0, l6 = 0, l7 = 0, l8 = 0, l9 = 0, l10 = 0, l11 = 0, l12 = 0, l13 = 0, l14 = 0, l15 = 0, l16 = 0, l17 = 0, l18 = 0, l19 = 0, l20 = 0, l21 = 0, l22 = 0, l23 = 0, l24 = 0, l25 = 0, l26 = 0, l27 = 0, l28 = 0, l29 = 0, l30 = 0, l31 = 0, l32 = 0, l33 = 0, l34 = 0, l35 = 0, l36 = 0;
 l5 = SP - 1136ull;
@@ -48628,7 +49328,7 @@ L3:;
 if (get8(b, l4 + 36ull)) { goto L2; }
 if (get32(b, l4 + 32ull) > 23u) { goto L2; }
 fill(b, l5 + 672ull, 0u, 216u);
-f261(b, l5 + 672ull, l0, get64(b, l1 + 136ull), get64(b, l1 + 160ull));
+f262(b, l5 + 672ull, l0, get64(b, l1 + 136ull), get64(b, l1 + 160ull));
 copy(b, l5 + 888ull, l5 + 672ull, 216u);
 switch (l39) {
 case 0: goto L8;
@@ -48645,7 +49345,7 @@ put64(b, l7, 0ull);
 put64(b, l5 + 456, l5 + 1132ull);
 if (!l8) { goto L5; }
 l9 = (l8 < 4294967295ull) ? l8 : 4294967295ull;
-t0 = f246(b, l5 + 456ull, l9);
+t0 = f247(b, l5 + 456ull, l9);
 if (!t0) { goto L10; }
 l10 = get64(b, l5 + 456);
 l8 = get64(b, l5 + 464);
@@ -48664,7 +49364,7 @@ l13 = get64(b, l5 + 472);
 put64(b, l7 + 8, 0ull);
 put64(b, l7, 0ull);
 put64(b, l5 + 456, l5 + 1132ull);
-t1 = f246(b, l5 + 456ull, l9);
+t1 = f247(b, l5 + 456ull, l9);
 if (!t1) { goto L12; }
 l14 = get64(b, l5 + 456);
 l8 = get64(b, l5 + 464);
@@ -48798,17 +49498,17 @@ if (!l13) { goto L5; }
 rattle_dealloc(b, l10);
 goto L5;
 L6:;
-f299(b, l0, l1, l3, l5 + 888ull, get64(b, l1 + 176ull), get64(b, l1 + 184ull), 0u);
+f300(b, l0, l1, l3, l5 + 888ull, get64(b, l1 + 176ull), get64(b, l1 + 184ull), 0u);
 switch (l39 + 4294967294u) {
 case 0: goto L32;
 case 1: goto L31;
 default: goto L5;
 }
 L32:;
-f299(b, l0, l1, l3, l5 + 888ull, get64(b, l1 + 200ull), get64(b, l1 + 208ull), 1u);
+f300(b, l0, l1, l3, l5 + 888ull, get64(b, l1 + 200ull), get64(b, l1 + 208ull), 1u);
 goto L5;
 L31:;
-f299(b, l0, l1, l3, l5 + 888ull, get64(b, l1 + 224ull), get64(b, l1 + 232ull), 2u);
+f300(b, l0, l1, l3, l5 + 888ull, get64(b, l1 + 224ull), get64(b, l1 + 232ull), 2u);
 L5:;
 l12 = get64(b, l3 + 80ull);
 if (!(u32)(!l12)) { goto L33; }
@@ -48880,7 +49580,7 @@ l12 = l12 + 18446744073709551615ull;
 if (l12 != 0ull) { goto L40; }
 L39:;
 if (get64(b, l5 + 24) != l17) { goto L44; }
-t2 = f300(b, l5 + 8ull);
+t2 = f301(b, l5 + 8ull);
 if (!t2) { goto L43; }
 l9 = get64(b, l5 + 8);
 l17 = get64(b, l5 + 16);
@@ -48932,7 +49632,7 @@ if (l40) { goto L45; }
 if (l50) { goto L45; }
 if (l44) { goto L45; }
 if (l37) { goto L45; }
-f301(b, l0, l1, l5 + 888ull, l2, l3, l4);
+f302(b, l0, l1, l5 + 888ull, l2, l3, l4);
 if (!get64(b, l5 + 904)) { goto L46; }
 rattle_dealloc(b, get64(b, l5 + 888));
 L46:;
@@ -48987,7 +49687,7 @@ put64(b, l5 + 696, l25);
 put64(b, l5 + 688, l14);
 put64(b, l5 + 680, l36);
 put64(b, l5 + 672, l13);
-f259(b, l5 + 136ull, l0, l2);
+f260(b, l5 + 136ull, l0, l2);
 copy(b, l5 + 456ull, l5 + 136ull, 216u);
 l8 = get64(b, l1 + 136ull);
 if (!l8) { goto L53; }
@@ -49024,7 +49724,7 @@ l37 = l42 ? l40 : l37;
 L58:;
 l17 = get64(b, l5 + 776);
 if (get64(b, l5 + 784) != l17) { goto L62; }
-t3 = f302(b, l5 + 768ull);
+t3 = f303(b, l5 + 768ull);
 if (!t3) { goto L61; }
 l17 = get64(b, l5 + 776);
 L62:;
@@ -49041,7 +49741,7 @@ put8(b, l0, 1u);
 l17 = get64(b, l5 + 776);
 L60:;
 if (get64(b, l5 + 784) != l17) { goto L64; }
-t4 = f302(b, l5 + 768ull);
+t4 = f303(b, l5 + 768ull);
 if (!t4) { goto L63; }
 l17 = get64(b, l5 + 776);
 L64:;
@@ -49082,7 +49782,7 @@ L68:;
 if (l40 != l37) { goto L69; }
 l17 = get64(b, l5 + 776);
 if (get64(b, l5 + 784) != l17) { goto L71; }
-t5 = f302(b, l5 + 768ull);
+t5 = f303(b, l5 + 768ull);
 if (!t5) { goto L70; }
 l17 = get64(b, l5 + 776);
 L71:;
@@ -49112,7 +49812,7 @@ l27 = l5 + 1132ull;
 l15 = 0ull;
 l41 = (u32)(!l8);
 if (l41) { goto L72; }
-t6 = f246(b, l5 + 1104ull, l20);
+t6 = f247(b, l5 + 1104ull, l20);
 if (!t6) { goto L74; }
 l27 = get64(b, l5 + 1104);
 l8 = get64(b, l5 + 1112);
@@ -49134,7 +49834,7 @@ put64(b, l6, 0ull);
 put64(b, l5 + 1104, l5 + 1132ull);
 if (!l37) { goto L78; }
 l8 = (u64)l37;
-t7 = f246(b, l5 + 1104ull, l8);
+t7 = f247(b, l5 + 1104ull, l8);
 if (!t7) { goto L77; }
 l11 = get64(b, l5 + 1104);
 l12 = get64(b, l5 + 1112);
@@ -49195,7 +49895,7 @@ L87:;
 put64(b, l6 + 8, 0ull);
 put64(b, l6, 0ull);
 put64(b, l5 + 1104, l5 + 1132ull);
-t8 = f246(b, l5 + 1104ull, 1ull);
+t8 = f247(b, l5 + 1104ull, 1ull);
 if (!t8) { goto L89; }
 l8 = get64(b, l5 + 1112);
 put32(b, get64(b, l5 + 1104) + (l8 << 2), (u32)l17);
@@ -49248,7 +49948,7 @@ put32(b, get64(b, l5 + 792) + (l8 << 2), l42);
 L99:;
 l8 = get64(b, l5 + 1112);
 if (get64(b, l5 + 1120) != l8) { goto L101; }
-t9 = f246(b, l5 + 1104ull, 1ull);
+t9 = f247(b, l5 + 1104ull, 1ull);
 if (!t9) { goto L100; }
 l8 = get64(b, l5 + 1112);
 L101:;
@@ -49398,9 +50098,9 @@ put8(b, l5 + 660, (u32)(!(l50 | l40)) & get8(b, l5 + 660));
 l37 = l50 ? (l37 + 3u) : l37;
 l40 = l37 + get32(b, l5 + 656);
 put32(b, l5 + 656, (l40 < l37) ? 4294967295u : l40);
-f256(b, l5 + 32ull, l0, l1, l5 + 456ull);
+f257(b, l5 + 32ull, l0, l1, l5 + 456ull);
 copy(b, l5 + 352ull, l5 + 32ull, 104u);
-f301(b, l0, l1, l5 + 672ull, l5 + 456ull, l5 + 352ull, l4);
+f302(b, l0, l1, l5 + 672ull, l5 + 456ull, l5 + 352ull, l4);
 if (!get64(b, l5 + 368)) { goto L124; }
 rattle_dealloc(b, get64(b, l5 + 352));
 L124:;
@@ -49495,7 +50195,7 @@ L150:;
 SP = l5 + 1136ull;
 }
 
-FN void f258(B b, u64 l0, u64 l1, u64 l2) {
+FN void f259(B b, u64 l0, u64 l1, u64 l2) {
 u32 t0;
 u64 l3 = 0, l4 = 0, l5 = 0, l6 = 0, l7 = 0, l8 = 0, l9 = 0, l10 = 0, l11 = 0;
 l3 = get64(b, l2 + 24);
@@ -49532,7 +50232,7 @@ rattle_dealloc(b, l6);
 L8:;
 return;
 L2:;
-t0 = f296(b, l1);
+t0 = f297(b, l1);
 if (!t0) { goto L9; }
 l7 = get64(b, l1 + 8ull);
 goto L1;
@@ -49551,7 +50251,7 @@ put64(b, l2, l6);
 put64(b, l1 + 8ull, l7 + 1ull);
 }
 
-FN void f259(B b, u64 l0, u64 l1, u64 l2) {
+FN void f260(B b, u64 l0, u64 l1, u64 l2) {
 u32 l17 = 0, l18 = 0, l19 = 0, l20 = 0, t0, t1, t2, t3, t4, t5, t6, t7;
 u64 l3 = 0, l4 = 0, l5 = 0, l6 = 0, l7 = 0, l8 = 0, l9 = 0, l10 = 0, l11 = 0, l12 = 0, l13 = 0, l14 = 0, l15 = 0, l16 = 0;
 l3 = SP - 368ull;
@@ -49591,7 +50291,7 @@ put64(b, l3 + 352, 0ull);
 put64(b, l3 + 344, 0ull);
 put64(b, l3 + 336, l3 + 364ull);
 if (!l5) { goto L5; }
-t0 = f245(b, l3 + 336ull, l5);
+t0 = f246(b, l3 + 336ull, l5);
 if (!t0) { goto L2; }
 l7 = get64(b, l3 + 344);
 l8 = l7 + l5;
@@ -49671,7 +50371,7 @@ l16 = l3 + 364ull;
 l13 = 0ull;
 l17 = (u32)(!l5);
 if (l17) { goto L13; }
-t1 = f253(b, l3 + 336ull, l5);
+t1 = f254(b, l3 + 336ull, l5);
 if (!t1) { goto L12; }
 l16 = get64(b, l3 + 336);
 l14 = get64(b, l3 + 352);
@@ -49728,7 +50428,7 @@ l16 = l3 + 364ull;
 l13 = 0ull;
 l17 = (u32)(!l5);
 if (l17) { goto L21; }
-t2 = f253(b, l3 + 336ull, l5);
+t2 = f254(b, l3 + 336ull, l5);
 if (!t2) { goto L20; }
 l16 = get64(b, l3 + 336);
 l14 = get64(b, l3 + 352);
@@ -49787,7 +50487,7 @@ l4 = l5;
 l7 = 0ull;
 goto L29;
 L30:;
-t3 = f246(b, l3 + 336ull, l5);
+t3 = f247(b, l3 + 336ull, l5);
 if (!t3) { goto L31; }
 l6 = get64(b, l3 + 344);
 l4 = l6 + l5;
@@ -49851,7 +50551,7 @@ l4 = l5;
 l7 = 0ull;
 goto L37;
 L38:;
-t4 = f254(b, l3 + 336ull, l5);
+t4 = f255(b, l3 + 336ull, l5);
 if (!t4) { goto L39; }
 l6 = get64(b, l3 + 344);
 l4 = l6 + l5;
@@ -49924,7 +50624,7 @@ l4 = l5;
 l7 = 0ull;
 goto L45;
 L46:;
-t5 = f255(b, l3 + 336ull, l5);
+t5 = f256(b, l3 + 336ull, l5);
 if (!t5) { goto L47; }
 l6 = get64(b, l3 + 344);
 l4 = l6 + l5;
@@ -49982,7 +50682,7 @@ put64(b, l3 + 352, 0ull);
 put64(b, l3 + 344, 0ull);
 put64(b, l3 + 336, l3 + 364ull);
 if (!l5) { goto L55; }
-t6 = f297(b, l3 + 336ull, l5);
+t6 = f298(b, l3 + 336ull, l5);
 if (!t6) { goto L52; }
 l7 = get64(b, l3 + 344);
 l8 = l7 + l5;
@@ -50064,7 +50764,7 @@ l4 = l5;
 l7 = 0ull;
 goto L63;
 L64:;
-t7 = f298(b, l3 + 336ull, l5);
+t7 = f299(b, l3 + 336ull, l5);
 if (!t7) { goto L65; }
 l6 = get64(b, l3 + 344);
 l4 = l6 + l5;
@@ -50157,7 +50857,7 @@ put8(b, l0 + 207, get8(b, l3 + 206));
 SP = l3 + 368ull;
 }
 
-FN void f260(B b, u64 l0, u64 l1, u64 l2, u64 l3, u64 l4) {
+FN void f261(B b, u64 l0, u64 l1, u64 l2, u64 l3, u64 l4) {
 u32 l20 = 0, l21 = 0, l22 = 0, l23 = 0, t0, t1, t2;
 u64 l5 = 0, l6 = 0, l7 = 0, l8 = 0, l9 = 0, l10 = 0, l11 = 0, l12 = 0, l13 = 0, l14 = 0, l15 = 0, l16 = 0, l17 = 0, l18 = 0, l19 = 0;
 l5 = SP - 272ull;
@@ -50174,7 +50874,7 @@ l10 = l6;
 l11 = 0ull;
 goto L3;
 L4:;
-t0 = f292(b, l5 + 240ull, l6);
+t0 = f293(b, l5 + 240ull, l6);
 if (!t0) { goto L5; }
 l8 = get64(b, l5 + 248);
 l10 = l8 + l6;
@@ -50236,7 +50936,7 @@ put64(b, l5 + 232, get64(b, l5 + 256));
 put64(b, l5 + 224, get64(b, l5 + 248));
 put64(b, l5 + 216, get64(b, l5 + 240));
 l6 = l3 + 112ull;
-f293(b, l5 + 8ull, l1, get64(b, l6), l5 + 216ull);
+f294(b, l5 + 8ull, l1, get64(b, l6), l5 + 216ull);
 copy(b, l5 + 112ull, l5 + 8ull, 104u);
 l6 = get64(b, l6);
 l15 = 0ull;
@@ -50246,7 +50946,7 @@ put64(b, l5 + 240, l5 + 268ull);
 l14 = l5 + 268ull;
 if (!l6) { goto L9; }
 l6 = (l6 < 4294967295ull) ? l6 : 4294967295ull;
-t1 = f246(b, l5 + 240ull, l6);
+t1 = f247(b, l5 + 240ull, l6);
 if (!t1) { goto L10; }
 l14 = get64(b, l5 + 240);
 l8 = get64(b, l5 + 248);
@@ -50340,7 +51040,7 @@ if (get32(b, get64(b, l3 + 72ull) + (l8 << 2)) == 4294967295u) { goto L26; }
 l11 = get64(b, l6 + 4ull);
 l8 = get64(b, l5 + 192);
 if (get64(b, l5 + 200) != l8) { goto L28; }
-t2 = f294(b, l5 + 184ull);
+t2 = f295(b, l5 + 184ull);
 if (!t2) { goto L27; }
 l8 = get64(b, l5 + 192);
 L28:;
@@ -50420,7 +51120,7 @@ copy(b, l0, l5 + 112ull, 104u);
 SP = l5 + 272ull;
 }
 
-FN void f261(B b, u64 l0, u64 l1, u64 l2, u64 l3) {
+FN void f262(B b, u64 l0, u64 l1, u64 l2, u64 l3) {
 u32 l11 = 0, l12 = 0, t0, t1, t2, t3, t4, t5, t6;
 u64 l4 = 0, l5 = 0, l6 = 0, l7 = 0, l8 = 0, l9 = 0, l10 = 0;
 l4 = SP - 304ull;
@@ -50440,7 +51140,7 @@ l5 = (l2 < 4294967295ull) ? l2 : 4294967295ull;
 put64(b, l4 + 224, l4 + 300ull);
 l11 = (u32)(!l2);
 if (l11) { goto L2; }
-t0 = f246(b, l4 + 224ull, l5);
+t0 = f247(b, l4 + 224ull, l5);
 if (!t0) { goto L4; }
 l2 = get64(b, l4 + 232);
 l6 = l2 + l5;
@@ -50460,7 +51160,7 @@ put64(b, l4 + 64, get64(b, l4 + 240));
 put64(b, l4 + 240, 0ull);
 put64(b, l4 + 232, 0ull);
 put64(b, l4 + 224, l4 + 300ull);
-t1 = f253(b, l4 + 224ull, l5);
+t1 = f254(b, l4 + 224ull, l5);
 if (!t1) { goto L6; }
 l2 = get64(b, l4 + 232);
 l6 = l2 + l5;
@@ -50489,7 +51189,7 @@ put64(b, l4 + 240, 0ull);
 put64(b, l4 + 232, 0ull);
 put64(b, l4 + 224, l4 + 300ull);
 if (l11) { goto L11; }
-t2 = f303(b, l4 + 224ull, l5);
+t2 = f304(b, l4 + 224ull, l5);
 if (!t2) { goto L10; }
 l2 = get64(b, l4 + 232);
 l6 = l2 + l5;
@@ -50516,7 +51216,7 @@ put64(b, l4, get64(b, l4 + 224));
 put64(b, l4 + 208, 0ull);
 put64(b, l4 + 216, 0ull);
 put64(b, l4 + 200, l4 + 300ull);
-t3 = f253(b, l4 + 200ull, l5);
+t3 = f254(b, l4 + 200ull, l5);
 if (!t3) { goto L13; }
 l2 = get64(b, l4 + 208);
 l6 = l2 + l5;
@@ -50536,7 +51236,7 @@ put64(b, l4 + 232, 0ull);
 put64(b, l4 + 224, l4 + 300ull);
 l12 = (u32)(!l3);
 if (l12) { goto L18; }
-t4 = f246(b, l4 + 224ull, l8);
+t4 = f247(b, l4 + 224ull, l8);
 if (!t4) { goto L17; }
 l9 = get64(b, l4 + 224);
 l5 = get64(b, l4 + 232);
@@ -50605,7 +51305,7 @@ l5 = get64(b, l4 + 240);
 put64(b, l4 + 264, 0ull);
 put64(b, l4 + 256, 0ull);
 put64(b, l4 + 248, l4 + 300ull);
-t5 = f246(b, l4 + 248ull, l8);
+t5 = f247(b, l4 + 248ull, l8);
 if (!t5) { goto L28; }
 l3 = get64(b, l4 + 256);
 l6 = l3 + l8;
@@ -50623,7 +51323,7 @@ put64(b, l4 + 288, 0ull);
 put64(b, l4 + 280, 0ull);
 put64(b, l4 + 272, l4 + 300ull);
 if (l12) { goto L30; }
-t6 = f246(b, l4 + 272ull, l8);
+t6 = f247(b, l4 + 272ull, l8);
 if (!t6) { goto L31; }
 l3 = get64(b, l4 + 280);
 l6 = l3 + l8;
@@ -50670,7 +51370,7 @@ put16(b, l0 + 214, get16(b, l4 + 76));
 SP = l4 + 304ull;
 }
 
-FN void f262(B b, u64 l0, u64 l1, u64 l2, u64 l3, u64 l4) {
+FN void f263(B b, u64 l0, u64 l1, u64 l2, u64 l3, u64 l4) {
 u32 l19 = 0, l20 = 0, l21 = 0, l22 = 0, t0, t1, t2;
 u64 l5 = 0, l6 = 0, l7 = 0, l8 = 0, l9 = 0, l10 = 0, l11 = 0, l12 = 0, l13 = 0, l14 = 0, l15 = 0, l16 = 0, l17 = 0, l18 = 0;
 l5 = SP - 64ull;
@@ -50694,7 +51394,7 @@ put64(b, l5 + 32, l5 + 60ull);
 l8 = l5 + 60ull;
 if (!l6) { goto L3; }
 l6 = (l6 < 4294967295ull) ? l6 : 4294967295ull;
-t0 = f253(b, l5 + 32ull, l6);
+t0 = f254(b, l5 + 32ull, l6);
 if (!t0) { goto L4; }
 l8 = get64(b, l5 + 32);
 l9 = get64(b, l5 + 40);
@@ -50742,7 +51442,7 @@ put64(b, l5 + 40, 0ull);
 put64(b, l5 + 32, l5 + 60ull);
 if (!l6) { goto L12; }
 l15 = (l6 < 4294967295ull) ? l6 : 4294967295ull;
-t1 = f246(b, l5 + 32ull, l15);
+t1 = f247(b, l5 + 32ull, l15);
 if (!t1) { goto L11; }
 l10 = get64(b, l5 + 32);
 l6 = get64(b, l5 + 40);
@@ -50799,7 +51499,7 @@ if (l17 <= l18) { goto L21; }
 l21 = get32(b, l3 + (l18 * 44ull));
 L21:;
 if (get64(b, l5 + 24) != l12) { goto L23; }
-t2 = f323(b, l5 + 8ull);
+t2 = f324(b, l5 + 8ull);
 if (!t2) { goto L22; }
 l12 = get64(b, l5 + 16);
 L23:;
@@ -50834,7 +51534,7 @@ L1:;
 SP = l5 + 64ull;
 }
 
-FN void f263(B b, u64 l0, u64 l1, u64 l2, u64 l3, u64 l4, u64 l5, u32 l6) {
+FN void f264(B b, u64 l0, u64 l1, u64 l2, u64 l3, u64 l4, u64 l5, u32 l6) {
 u32 l24 = 0, l25 = 0, l26 = 0, l27 = 0, l28 = 0, l29 = 0, l30 = 0, l31 = 0, l32 = 0, l33 = 0, l34 = 0, l35 = 0, l36 = 0, l37 = 0, l38 = 0, l39 = 0, l40 = 0, l41 = 0, l42 = 0, l43 = 0, l44 = 0, l45 = 0, t0, t1, t2, t3, t4, t5, t6, t7, t8, t9, t10, t11, t12, t13, t14, t15, t16, t17;
 u64 l7 = 0, l8 = 0, l9 = 0, l10 = 0, l11 = 0, l12 = 0, l13 = 0, l14 = 0, l15 = 0, l16 = 0, l17 = 0, l18 = 0, l19 = 0, l20 = 0, l21 = 0, l22 = 0, l23 = 0;
 l7 = SP - 912ull;
@@ -50867,7 +51567,7 @@ put64(b, l7 + 872, 0ull);
 put64(b, l7 + 864, l7 + 904ull);
 if (!l5) { goto L4; }
 l9 = (l5 < 4294967295ull) ? l5 : 4294967295ull;
-t0 = f253(b, l7 + 864ull, l9);
+t0 = f254(b, l7 + 864ull, l9);
 if (!t0) { goto L3; }
 l10 = get64(b, l7 + 864);
 l5 = get64(b, l7 + 872);
@@ -50920,7 +51620,7 @@ put64(b, l7 + 872, 0ull);
 put64(b, l7 + 864, l7 + 904ull);
 if (!l5) { goto L13; }
 l15 = (l5 < 4294967295ull) ? l5 : 4294967295ull;
-t1 = f253(b, l7 + 864ull, l15);
+t1 = f254(b, l7 + 864ull, l15);
 if (!t1) { goto L12; }
 l16 = get64(b, l7 + 864);
 l5 = get64(b, l7 + 872);
@@ -50994,7 +51694,7 @@ l5 = get64(b, l4 + 112ull);
 put64(b, l7 + 824, l7 + 904ull);
 if (!l5) { goto L10; }
 l5 = (l5 < 4294967295ull) ? l5 : 4294967295ull;
-t2 = f246(b, l7 + 824ull, l5);
+t2 = f247(b, l7 + 824ull, l5);
 if (!t2) { goto L22; }
 l12 = get64(b, l7 + 832);
 l13 = l12 + l5;
@@ -51014,7 +51714,7 @@ l5 = get64(b, l4 + 136ull);
 put64(b, l7 + 864, l7 + 904ull);
 if (!l5) { goto L24; }
 l5 = (l5 < 4294967295ull) ? l5 : 4294967295ull;
-t3 = f246(b, l7 + 864ull, l5);
+t3 = f247(b, l7 + 864ull, l5);
 if (!t3) { goto L25; }
 l12 = get64(b, l7 + 872);
 l13 = l12 + l5;
@@ -51088,7 +51788,7 @@ l12 = get64(b, l7 + 712);
 put32(b, l13, (u32)((l12 < 4294967295ull) ? l12 : 4294967295ull));
 L35:;
 if (get64(b, l7 + 720) != l12) { goto L39; }
-t4 = f246(b, l7 + 704ull, 1ull);
+t4 = f247(b, l7 + 704ull, 1ull);
 if (!t4) { goto L38; }
 l12 = get64(b, l7 + 712);
 L39:;
@@ -51119,7 +51819,7 @@ l11 = get64(b, l7 + 736);
 put32(b, l12, (u32)((l11 < 4294967295ull) ? l11 : 4294967295ull));
 L43:;
 if (get64(b, l7 + 744) != l11) { goto L46; }
-t5 = f246(b, l7 + 728ull, 1ull);
+t5 = f247(b, l7 + 728ull, 1ull);
 if (!t5) { goto L45; }
 l11 = get64(b, l7 + 736);
 L46:;
@@ -51143,7 +51843,7 @@ l11 = get64(b, l7 + 736);
 put32(b, l12, (u32)((l11 < 4294967295ull) ? l11 : 4294967295ull));
 L48:;
 if (get64(b, l7 + 744) != l11) { goto L51; }
-t6 = f246(b, l7 + 728ull, 1ull);
+t6 = f247(b, l7 + 728ull, 1ull);
 if (!t6) { goto L50; }
 l11 = get64(b, l7 + 736);
 L51:;
@@ -51167,7 +51867,7 @@ l11 = get64(b, l7 + 736);
 put32(b, l12, (u32)((l11 < 4294967295ull) ? l11 : 4294967295ull));
 L53:;
 if (get64(b, l7 + 744) != l11) { goto L56; }
-t7 = f246(b, l7 + 728ull, 1ull);
+t7 = f247(b, l7 + 728ull, 1ull);
 if (!t7) { goto L55; }
 l11 = get64(b, l7 + 736);
 L56:;
@@ -51189,7 +51889,7 @@ put64(b, l7 + 872, 0ull);
 put64(b, l7 + 864, l7 + 904ull);
 if (!l5) { goto L60; }
 l9 = (l5 < 4294967295ull) ? l5 : 4294967295ull;
-t8 = f246(b, l7 + 864ull, l9);
+t8 = f247(b, l7 + 864ull, l9);
 if (!t8) { goto L59; }
 l16 = get64(b, l7 + 864);
 l5 = get64(b, l7 + 872);
@@ -51250,7 +51950,7 @@ put64(b, l7 + 824, 0ull);
 put64(b, l7 + 616, 0ull);
 put64(b, l7 + 624, 0ull);
 put64(b, l7 + 608, l7 + 904ull);
-t9 = f246(b, l7 + 608ull, l9);
+t9 = f247(b, l7 + 608ull, l9);
 if (!t9) { goto L67; }
 l5 = get64(b, l7 + 616);
 l11 = l5 + l9;
@@ -51538,7 +52238,7 @@ l37 = 1u;
 put64(b, l7 + 640, l7 + 560ull);
 put64(b, l7 + 632, l7 + 416ull);
 l25 = (l43 ^ l25) & 1u;
-f324(b, l7 + 88ull, l1, l7 + 608ull, l7 + 336ull, l25 ? l36 : l26);
+f325(b, l7 + 88ull, l1, l7 + 608ull, l7 + 336ull, l25 ? l36 : l26);
 put64(b, l7 + 880, l3);
 put64(b, l7 + 872, l4);
 put64(b, l7 + 864, l2);
@@ -51546,7 +52246,7 @@ put64(b, l7 + 896, l7 + 560ull);
 put64(b, l7 + 888, l7 + 416ull);
 l35 = get32(b, l7 + 92);
 l44 = get8(b, l7 + 88);
-f324(b, l7 + 80ull, l1, l7 + 864ull, l7 + 336ull, l25 ? l26 : l36);
+f325(b, l7 + 80ull, l1, l7 + 864ull, l7 + 336ull, l25 ? l26 : l36);
 l39 = get32(b, l7 + 84);
 l45 = get8(b, l7 + 80);
 if (get64(b, l7 + 424) <= l5) { goto L113; }
@@ -51590,7 +52290,7 @@ put64(b, l7 + 832, l4);
 put64(b, l7 + 824, l2);
 put64(b, l7 + 856, l7 + 560ull);
 put64(b, l7 + 848, l7 + 416ull);
-f324(b, l7 + 96ull, l1, l7 + 824ull, l7 + 336ull, l27);
+f325(b, l7 + 96ull, l1, l7 + 824ull, l7 + 336ull, l27);
 l27 = get8(b, l7 + 96);
 l36 = get32(b, l7 + 100);
 if (get64(b, l7 + 448) <= l5) { goto L119; }
@@ -51625,7 +52325,7 @@ l39 = 0u;
 L96:;
 l11 = get64(b, l7 + 808);
 if (get64(b, l7 + 816) != l11) { goto L125; }
-t11 = f325(b, l7 + 800ull);
+t11 = f326(b, l7 + 800ull);
 if (!t11) { goto L124; }
 l11 = get64(b, l7 + 808);
 L125:;
@@ -51653,7 +52353,7 @@ l13 = get64(b, l7 + 800);
 L89:;
 l11 = get64(b, l7 + 784);
 if (get64(b, l7 + 792) != l11) { goto L128; }
-t12 = f326(b, l7 + 776ull);
+t12 = f327(b, l7 + 776ull);
 if (!t12) { goto L127; }
 l11 = get64(b, l7 + 784);
 L128:;
@@ -51692,7 +52392,7 @@ l14 = 0ull;
 L76:;
 l11 = get64(b, l7 + 760);
 if (get64(b, l7 + 768) != l11) { goto L132; }
-t13 = f327(b, l7 + 752ull);
+t13 = f328(b, l7 + 752ull);
 if (!t13) { goto L131; }
 l11 = get64(b, l7 + 760);
 L132:;
@@ -51772,7 +52472,7 @@ put64(b, l7 + 616, l4);
 put64(b, l7 + 608, l2);
 put64(b, l7 + 640, l7 + 560ull);
 put64(b, l7 + 632, l7 + 416ull);
-f324(b, l7 + 56ull, l1, l7 + 608ull, l7 + 336ull, l27);
+f325(b, l7 + 56ull, l1, l7 + 608ull, l7 + 336ull, l27);
 put64(b, l7 + 880, l3);
 put64(b, l7 + 872, l4);
 put64(b, l7 + 864, l2);
@@ -51780,7 +52480,7 @@ put64(b, l7 + 896, l7 + 560ull);
 put64(b, l7 + 888, l7 + 416ull);
 l26 = get32(b, l7 + 60);
 l36 = get8(b, l7 + 56);
-f324(b, l7 + 48ull, l1, l7 + 864ull, l7 + 336ull, l24);
+f325(b, l7 + 48ull, l1, l7 + 864ull, l7 + 336ull, l24);
 l13 = get64(b, l7 + 448);
 if (l13 <= l11) { goto L145; }
 if (get8(b, get64(b, l7 + 440) + l11) != 1u) { goto L145; }
@@ -51824,7 +52524,7 @@ l27 = get32(b, get64(b, l7 + 488) + (l5 << 2));
 L148:;
 l11 = get64(b, l7 + 832);
 if (get64(b, l7 + 840) != l11) { goto L154; }
-t14 = f328(b, l7 + 824ull);
+t14 = f329(b, l7 + 824ull);
 if (!t14) { goto L153; }
 l11 = get64(b, l7 + 832);
 L154:;
@@ -51882,7 +52582,7 @@ l24 = get32(b, get64(b, l2 + 152ull) + (l11 * 12ull));
 L161:;
 l11 = get64(b, l7 + 616);
 if (get64(b, l7 + 624) != l11) { goto L164; }
-t15 = f329(b, l7 + 608ull);
+t15 = f330(b, l7 + 608ull);
 if (!t15) { goto L163; }
 l11 = get64(b, l7 + 616);
 L164:;
@@ -51974,7 +52674,7 @@ l27 = get32(b, get64(b, l7 + 464) + (l11 << 2));
 L176:;
 l11 = get64(b, l7 + 616);
 if (get64(b, l7 + 624) != l11) { goto L182; }
-t16 = f330(b, l7 + 608ull);
+t16 = f331(b, l7 + 608ull);
 if (!t16) { goto L181; }
 l11 = get64(b, l7 + 616);
 L182:;
@@ -51995,7 +52695,7 @@ l13 = get64(b, l7 + 608);
 L170:;
 l11 = get64(b, l7 + 872);
 if (get64(b, l7 + 880) != l11) { goto L185; }
-t17 = f331(b, l7 + 864ull);
+t17 = f332(b, l7 + 864ull);
 if (!t17) { goto L184; }
 l11 = get64(b, l7 + 872);
 L185:;
@@ -52152,7 +52852,7 @@ put32(b, l0 + 8ull, l6);
 SP = l7 + 912ull;
 }
 
-FN u32 f264(B b, u64 l0) {
+FN u32 f265(B b, u64 l0) {
 u32 l6 = 0;
 u64 l1 = 0, l2 = 0, l3 = 0, l4 = 0, l5 = 0;
 l1 = SP - 32ull;
@@ -52184,7 +52884,7 @@ SP = l1 + 32ull;
 return l6;
 }
 
-FN void f265(B b, u64 l0) {
+FN void f266(B b, u64 l0) {
 u64 l1 = 0, l2 = 0, l3 = 0, l4 = 0, l5 = 0, l6 = 0, l7 = 0, l8 = 0, l9 = 0, l10 = 0, l11 = 0, l12 = 0, l13 = 0, l14 = 0, l15 = 0, l16 = 0, l17 = 0, l18 = 0;
 l1 = get64(b, l0 + 144);
 l2 = get64(b, l0 + 136);
@@ -52254,7 +52954,7 @@ rattle_dealloc(b, l3);
 L15:;
 }
 
-FN void f266(B b, u64 l0, u64 l1, u64 l2, u64 l3, u64 l4, u64 l5) {
+FN void f267(B b, u64 l0, u64 l1, u64 l2, u64 l3, u64 l4, u64 l5) {
 u32 l10 = 0, l11 = 0, l12 = 0, t0;
 u64 l6 = 0, l7 = 0, l8 = 0, l9 = 0;
 l6 = SP - 112ull;
@@ -52273,7 +52973,7 @@ if (get8(b, l2)) { goto L4; }
 l10 = get32(b, l4);
 l8 = get64(b, l6 + 32);
 if (get64(b, l6 + 40) != l8) { goto L6; }
-t0 = f246(b, l6 + 24ull, 1ull);
+t0 = f247(b, l6 + 24ull, 1ull);
 if (!t0) { goto L5; }
 l8 = get64(b, l6 + 32);
 L6:;
@@ -52368,7 +53068,7 @@ l8 = l9 >> 1;
 l2 = 64ull;
 if (l9 > 64ull) { goto L26; }
 if (l7 >= l8) { goto L26; }
-f333(b, l5, l9, l9, 126u - (((u32)clz64(l9)) << 1), l6 + 48ull);
+f334(b, l5, l9, l9, 126u - (((u32)clz64(l9)) << 1), l6 + 48ull);
 rattle_dealloc(b, l1);
 goto L7;
 L26:;
@@ -52501,10 +53201,10 @@ l12 = 1u;
 L23:;
 l4 = l7;
 L22:;
-f334(b, l6 + 64ull, l5, l9, 0ull, l4, l12, 0u, l2, l3, l6 + 48ull);
+f335(b, l6 + 64ull, l5, l9, 0ull, l4, l12, 0u, l2, l3, l6 + 48ull);
 if (get8(b, l6 + 72) & 1u) { goto L41; }
 l7 = get64(b, l6 + 64);
-f333(b, l5, l7, l7, 126u - (((u32)clz64(l7)) << 1), l6 + 48ull);
+f334(b, l5, l7, l7, 126u - (((u32)clz64(l7)) << 1), l6 + 48ull);
 L41:;
 rattle_dealloc(b, l1);
 L7:;
@@ -52514,7 +53214,7 @@ put64(b, l0, get64(b, l6 + 24));
 SP = l6 + 112ull;
 }
 
-FN u32 f267(B b, u64 l0, u64 l1) {
+FN u32 f268(B b, u64 l0, u64 l1) {
 u32 l6 = 0;
 u64 l2 = 0, l3 = 0, l4 = 0, l5 = 0;
 l2 = SP - 32ull;
@@ -52547,7 +53247,7 @@ SP = l2 + 32ull;
 return l6;
 }
 
-FN u32 f268(B b, u64 l0) {
+FN u32 f269(B b, u64 l0) {
 u32 l6 = 0;
 u64 l1 = 0, l2 = 0, l3 = 0, l4 = 0, l5 = 0;
 l1 = SP - 32ull;
@@ -52579,7 +53279,7 @@ SP = l1 + 32ull;
 return l6;
 }
 
-FN void f269(B b, u64 l0, u64 l1, u64 l2, u32 l3) {
+FN void f270(B b, u64 l0, u64 l1, u64 l2, u32 l3) {
 u32 l40 = 0, l41 = 0, l42 = 0, l43 = 0, l44 = 0, l45 = 0, l46 = 0, l47 = 0, l48 = 0, l49 = 0, t0, t1, t2, t3, t4, t5, t6, t7, t8, t9, t10, t11;
 u64 l4 = 0, l5 = 0, l6 = 0, l7 = 0, l8 = 0, l9 = 0, l10 = 0, l11 = 0, l12 = 0, l13 = 0, l14 = 0, l15 = 0, l16 = 0, l17 = 0, l18 = 0, l19 = 0, l20 = 0, l21 = 0, l22 = 0, l23 = 0, l24 = 0, l25 = 0, l26 = 0, l27 = 0, l28 = 0, l29 = 0, l30 = 0, l31 = 0, l32 = 0, l33 = 0, l34 = 0, l35 = 0, l36 = 0, l37 = 0, l38 = 0, l39 = 0;
 l4 = SP - 3520ull;
@@ -52652,7 +53352,7 @@ put64(b, l4 + 1888, 0ull);
 put64(b, l4 + 1880, l12);
 L20:;
 if (get64(b, l4 + 1896) != l9) { goto L21; }
-t0 = f339(b, l4 + 1880ull);
+t0 = f340(b, l4 + 1880ull);
 if (!t0) { goto L3; }
 l12 = get64(b, l4 + 1880);
 l9 = get64(b, l4 + 1888);
@@ -52678,7 +53378,7 @@ l11 = l15 + (l11 * 24ull);
 l12 = l11 + 8ull;
 l5 = get64(b, l12);
 if (get64(b, l11 + 16ull) != l5) { goto L24; }
-t1 = f340(b, l11);
+t1 = f341(b, l11);
 if (!t1) { goto L5; }
 l5 = get64(b, l11 + 8ull);
 L24:;
@@ -52701,7 +53401,7 @@ l5 = l15 + (l5 * 24ull);
 l12 = l5 + 8ull;
 l8 = get64(b, l12);
 if (get64(b, l5 + 16ull) != l8) { goto L28; }
-t2 = f340(b, l5);
+t2 = f341(b, l5);
 if (!t2) { goto L6; }
 l8 = get64(b, l5 + 8ull);
 L28:;
@@ -53341,13 +54041,13 @@ put64(b, l4 + 3480, 0ull);
 if (!l45) { goto L96; }
 put32(b, l4 + 3504, 0u);
 put64(b, l4 + 3496, 0ull);
-f341(b, l4 + 3496ull, l19, l47, l40, get64(b, l4 + 2880));
+f342(b, l4 + 3496ull, l19, l47, l40, get64(b, l4 + 2880));
 if (get8(b, l4 + 3496)) { goto L94; }
 l12 = get64(b, l4 + 3500);
 if (!(l12 & 4294967296ull)) { goto L97; }
 l6 = get64(b, l4 + 2880);
 if (get64(b, l4 + 2888) != l6) { goto L98; }
-t3 = f342(b, l4 + 2872ull);
+t3 = f343(b, l4 + 2872ull);
 if (!t3) { goto L94; }
 l6 = get64(b, l4 + 2880);
 L98:;
@@ -53361,7 +54061,7 @@ l47 = 0u;
 l45 = 1u;
 goto L95;
 L96:;
-f343(b, l4 + 3480ull, l4 + 2656ull, l47, l40, l46 & 1u);
+f344(b, l4 + 3480ull, l4 + 2656ull, l47, l40, l46 & 1u);
 if (get8(b, l4 + 3480)) { goto L94; }
 l47 = get8(b, l4 + 3492);
 l40 = get32(b, l4 + 3488);
@@ -53652,7 +54352,7 @@ put32(b, l4 + 3332, 0u);
 put32(b, l4 + 3328, l45);
 if (!l5) { goto L119; }
 L120:;
-f343(b, l4 + 3424ull, l4 + 2656ull, get8(b, l11), get32(b, l11 + 4ull), get8(b, l11 + 8ull));
+f344(b, l4 + 3424ull, l4 + 2656ull, get8(b, l11), get32(b, l11 + 4ull), get8(b, l11 + 8ull));
 if (get8(b, l4 + 3424)) { goto L123; }
 l40 = get8(b, l4 + 3436);
 l47 = get8(b, l4 + 3428);
@@ -53770,7 +54470,7 @@ if (!l6) { goto L65; }
 L66:;
 rattle_dealloc(b, l18);
 L65:;
-f344(b, l4 + 3080ull);
+f345(b, l4 + 3080ull);
 put32(b, l4 + 2303, 0u);
 put64(b, l4 + 2296, 0ull);
 put64(b, l4 + 2288, 0ull);
@@ -53795,7 +54495,7 @@ put64(b, l4 + 3344, get64(b, l11 + 16));
 put64(b, l4 + 3336, get64(b, l11 + 8));
 put64(b, l4 + 3328, get64(b, l11));
 l11 = l11 + 32ull;
-f344(b, l4 + 3328ull);
+f345(b, l4 + 3328ull);
 l5 = l5 + 18446744073709551615ull;
 if (l5 != 0ull) { goto L130; }
 L129:;
@@ -53879,7 +54579,7 @@ L145:;
 put64(b, l4 + 3344, get64(b, l4 + 2299));
 put64(b, l4 + 3336, get64(b, l4 + 2291));
 put64(b, l4 + 3328, get64(b, l4 + 2283));
-f344(b, l4 + 3328ull);
+f345(b, l4 + 3328ull);
 l7 = get64(b, l4 + 2648);
 l8 = get64(b, l4 + 2632);
 l5 = get64(b, l4 + 2640);
@@ -53890,7 +54590,7 @@ put64(b, l4 + 3344, get64(b, l11 + 16));
 put64(b, l4 + 3336, get64(b, l11 + 8));
 put64(b, l4 + 3328, get64(b, l11));
 l11 = l11 + 32ull;
-f344(b, l4 + 3328ull);
+f345(b, l4 + 3328ull);
 l5 = l5 + 18446744073709551615ull;
 if (l5 != 0ull) { goto L147; }
 L146:;
@@ -54036,7 +54736,7 @@ l7 = l4 + 1408ull;
 l5 = 0ull;
 l11 = l19;
 L171:;
-t10 = f345(b, l7, get8(b, l11), get32(b, l11 + 4ull), l5);
+t10 = f346(b, l7, get8(b, l11), get32(b, l11 + 4ull), l5);
 if (!t10) { goto L167; }
 l11 = l11 + 8ull;
 l5 = l5 + 1ull;
@@ -54049,7 +54749,7 @@ l12 = l4 + 1584ull;
 l5 = 0ull;
 l11 = l18;
 L173:;
-t11 = f345(b, l12, get8(b, l11), get32(b, l11 + 4ull), l5);
+t11 = f346(b, l12, get8(b, l11), get32(b, l11 + 4ull), l5);
 if (!t11) { goto L167; }
 l11 = l11 + 8ull;
 l5 = l5 + 1ull;
@@ -54327,7 +55027,7 @@ put64(b, l4 + 1896, get64(b, l11 + 16));
 put64(b, l4 + 1888, get64(b, l11 + 8));
 put64(b, l4 + 1880, get64(b, l11));
 l11 = l11 + 32ull;
-f344(b, l4 + 1880ull);
+f345(b, l4 + 1880ull);
 l5 = l5 + 18446744073709551615ull;
 if (l5 != 0ull) { goto L225; }
 L224:;
@@ -54410,11 +55110,11 @@ L187:;
 rattle_dealloc(b, l20);
 L186:;
 copy(b, l4 + 400ull, l4 + 1336ull, 400u);
-f346(b, l4 + 1736ull, get32(b, l1), l4 + 400ull);
+f347(b, l4 + 1736ull, get32(b, l1), l4 + 400ull);
 put64(b, l4 + 344, l16);
 put64(b, l4 + 336, l9);
 put64(b, l4 + 328, l15);
-f347(b, l4 + 328ull);
+f348(b, l4 + 328ull);
 l40 = get8(b, l4 + 1744);
 l47 = get8(b, l4 + 1736);
 copy(b, l4 + 200ull, l4 + 1752ull, 128u);
@@ -54433,7 +55133,7 @@ L167:;
 put64(b, l4 + 392, get64(b, l4 + 1352));
 put64(b, l4 + 384, get64(b, l4 + 1344));
 put64(b, l4 + 376, get64(b, l4 + 1336));
-f348(b, l4 + 376ull);
+f349(b, l4 + 376ull);
 if (!get64(b, l4 + 1376)) { goto L243; }
 rattle_dealloc(b, get64(b, l4 + 1360));
 L243:;
@@ -54496,7 +55196,7 @@ L255:;
 put64(b, l4 + 368, l16);
 put64(b, l4 + 360, l9);
 put64(b, l4 + 352, l15);
-f347(b, l4 + 352ull);
+f348(b, l4 + 352ull);
 copy(b, l4 + 200ull, l4 + 800ull, 128u);
 l40 = 0u;
 L12:;
@@ -54523,7 +55223,7 @@ l40 = (u32)l10;
 f124(b, l4 + 1880ull, l4 + 200ull, l40);
 if (get8(b, l4 + 1880)) { goto L262; }
 copy(b, l4 + 1336ull, l32, 128u);
-f196(b, l4 + 928ull, l4 + 200ull, l40, l4 + 1336ull, l6);
+f195(b, l4 + 928ull, l4 + 200ull, l40, l4 + 1336ull, l6);
 if (get8(b, l4 + 928)) { goto L263; }
 l47 = (u32)(!(get64(b, l4 + 944) | get64(b, l4 + 968)));
 l14 = get64(b, l4 + 1080);
@@ -54601,7 +55301,7 @@ L274:;
 if (!get64(b, l4 + 1456)) { goto L262; }
 rattle_dealloc(b, get64(b, l4 + 1440));
 L262:;
-f349(b, l4 + 208ull);
+f350(b, l4 + 208ull);
 if (!l37) { goto L275; }
 rattle_dealloc(b, l21);
 L275:;
@@ -54667,7 +55367,7 @@ L290:;
 l10 = l10 + 1ull;
 if (l10 != l18) { goto L259; }
 L258:;
-f349(b, l4 + 208ull);
+f350(b, l4 + 208ull);
 if (!l37) { goto L291; }
 rattle_dealloc(b, l21);
 L291:;
@@ -54719,7 +55419,7 @@ L303:;
 if (!get64(b, l4 + 1456)) { goto L304; }
 rattle_dealloc(b, get64(b, l4 + 1440));
 L304:;
-f349(b, l4 + 208ull);
+f350(b, l4 + 208ull);
 if (!l37) { goto L305; }
 rattle_dealloc(b, l21);
 L305:;
@@ -54874,7 +55574,7 @@ L1:;
 SP = l4 + 3520ull;
 }
 
-FN u32 f270(B b, u64 l0) {
+FN u32 f271(B b, u64 l0) {
 u32 l6 = 0;
 u64 l1 = 0, l2 = 0, l3 = 0, l4 = 0, l5 = 0;
 l1 = SP - 32ull;
@@ -54906,7 +55606,7 @@ SP = l1 + 32ull;
 return l6;
 }
 
-FN void f271(B b, u64 l0) {
+FN void f272(B b, u64 l0) {
 u64 l1 = 0, l2 = 0, l3 = 0, l4 = 0, l5 = 0, l6 = 0, l7 = 0, l8 = 0, l9 = 0, l10 = 0, l11 = 0, l12 = 0, l13 = 0, l14 = 0, l15 = 0, l16 = 0, l17 = 0, l18 = 0;
 l1 = get64(b, l0 + 144);
 l2 = get64(b, l0 + 136);
@@ -54976,7 +55676,7 @@ rattle_dealloc(b, l3);
 L15:;
 }
 
-FN u32 f272(B b, u64 l0) {
+FN u32 f273(B b, u64 l0) {
 u32 l15 = 0, l16 = 0, l17 = 0;
 u64 l1 = 0, l2 = 0, l3 = 0, l4 = 0, l5 = 0, l6 = 0, l7 = 0, l8 = 0, l9 = 0, l10 = 0, l11 = 0, l12 = 0, l13 = 0, l14 = 0;
 l1 = SP - 144ull;
@@ -54984,17 +55684,17 @@ SP = l1;
 l2 = get64(b, l0);
 l0 = get64(b, l0 + 8ull);
 if (l0 > 20ull) { goto L3; }
-f273(b, l2, l0, 1ull);
+f274(b, l2, l0, 1ull);
 goto L2;
 L3:;
-f274(b, l1 + 24ull, l2, l0, 0ull);
+f275(b, l1 + 24ull, l2, l0, 0ull);
 l15 = get8(b, l1 + 32);
 l3 = get64(b, l1 + 24);
 if (l3 != l0) { goto L4; }
 l16 = 0u;
 if (!(l15 & 1u)) { goto L1; }
 l4 = l0 >> 1;
-f275(b, l2, l2 + ((l0 - l4) * 20ull), l4);
+f276(b, l2, l2 + ((l0 - l4) * 20ull), l4);
 goto L1;
 L4:;
 l4 = l0 * 20ull;
@@ -55014,7 +55714,7 @@ l6 = l0 >> 1;
 l4 = 64ull;
 if (l0 > 64ull) { goto L7; }
 if (l3 >= l6) { goto L7; }
-f276(b, l2, l0, l0, 126u - (((u32)clz64(l0)) << 1), l1 + 40ull);
+f277(b, l2, l0, l0, 126u - (((u32)clz64(l0)) << 1), l1 + 40ull);
 goto L6;
 L7:;
 l7 = 0ull;
@@ -55081,15 +55781,15 @@ if (l11 != l6) { goto L13; }
 goto L11;
 L12:;
 l4 = l3 >> 1;
-f275(b, l2, l2 + ((l3 - l4) * 20ull), l4);
+f276(b, l2, l2 + ((l3 - l4) * 20ull), l4);
 L11:;
 l16 = 1u;
 l4 = l3;
 L10:;
-f277(b, l1 + 56ull, l2, l0, 0ull, l4, l16, 0u, l9, l10, l1 + 40ull);
+f278(b, l1 + 56ull, l2, l0, 0ull, l4, l16, 0u, l9, l10, l1 + 40ull);
 if (get8(b, l1 + 64) & 1u) { goto L6; }
 l0 = get64(b, l1 + 56);
-f276(b, l2, l0, l0, 126u - (((u32)clz64(l0)) << 1), l1 + 40ull);
+f277(b, l2, l0, l0, 126u - (((u32)clz64(l0)) << 1), l1 + 40ull);
 L6:;
 rattle_dealloc(b, l5);
 L2:;
@@ -55099,7 +55799,7 @@ SP = l1 + 144ull;
 return l16;
 }
 
-FN void f273(B b, u64 l0, u64 l1, u64 l2) {
+FN void f274(B b, u64 l0, u64 l1, u64 l2) {
 u32 l7 = 0, l8 = 0, l9 = 0, l10 = 0, l11 = 0, l12 = 0;
 u64 l3 = 0, l4 = 0, l5 = 0, l6 = 0;
 if (l2 >= l1) { goto L1; }
@@ -55203,7 +55903,7 @@ if (l2 != l1) { goto L2; }
 L1:;
 }
 
-FN void f274(B b, u64 l0, u64 l1, u64 l2, u64 l3) {
+FN void f275(B b, u64 l0, u64 l1, u64 l2, u64 l3) {
 u32 l6 = 0, l7 = 0, l8 = 0;
 u64 l4 = 0, l5 = 0;
 l4 = l3 + 2ull;
@@ -55311,7 +56011,7 @@ put8(b, l0 + 8, l8);
 put64(b, l0, l4);
 }
 
-FN void f275(B b, u64 l0, u64 l1, u64 l2) {
+FN void f276(B b, u64 l0, u64 l1, u64 l2) {
 u32 l6 = 0, l7 = 0;
 u64 l3 = 0, l4 = 0, l5 = 0;
 l1 = ((l2 * 20ull) + l1) + 18446744073709551596ull;
@@ -55333,24 +56033,24 @@ l2 = l2 + 18446744073709551615ull;
 if (l2 != 0ull) { goto L1; }
 }
 
-FN void f276(B b, u64 l0, u64 l1, u64 l2, u32 l3, u64 l4) {
+FN void f277(B b, u64 l0, u64 l1, u64 l2, u32 l3, u64 l4) {
 u32 l19 = 0, l20 = 0, l21 = 0, l22 = 0, l23 = 0, l24 = 0;
 u64 l5 = 0, l6 = 0, l7 = 0, l8 = 0, l9 = 0, l10 = 0, l11 = 0, l12 = 0, l13 = 0, l14 = 0, l15 = 0, l16 = 0, l17 = 0, l18 = 0, t0, t1;
 if (l1 < 33ull) { goto L1; }
 L2:;
 if (l3) { goto L3; }
-f278(b, l0, l1, l4);
+f279(b, l0, l1, l4);
 return;
 L3:;
 l5 = l1 >> 3;
 l6 = l5 * 7ull;
 l7 = l5 << 2;
 if (l1 > 63ull) { goto L5; }
-t0 = f279(b, l0, 0ull, l7, l6);
+t0 = f280(b, l0, 0ull, l7, l6);
 l8 = t0;
 goto L4;
 L5:;
-t1 = f280(b, l0, 0ull, l7, l6, l5);
+t1 = f281(b, l0, 0ull, l7, l6, l5);
 l8 = t1;
 L4:;
 if (l2 < l1) { goto L9; }
@@ -55545,7 +56245,7 @@ L29:;
 put64(b, l4 + 8, l9);
 put64(b, l4, l10);
 l3 = l3 + 4294967295u;
-f276(b, l0, l2, l1, l3, l4);
+f277(b, l0, l2, l1, l3, l4);
 l1 = l15;
 goto L6;
 L7:;
@@ -55705,10 +56405,10 @@ l0 = l8;
 l1 = l17;
 if (l17 >= 33ull) { goto L2; }
 L1:;
-f281(b, l0, l1, l4);
+f282(b, l0, l1, l4);
 }
 
-FN void f277(B b, u64 l0, u64 l1, u64 l2, u64 l3, u64 l4, u32 l5, u32 l6, u64 l7, u64 l8, u64 l9) {
+FN void f278(B b, u64 l0, u64 l1, u64 l2, u64 l3, u64 l4, u32 l5, u32 l6, u64 l7, u64 l8, u64 l9) {
 u32 l19 = 0, l20 = 0, l21 = 0, l22 = 0;
 u64 l10 = 0, l11 = 0, l12 = 0, l13 = 0, l14 = 0, l15 = 0, l16 = 0, l17 = 0, l18 = 0;
 l10 = SP - 80ull;
@@ -55729,7 +56429,7 @@ l19 = 0u;
 l11 = l2;
 l20 = 0u;
 if ((l2 - l4) < l7) { goto L3; }
-f274(b, l10, l1, l2, l4);
+f275(b, l10, l1, l2, l4);
 l11 = get64(b, l10);
 l12 = l11 - l4;
 if (l12 >= l7) { goto L4; }
@@ -55946,7 +56646,7 @@ put32(b, l12 + 16, l22);
 goto L3;
 L5:;
 l15 = l12 >> 1;
-f275(b, l13, l13 + ((l12 - l15) * 20ull), l15);
+f276(b, l13, l13 + ((l12 - l15) * 20ull), l15);
 L3:;
 put32(b, l10 + 25, 0u);
 put8(b, l10 + 24, l5);
@@ -55965,7 +56665,7 @@ if (l6 > l22) { goto L18; }
 l14 = l1 + (l3 * 20ull);
 L19:;
 l11 = l4;
-f277(b, l10 + 16ull, l1, l2, l11, get64(b, l10 + 32), get8(b, l10 + 40), l21, l7, l8, l9);
+f278(b, l10 + 16ull, l1, l2, l11, get64(b, l10 + 32), get8(b, l10 + 40), l21, l7, l8, l9);
 l4 = get64(b, l10 + 16);
 l21 = get8(b, l10 + 24);
 if ((l21 | l5) & 1u) { goto L21; }
@@ -55974,12 +56674,12 @@ goto L20;
 L21:;
 if (l5 & 1u) { goto L22; }
 l13 = l11 - l3;
-f276(b, l14, l13, l13, 126u - (((u32)clz64(l13)) << 1), l9);
+f277(b, l14, l13, l13, 126u - (((u32)clz64(l13)) << 1), l9);
 L22:;
 l13 = l11 * 20ull;
 if (l21 & 1u) { goto L23; }
 l15 = l4 - l11;
-f276(b, l1 + l13, l15, l15, 126u - (((u32)clz64(l15)) << 1), l9);
+f277(b, l1 + l13, l15, l15, 126u - (((u32)clz64(l15)) << 1), l9);
 L23:;
 l13 = l1 + l13;
 l5 = get32(b, l13);
@@ -56008,7 +56708,7 @@ goto L24;
 L29:;
 if (get32(b, l13 + 16ull) >= get32(b, l13 + 18446744073709551612ull)) { goto L24; }
 L25:;
-f283(b, l14, l4 - l3, l11 - l3, l9);
+f284(b, l14, l4 - l3, l11 - l3, l9);
 L24:;
 l5 = 1u;
 L20:;
@@ -56035,19 +56735,19 @@ L1:;
 SP = l10 + 80ull;
 }
 
-FN void f278(B b, u64 l0, u64 l1, u64 l2) {
+FN void f279(B b, u64 l0, u64 l1, u64 l2) {
 u64 l3 = 0;
 if (l1 >= 33ull) { goto L1; }
-f281(b, l0, l1, l2);
+f282(b, l0, l1, l2);
 return;
 L1:;
 l3 = l1 >> 1;
-f278(b, l0, l3, l2);
-f278(b, l0 + (l3 * 20ull), l1 - l3, l2);
-f283(b, l0, l1, l3, l2);
+f279(b, l0, l3, l2);
+f279(b, l0 + (l3 * 20ull), l1 - l3, l2);
+f284(b, l0, l1, l3, l2);
 }
 
-FN u64 f279(B b, u64 l0, u64 l1, u64 l2, u64 l3) {
+FN u64 f280(B b, u64 l0, u64 l1, u64 l2, u64 l3) {
 u32 l6 = 0, l7 = 0, l8 = 0, l9 = 0, l10 = 0;
 u64 l4 = 0, l5 = 0;
 l4 = l0 + (l1 * 20ull);
@@ -56134,34 +56834,34 @@ L11:;
 return l1;
 }
 
-FN u64 f280(B b, u64 l0, u64 l1, u64 l2, u64 l3, u64 l4) {
+FN u64 f281(B b, u64 l0, u64 l1, u64 l2, u64 l3, u64 l4) {
 u64 l5 = 0, l6 = 0, t0, t1, t2, t3, t4;
 if (l4 >= 8ull) { goto L1; }
-t0 = f279(b, l0, l1, l2, l3);
+t0 = f280(b, l0, l1, l2, l3);
 return t0;
 L1:;
 l4 = l4 >> 3;
 l5 = l4 << 2;
 l6 = l4 * 7ull;
-t1 = f280(b, l0, l1, l5 + l1, l6 + l1, l4);
-t2 = f280(b, l0, l2, l5 + l2, l6 + l2, l4);
-t3 = f280(b, l0, l3, l5 + l3, l6 + l3, l4);
-t4 = f279(b, l0, t1, t2, t3);
+t1 = f281(b, l0, l1, l5 + l1, l6 + l1, l4);
+t2 = f281(b, l0, l2, l5 + l2, l6 + l2, l4);
+t3 = f281(b, l0, l3, l5 + l3, l6 + l3, l4);
+t4 = f280(b, l0, t1, t2, t3);
 return t4;
 }
 
-FN void f281(B b, u64 l0, u64 l1, u64 l2) {
+FN void f282(B b, u64 l0, u64 l1, u64 l2) {
 u32 l18 = 0, l19 = 0;
 u64 l3 = 0, l4 = 0, l5 = 0, l6 = 0, l7 = 0, l8 = 0, l9 = 0, l10 = 0, l11 = 0, l12 = 0, l13 = 0, l14 = 0, l15 = 0, l16 = 0, l17 = 0;
 l3 = SP - 32ull;
 SP = l3;
 if (l1 >= 16ull) { goto L2; }
-f282(b, l0, l1, l2);
+f283(b, l0, l1, l2);
 goto L1;
 L2:;
 l4 = l1 >> 1;
-f282(b, l0, l4, l2);
-f282(b, l0 + (l4 * 20ull), l1 - l4, l2);
+f283(b, l0, l4, l2);
+f283(b, l0 + (l4 * 20ull), l1 - l4, l2);
 l5 = get64(b, l2 + 8);
 l6 = get64(b, l2);
 l7 = 0ull;
@@ -56331,12 +57031,12 @@ put64(b, l2 + 8, l5);
 put64(b, l2, l6);
 goto L1;
 L15:;
-f273(b, l0, l1, 1ull);
+f274(b, l0, l1, 1ull);
 L1:;
 SP = l3 + 32ull;
 }
 
-FN void f282(B b, u64 l0, u64 l1, u64 l2) {
+FN void f283(B b, u64 l0, u64 l1, u64 l2) {
 u32 l28 = 0, l29 = 0, l30 = 0, l31 = 0, l32 = 0, l33 = 0, l34 = 0, l35 = 0, l36 = 0;
 u64 l3 = 0, l4 = 0, l5 = 0, l6 = 0, l7 = 0, l8 = 0, l9 = 0, l10 = 0, l11 = 0, l12 = 0, l13 = 0, l14 = 0, l15 = 0, l16 = 0, l17 = 0, l18 = 0, l19 = 0, l20 = 0, l21 = 0, l22 = 0, l23 = 0, l24 = 0, l25 = 0, l26 = 0, l27 = 0;
 if (l1 < 8ull) { goto L1; }
@@ -57029,7 +57729,7 @@ l6 = 4ull;
 L92:;
 put64(b, l2 + 8, l14);
 put64(b, l2, l8);
-f273(b, l0, l1, l6);
+f274(b, l0, l1, l6);
 return;
 L1:;
 l8 = 1ull;
@@ -57240,10 +57940,10 @@ put64(b, l2 + 8, l10);
 put64(b, l2, l8);
 l8 = 4ull;
 L96:;
-f273(b, l0, l1, l8);
+f274(b, l0, l1, l8);
 }
 
-FN void f283(B b, u64 l0, u64 l1, u64 l2, u64 l3) {
+FN void f284(B b, u64 l0, u64 l1, u64 l2, u64 l3) {
 u32 l19 = 0, l20 = 0;
 u64 l4 = 0, l5 = 0, l6 = 0, l7 = 0, l8 = 0, l9 = 0, l10 = 0, l11 = 0, l12 = 0, l13 = 0, l14 = 0, l15 = 0, l16 = 0, l17 = 0, l18 = 0;
 l4 = l1 >> 2;
@@ -57820,7 +58520,7 @@ put64(b, l3 + 8, l16);
 put64(b, l3, l13);
 }
 
-FN void f284(B b, u64 l0, u64 l1, u64 l2) {
+FN void f285(B b, u64 l0, u64 l1, u64 l2) {
 u64 l3 = 0, l4 = 0, l5 = 0, l6 = 0, l7 = 0, l8 = 0, l9 = 0;
 l3 = l2 & 9223372036854775806ull;
 l4 = l2 & 1ull;
@@ -57846,13 +58546,13 @@ put64(b, l5, l6);
 L2:;
 }
 
-FN void f285(B b, u64 l0, u64 l1, u64 l2, u32 l3, u64 l4) {
+FN void f286(B b, u64 l0, u64 l1, u64 l2, u32 l3, u64 l4) {
 u32 l17 = 0, l18 = 0, l19 = 0, l20 = 0;
 u64 l5 = 0, l6 = 0, l7 = 0, l8 = 0, l9 = 0, l10 = 0, l11 = 0, l12 = 0, l13 = 0, l14 = 0, l15 = 0, l16 = 0, t0;
 if (l1 < 33ull) { goto L1; }
 L2:;
 if (l3) { goto L3; }
-f287(b, l0, l1, l4);
+f288(b, l0, l1, l4);
 return;
 L3:;
 l5 = l1 >> 3;
@@ -57887,7 +58587,7 @@ L10:;
 l9 = (l19 ^ l17) ? l6 : l7;
 goto L4;
 L5:;
-t0 = f288(b, l0, 0ull, l7, l6, l5);
+t0 = f289(b, l0, 0ull, l7, l6, l5);
 l9 = t0;
 L4:;
 if (l2 < l1) { goto L14; }
@@ -58102,7 +58802,7 @@ L39:;
 put64(b, l4 + 8, l11);
 put64(b, l4, l12);
 l3 = l3 + 4294967295u;
-f285(b, l0, l6, l1, l3, l4);
+f286(b, l0, l6, l1, l3, l4);
 l1 = l15;
 L12:;
 l2 = l1;
@@ -58110,10 +58810,10 @@ l0 = l14;
 l1 = l9;
 if (l9 >= 33ull) { goto L2; }
 L1:;
-f289(b, l0, l1, l4);
+f290(b, l0, l1, l4);
 }
 
-FN void f286(B b, u64 l0, u64 l1, u64 l2, u64 l3, u64 l4, u32 l5, u32 l6, u64 l7, u64 l8, u64 l9) {
+FN void f287(B b, u64 l0, u64 l1, u64 l2, u64 l3, u64 l4, u32 l5, u32 l6, u64 l7, u64 l8, u64 l9) {
 u32 l17 = 0, l18 = 0, l19 = 0, l20 = 0;
 u64 l10 = 0, l11 = 0, l12 = 0, l13 = 0, l14 = 0, l15 = 0, l16 = 0;
 l10 = SP - 48ull;
@@ -58288,7 +58988,7 @@ put64(b, l13, l14);
 goto L3;
 L16:;
 l14 = l13 >> 1;
-f284(b, l12, l12 + ((l13 - l14) << 3), l14);
+f285(b, l12, l12 + ((l13 - l14) << 3), l14);
 L3:;
 put32(b, l10 + 17, 0u);
 put8(b, l10 + 16, l5);
@@ -58307,7 +59007,7 @@ if (l6 > l20) { goto L29; }
 l15 = l1 + (l3 << 3);
 L30:;
 l11 = l4;
-f286(b, l10 + 8ull, l1, l2, l11, get64(b, l10 + 24), get8(b, l10 + 32), l19, l7, l8, l9);
+f287(b, l10 + 8ull, l1, l2, l11, get64(b, l10 + 24), get8(b, l10 + 32), l19, l7, l8, l9);
 l4 = get64(b, l10 + 8);
 l19 = get8(b, l10 + 16);
 if ((l19 | l5) & 1u) { goto L32; }
@@ -58316,12 +59016,12 @@ goto L31;
 L32:;
 if (l5 & 1u) { goto L33; }
 l12 = l11 - l3;
-f285(b, l15, l12, l12, 126u - (((u32)clz64(l12)) << 1), l9);
+f286(b, l15, l12, l12, 126u - (((u32)clz64(l12)) << 1), l9);
 L33:;
 l12 = l11 << 3;
 if (l19 & 1u) { goto L34; }
 l14 = l4 - l11;
-f285(b, l1 + l12, l14, l14, 126u - (((u32)clz64(l14)) << 1), l9);
+f286(b, l1 + l12, l14, l14, 126u - (((u32)clz64(l14)) << 1), l9);
 L34:;
 l12 = l1 + l12;
 l5 = get32(b, l12);
@@ -58332,7 +59032,7 @@ goto L35;
 L37:;
 if (l5 >= l19) { goto L35; }
 L36:;
-f291(b, l15, l4 - l3, l11 - l3, l9);
+f292(b, l15, l4 - l3, l11 - l3, l9);
 L35:;
 l5 = 1u;
 L31:;
@@ -58359,19 +59059,19 @@ L1:;
 SP = l10 + 48ull;
 }
 
-FN void f287(B b, u64 l0, u64 l1, u64 l2) {
+FN void f288(B b, u64 l0, u64 l1, u64 l2) {
 u64 l3 = 0;
 if (l1 >= 33ull) { goto L1; }
-f289(b, l0, l1, l2);
+f290(b, l0, l1, l2);
 return;
 L1:;
 l3 = l1 >> 1;
-f287(b, l0, l3, l2);
-f287(b, l0 + (l3 << 3), l1 - l3, l2);
-f291(b, l0, l1, l3, l2);
+f288(b, l0, l3, l2);
+f288(b, l0 + (l3 << 3), l1 - l3, l2);
+f292(b, l0, l1, l3, l2);
 }
 
-FN u64 f288(B b, u64 l0, u64 l1, u64 l2, u64 l3, u64 l4) {
+FN u64 f289(B b, u64 l0, u64 l1, u64 l2, u64 l3, u64 l4) {
 u32 l5 = 0, l6 = 0, l7 = 0, l8 = 0;
 u64 l9 = 0, l10 = 0, t0, t1, t2;
 if (l4 >= 8ull) { goto L2; }
@@ -58405,11 +59105,11 @@ L2:;
 l4 = l4 >> 3;
 l9 = l4 << 2;
 l10 = l4 * 7ull;
-t0 = f288(b, l0, l1, l9 + l1, l10 + l1, l4);
+t0 = f289(b, l0, l1, l9 + l1, l10 + l1, l4);
 l1 = t0;
-t1 = f288(b, l0, l2, l9 + l2, l10 + l2, l4);
+t1 = f289(b, l0, l2, l9 + l2, l10 + l2, l4);
 l2 = t1;
-t2 = f288(b, l0, l3, l9 + l3, l10 + l3, l4);
+t2 = f289(b, l0, l3, l9 + l3, l10 + l3, l4);
 l3 = t2;
 l4 = l0 + (l1 << 3);
 l5 = get32(b, l4);
@@ -58441,18 +59141,18 @@ L1:;
 return l1;
 }
 
-FN void f289(B b, u64 l0, u64 l1, u64 l2) {
+FN void f290(B b, u64 l0, u64 l1, u64 l2) {
 u32 l18 = 0, l19 = 0, l20 = 0;
 u64 l3 = 0, l4 = 0, l5 = 0, l6 = 0, l7 = 0, l8 = 0, l9 = 0, l10 = 0, l11 = 0, l12 = 0, l13 = 0, l14 = 0, l15 = 0, l16 = 0, l17 = 0;
 l3 = SP - 32ull;
 SP = l3;
 if (l1 >= 16ull) { goto L2; }
-f290(b, l0, l1, l2);
+f291(b, l0, l1, l2);
 goto L1;
 L2:;
 l4 = l1 >> 1;
-f290(b, l0, l4, l2);
-f290(b, l0 + (l4 << 3), l1 - l4, l2);
+f291(b, l0, l4, l2);
+f291(b, l0 + (l4 << 3), l1 - l4, l2);
 l5 = get64(b, l2 + 8);
 l6 = get64(b, l2);
 l7 = 0ull;
@@ -58602,7 +59302,7 @@ L1:;
 SP = l3 + 32ull;
 }
 
-FN void f290(B b, u64 l0, u64 l1, u64 l2) {
+FN void f291(B b, u64 l0, u64 l1, u64 l2) {
 u32 l3 = 0, l4 = 0, l5 = 0, l6 = 0, l7 = 0, l8 = 0, l9 = 0, l10 = 0, l11 = 0;
 u64 l12 = 0, l13 = 0, l14 = 0, l15 = 0, l16 = 0, l17 = 0, l18 = 0, l19 = 0, l20 = 0, l21 = 0, l22 = 0, l23 = 0, l24 = 0, l25 = 0, l26 = 0, l27 = 0, l28 = 0, l29 = 0;
 if (l1 < 8ull) { goto L2; }
@@ -58989,7 +59689,7 @@ if (l13 != l1) { goto L52; }
 L51:;
 }
 
-FN void f291(B b, u64 l0, u64 l1, u64 l2, u64 l3) {
+FN void f292(B b, u64 l0, u64 l1, u64 l2, u64 l3) {
 u32 l17 = 0, l18 = 0;
 u64 l4 = 0, l5 = 0, l6 = 0, l7 = 0, l8 = 0, l9 = 0, l10 = 0, l11 = 0, l12 = 0, l13 = 0, l14 = 0, l15 = 0, l16 = 0;
 if (l1 < 4097ull) { goto L2; }
@@ -59347,7 +60047,7 @@ put64(b, l3 + 8, l15);
 put64(b, l3, l4);
 }
 
-FN u32 f292(B b, u64 l0, u64 l1) {
+FN u32 f293(B b, u64 l0, u64 l1) {
 u32 l6 = 0;
 u64 l2 = 0, l3 = 0, l4 = 0, l5 = 0;
 l2 = SP - 32ull;
@@ -59380,7 +60080,7 @@ SP = l2 + 32ull;
 return l6;
 }
 
-FN void f293(B b, u64 l0, u64 l1, u64 l2, u64 l3) {
+FN void f294(B b, u64 l0, u64 l1, u64 l2, u64 l3) {
 u32 t0, t1;
 u64 l4 = 0, l5 = 0, l6 = 0;
 l4 = SP - 208ull;
@@ -59393,7 +60093,7 @@ put64(b, l4 + 160, 0ull);
 put64(b, l4 + 152, l4 + 204ull);
 if (!l2) { goto L2; }
 l3 = (l2 < 4294967295ull) ? l2 : 4294967295ull;
-t0 = f246(b, l4 + 152ull, l3);
+t0 = f247(b, l4 + 152ull, l3);
 if (!t0) { goto L4; }
 l2 = get64(b, l4 + 160);
 l5 = l2 + l3;
@@ -59413,7 +60113,7 @@ put64(b, l4 + 24, get64(b, l4 + 168));
 put64(b, l4 + 184, 0ull);
 put64(b, l4 + 192, 0ull);
 put64(b, l4 + 176, l4 + 204ull);
-t1 = f246(b, l4 + 176ull, l3);
+t1 = f247(b, l4 + 176ull, l3);
 if (!t1) { goto L6; }
 l2 = get64(b, l4 + 184);
 l1 = l2 + l3;
@@ -59452,7 +60152,7 @@ put64(b, l0 + 72, l4 + 204ull);
 SP = l4 + 208ull;
 }
 
-FN u32 f294(B b, u64 l0) {
+FN u32 f295(B b, u64 l0) {
 u32 l6 = 0;
 u64 l1 = 0, l2 = 0, l3 = 0, l4 = 0, l5 = 0;
 l1 = SP - 32ull;
@@ -59484,7 +60184,7 @@ SP = l1 + 32ull;
 return l6;
 }
 
-FN void f295(B b, u64 l0, u64 l1, u64 l2, u64 l3) {
+FN void f296(B b, u64 l0, u64 l1, u64 l2, u64 l3) {
 u32 l13 = 0, t0;
 u64 l4 = 0, l5 = 0, l6 = 0, l7 = 0, l8 = 0, l9 = 0, l10 = 0, l11 = 0, l12 = 0;
 l4 = SP - 32ull;
@@ -59497,7 +60197,7 @@ put64(b, l4, l4 + 28ull);
 l7 = l4 + 28ull;
 if (!l5) { goto L1; }
 l5 = (l5 < 4294967295ull) ? l5 : 4294967295ull;
-t0 = f246(b, l4, l5);
+t0 = f247(b, l4, l5);
 if (!t0) { goto L2; }
 l7 = get64(b, l4);
 l1 = get64(b, l4 + 8);
@@ -59544,7 +60244,7 @@ put64(b, l0, l7);
 SP = l4 + 32ull;
 }
 
-FN u32 f296(B b, u64 l0) {
+FN u32 f297(B b, u64 l0) {
 u32 l6 = 0;
 u64 l1 = 0, l2 = 0, l3 = 0, l4 = 0, l5 = 0;
 l1 = SP - 32ull;
@@ -59576,7 +60276,7 @@ SP = l1 + 32ull;
 return l6;
 }
 
-FN u32 f297(B b, u64 l0, u64 l1) {
+FN u32 f298(B b, u64 l0, u64 l1) {
 u32 l6 = 0;
 u64 l2 = 0, l3 = 0, l4 = 0, l5 = 0;
 l2 = SP - 32ull;
@@ -59609,7 +60309,7 @@ SP = l2 + 32ull;
 return l6;
 }
 
-FN u32 f298(B b, u64 l0, u64 l1) {
+FN u32 f299(B b, u64 l0, u64 l1) {
 u32 l6 = 0;
 u64 l2 = 0, l3 = 0, l4 = 0, l5 = 0;
 l2 = SP - 32ull;
@@ -59642,7 +60342,7 @@ SP = l2 + 32ull;
 return l6;
 }
 
-FN void f299(B b, u64 l0, u64 l1, u64 l2, u64 l3, u64 l4, u64 l5, u32 l6) {
+FN void f300(B b, u64 l0, u64 l1, u64 l2, u64 l3, u64 l4, u64 l5, u32 l6) {
 u32 l19 = 0, l20 = 0, l21 = 0, l22 = 0, l23 = 0, l24 = 0, l25 = 0, l26 = 0, l27 = 0, l28 = 0, l29 = 0, l30 = 0, l31 = 0, l32 = 0, l33 = 0, l34 = 0, l35 = 0, l36 = 0, t0, t1;
 u64 l7 = 0, l8 = 0, l9 = 0, l10 = 0, l11 = 0, l12 = 0, l13 = 0, l14 = 0, l15 = 0, l16 = 0, l17 = 0, l18 = 0;
 l7 = SP - 32ull;
@@ -59652,7 +60352,7 @@ put64(b, l7 + 8, 0ull);
 put64(b, l7, l7 + 28ull);
 if (!l5) { goto L4; }
 l8 = (l5 < 4294967295ull) ? l5 : 4294967295ull;
-t0 = f246(b, l7, l8);
+t0 = f247(b, l7, l8);
 if (!t0) { goto L6; }
 l9 = get64(b, l7);
 l5 = get64(b, l7 + 8);
@@ -59671,7 +60371,7 @@ l12 = get64(b, l7 + 16);
 put64(b, l7 + 16, 0ull);
 put64(b, l7 + 8, 0ull);
 put64(b, l7, l7 + 28ull);
-t1 = f246(b, l7, l8);
+t1 = f247(b, l7, l8);
 if (!t1) { goto L3; }
 l13 = get64(b, l7);
 l5 = get64(b, l7 + 8);
@@ -59801,7 +60501,7 @@ goto L13;
 L19:;
 if (l29 != l36) { goto L13; }
 L18:;
-f304(b, l17, l18, l2, l3, l20, l19, l6);
+f305(b, l17, l18, l2, l3, l20, l19, l6);
 L13:;
 l5 = l5 + 4ull;
 l19 = l19 + 1u;
@@ -59820,7 +60520,7 @@ L23:;
 SP = l7 + 32ull;
 }
 
-FN u32 f300(B b, u64 l0) {
+FN u32 f301(B b, u64 l0) {
 u32 l6 = 0;
 u64 l1 = 0, l2 = 0, l3 = 0, l4 = 0, l5 = 0;
 l1 = SP - 32ull;
@@ -59852,7 +60552,7 @@ SP = l1 + 32ull;
 return l6;
 }
 
-FN void f301(B b, u64 l0, u64 l1, u64 l2, u64 l3, u64 l4, u64 l5) {
+FN void f302(B b, u64 l0, u64 l1, u64 l2, u64 l3, u64 l4, u64 l5) {
 u32 l51 = 0, l52 = 0, l53 = 0, l54 = 0, l55 = 0, l56 = 0, l57 = 0, l58 = 0, l59 = 0, l60 = 0, l61 = 0, l62 = 0, l63 = 0, l64 = 0, l65 = 0, l66 = 0, l67 = 0, l68 = 0, t0, t1, t2, t3, t4, t5, t6, t7, t8, t9, t10, t11, t12, t13, t14, t15, t16, t17, t18, t19, t20, t21, t22, t23, t24, t25, t26, t27, t28, t29, t30, t31, t32, t33, t34, t35, t36, t37, t38;
 u64 l6 = 0, l7 = 0, l8 = 0, l9 = 0, l10 = 0, l11 = 0, l12 = 0, l13 = 0, l14 = 0, l15 = 0, l16 = 0, l17 = 0, l18 = 0, l19 = 0, l20 = 0, l21 = 0, l22 = 0, l23 = 0, l24 = 0, l25 = 0, l26 = 0, l27 = 0, l28 = 0, l29 = 0, l30 = 0, l31 = 0, l32 = 0, l33 = 0, l34 = 0, l35 = 0, l36 = 0, l37 = 0, l38 = 0, l39 = 0, l40 = 0, l41 = 0, l42 = 0, l43 = 0, l44 = 0, l45 = 0, l46 = 0, l47 = 0, l48 = 0, l49 = 0, l50 = 0;
 l6 = SP - 752ull;
@@ -59876,9 +60576,9 @@ if (l8 != 0ull) { goto L4; }
 L3:;
 if (l9 > 5ull) { goto L1; }
 L2:;
-f259(b, l6 + 208ull, l0, l3);
+f260(b, l6 + 208ull, l0, l3);
 copy(b, l6 + 528ull, l6 + 208ull, 216u);
-f305(b, l0, l1, l2, l6 + 528ull, l4, l5);
+f306(b, l0, l1, l2, l6 + 528ull, l4, l5);
 if (!get64(b, l6 + 544)) { goto L5; }
 rattle_dealloc(b, get64(b, l6 + 528));
 L5:;
@@ -59922,7 +60622,7 @@ put64(b, l6 + 544, 0ull);
 put64(b, l6 + 536, 0ull);
 put64(b, l6 + 528, 0ull);
 l8 = get64(b, l1 + 16ull);
-f306(b, l6 + 528ull, l0, (u32)((l8 < 4294967295ull) ? l8 : 4294967295ull));
+f307(b, l6 + 528ull, l0, (u32)((l8 < 4294967295ull) ? l8 : 4294967295ull));
 l9 = get64(b, l4 + 8ull);
 if (!l9) { goto L13; }
 l52 = 4294967295u;
@@ -59948,7 +60648,7 @@ L17:;
 if (l51 != l52) { goto L18; }
 if (l55 == l53) { goto L15; }
 L18:;
-f307(b, l6 + 528ull, l51, l55, 0u);
+f308(b, l6 + 528ull, l51, l55, 0u);
 l53 = l55;
 l52 = l51;
 L15:;
@@ -59965,7 +60665,7 @@ put64(b, l6 + 224, l14);
 put64(b, l6 + 216, get64(b, l6 + 536));
 l15 = get64(b, l6 + 528);
 put64(b, l6 + 208, l15);
-f308(b, l6 + 80ull, l0, l3, l6 + 208ull);
+f309(b, l6 + 80ull, l0, l3, l6 + 208ull);
 l16 = get64(b, l6 + 96);
 l17 = get64(b, l6 + 88);
 l18 = get64(b, l6 + 80);
@@ -59987,7 +60687,7 @@ l10 = l6 + 744ull;
 l8 = 0ull;
 l9 = 0ull;
 if (!l17) { goto L24; }
-t0 = f246(b, l6 + 424ull, l17);
+t0 = f247(b, l6 + 424ull, l17);
 if (!t0) { goto L22; }
 l7 = get64(b, l6 + 432);
 l8 = l7 + l17;
@@ -60042,12 +60742,12 @@ put64(b, l6 + 112, l10);
 put64(b, l6 + 104, get64(b, l6 + 424));
 goto L19;
 L20:;
-f309(b, l6 + 528ull, l0, l1, l4, 1u);
+f310(b, l6 + 528ull, l0, l1, l4, 1u);
 l7 = get64(b, l6 + 568);
 l9 = get64(b, l6 + 552);
 l10 = get64(b, l6 + 528);
 l8 = get64(b, l6 + 544);
-f308(b, l6 + 104ull, l0, l3, l6 + 528ull);
+f309(b, l6 + 104ull, l0, l3, l6 + 528ull);
 if (!l8) { goto L28; }
 rattle_dealloc(b, l10);
 L28:;
@@ -60065,7 +60765,7 @@ put64(b, l6 + 528, l6 + 744ull);
 l56 = (u32)(!l17);
 if (l56) { goto L33; }
 l7 = (l17 < 4294967295ull) ? l17 : 4294967295ull;
-t1 = f246(b, l6 + 528ull, l7);
+t1 = f247(b, l6 + 528ull, l7);
 if (!t1) { goto L32; }
 l27 = get64(b, l6 + 528);
 l8 = get64(b, l6 + 536);
@@ -60124,7 +60824,7 @@ put64(b, l6 + 528, l6 + 744ull);
 l58 = (u32)(!l10);
 if (l58) { goto L42; }
 l7 = (l10 < 4294967295ull) ? l10 : 4294967295ull;
-t2 = f246(b, l6 + 528ull, l7);
+t2 = f247(b, l6 + 528ull, l7);
 if (!t2) { goto L41; }
 l29 = get64(b, l6 + 528);
 l8 = get64(b, l6 + 536);
@@ -60176,7 +60876,7 @@ put32(b, l7, l51 ? l51 : 4294967295u);
 L43:;
 l59 = (u32)(!l24);
 L39:;
-f295(b, l6 + 56ull, l0, l1, l4);
+f296(b, l6 + 56ull, l0, l1, l4);
 l30 = get64(b, l6 + 72);
 l8 = get64(b, l6 + 64);
 l22 = get64(b, l6 + 56);
@@ -60186,7 +60886,7 @@ put64(b, l6 + 536, 0ull);
 put64(b, l6 + 528, l6 + 744ull);
 if (l56) { goto L51; }
 l7 = (l17 < 4294967295ull) ? l17 : 4294967295ull;
-t3 = f246(b, l6 + 528ull, l7);
+t3 = f247(b, l6 + 528ull, l7);
 if (!t3) { goto L50; }
 l31 = get64(b, l6 + 528);
 l9 = get64(b, l6 + 536);
@@ -60234,7 +60934,7 @@ put64(b, l6 + 536, 0ull);
 put64(b, l6 + 528, l6 + 744ull);
 if (l58) { goto L59; }
 l7 = (l10 < 4294967295ull) ? l10 : 4294967295ull;
-t4 = f246(b, l6 + 528ull, l7);
+t4 = f247(b, l6 + 528ull, l7);
 if (!t4) { goto L58; }
 l32 = get64(b, l6 + 528);
 l9 = get64(b, l6 + 536);
@@ -60284,7 +60984,7 @@ put64(b, l6 + 528, l6 + 744ull);
 l21 = l6 + 744ull;
 if (!l7) { goto L64; }
 l7 = (l7 < 4294967295ull) ? l7 : 4294967295ull;
-t5 = f246(b, l6 + 528ull, l7);
+t5 = f247(b, l6 + 528ull, l7);
 if (!t5) { goto L65; }
 l21 = get64(b, l6 + 528);
 l8 = get64(b, l6 + 536);
@@ -60437,7 +61137,7 @@ put64(b, l6 + 536, 0ull);
 put64(b, l6 + 528, l6 + 744ull);
 if (!l19) { goto L91; }
 l11 = (l19 < 4294967295ull) ? l19 : 4294967295ull;
-t6 = f253(b, l6 + 528ull, l11);
+t6 = f254(b, l6 + 528ull, l11);
 if (!t6) { goto L90; }
 l22 = get64(b, l6 + 528);
 l7 = get64(b, l6 + 536);
@@ -60533,7 +61233,7 @@ if (l9 <= l11) { goto L107; }
 if (get8(b, l22 + l11) != 1u) { goto L107; }
 l11 = get64(b, l6 + 536);
 if (get64(b, l6 + 544) != l11) { goto L109; }
-t8 = f246(b, l6 + 528ull, 1ull);
+t8 = f247(b, l6 + 528ull, 1ull);
 if (!t8) { goto L108; }
 l11 = get64(b, l6 + 536);
 L109:;
@@ -60612,7 +61312,7 @@ put64(b, l6 + 544, l12);
 put64(b, l6 + 536, l19);
 put64(b, l6 + 528, l14);
 put32(b, l6 + 552, (l62 < (((s32)l54 > (s32)4294967295u) ? (l54 << 1) : 4294967295u)) ? 10u : 2u);
-f258(b, l0, l6 + 32ull, l6 + 528ull);
+f259(b, l0, l6 + 32ull, l6 + 528ull);
 L114:;
 if (!l53) { goto L96; }
 goto L95;
@@ -60671,7 +61371,7 @@ put64(b, l6 + 536, l19);
 put64(b, l6 + 528, l14);
 l51 = l64 + 14u;
 put32(b, l6 + 552, (l62 < (((s32)l54 > (s32)4294967295u) ? (l54 << 1) : 4294967295u)) ? ((l51 < l64) ? 4294967295u : l51) : l65);
-f258(b, l0, l6 + 32ull, l6 + 528ull);
+f259(b, l0, l6 + 32ull, l6 + 528ull);
 L122:;
 if (l53) { goto L95; }
 L96:;
@@ -60726,7 +61426,7 @@ l54 = get32(b, l26 + (l11 << 2));
 L143:;
 l22 = get64(b, l6 + 536);
 if (get64(b, l6 + 544) != l22) { goto L145; }
-t9 = f249(b, l6 + 528ull);
+t9 = f250(b, l6 + 528ull);
 if (!t9) { goto L144; }
 l22 = get64(b, l6 + 536);
 L145:;
@@ -60743,7 +61443,7 @@ L141:;
 l7 = l7 + 1ull;
 if (l9 != l7) { goto L140; }
 L139:;
-t10 = f272(b, l6 + 528ull);
+t10 = f273(b, l6 + 528ull);
 if (!(t10 & 255u)) { goto L146; }
 put8(b, l0, 1u);
 L146:;
@@ -60782,7 +61482,7 @@ l52 = get32(b, get64(b, l4 + 48ull) + (l11 << 2));
 L152:;
 l22 = get64(b, l6 + 216);
 if (get64(b, l6 + 224) != l22) { goto L155; }
-t11 = f310(b, l6 + 208ull);
+t11 = f311(b, l6 + 208ull);
 if (!t11) { goto L154; }
 l22 = get64(b, l6 + 216);
 L155:;
@@ -60817,7 +61517,7 @@ put64(b, l6 + 528, l6 + 744ull);
 l12 = l6 + 744ull;
 l66 = (u32)(!l8);
 if (l66) { goto L157; }
-t12 = f253(b, l6 + 528ull, l35);
+t12 = f254(b, l6 + 528ull, l35);
 if (!t12) { goto L158; }
 l12 = get64(b, l6 + 528);
 l8 = get64(b, l6 + 536);
@@ -60884,7 +61584,7 @@ put64(b, l6 + 528, l6 + 744ull);
 l53 = (u32)(!l9);
 if (l53) { goto L171; }
 l23 = (l9 < 4294967295ull) ? l9 : 4294967295ull;
-t13 = f253(b, l6 + 528ull, l23);
+t13 = f254(b, l6 + 528ull, l23);
 if (!t13) { goto L170; }
 l14 = get64(b, l6 + 528);
 l8 = get64(b, l6 + 536);
@@ -60932,7 +61632,7 @@ if (l19 <= l23) { goto L177; }
 if (get8(b, l14 + l23) != 1u) { goto L177; }
 l23 = get64(b, l6 + 536);
 if (get64(b, l6 + 544) != l23) { goto L179; }
-t14 = f246(b, l6 + 528ull, 1ull);
+t14 = f247(b, l6 + 528ull, 1ull);
 if (!t14) { goto L178; }
 l23 = get64(b, l6 + 536);
 L179:;
@@ -61002,7 +61702,7 @@ put64(b, l6 + 536, l30);
 put64(b, l6 + 528, l13);
 l51 = l67 + 10u;
 put32(b, l6 + 552, (l62 < (((s32)l54 > (s32)4294967295u) ? (l54 << 1) : 4294967295u)) ? ((l51 < l67) ? 4294967295u : l51) : l68);
-f258(b, l0, l6 + 32ull, l6 + 528ull);
+f259(b, l0, l6 + 32ull, l6 + 528ull);
 L175:;
 l13 = 0ull;
 put64(b, l6 + 544, 0ull);
@@ -61011,7 +61711,7 @@ put64(b, l6 + 528, l6 + 744ull);
 l30 = l6 + 744ull;
 if (l56) { goto L187; }
 l8 = (l17 < 4294967295ull) ? l17 : 4294967295ull;
-t15 = f253(b, l6 + 528ull, l8);
+t15 = f254(b, l6 + 528ull, l8);
 if (!t15) { goto L188; }
 l30 = get64(b, l6 + 528);
 l11 = get64(b, l6 + 536);
@@ -61155,7 +61855,7 @@ L214:;
 if (!((l51 | l55) & 1u)) { goto L215; }
 l23 = get64(b, l6 + 536);
 if (get64(b, l6 + 544) != l23) { goto L217; }
-t16 = f246(b, l6 + 528ull, 1ull);
+t16 = f247(b, l6 + 528ull, 1ull);
 if (!t16) { goto L216; }
 l23 = get64(b, l6 + 536);
 L217:;
@@ -61224,7 +61924,7 @@ put64(b, l6 + 536, l19);
 put64(b, l6 + 528, l20);
 l51 = l52 + 12u;
 put32(b, l6 + 552, (l62 < (((s32)l55 > (s32)4294967295u) ? (l55 << 1) : 4294967295u)) ? ((l51 < l52) ? 4294967295u : l51) : l56);
-f258(b, l0, l6 + 32ull, l6 + 528ull);
+f259(b, l0, l6 + 32ull, l6 + 528ull);
 L209:;
 if (!l15) { goto L225; }
 rattle_dealloc(b, l30);
@@ -61253,7 +61953,7 @@ l51 = get32(b, l29 + (l11 << 2));
 L230:;
 l23 = get64(b, l6 + 536);
 if (get64(b, l6 + 544) != l23) { goto L232; }
-t17 = f249(b, l6 + 528ull);
+t17 = f250(b, l6 + 528ull);
 if (!t17) { goto L231; }
 l23 = get64(b, l6 + 536);
 L232:;
@@ -61271,7 +61971,7 @@ L229:;
 l8 = l8 + 1ull;
 if (l9 != l8) { goto L228; }
 L227:;
-t18 = f272(b, l6 + 528ull);
+t18 = f273(b, l6 + 528ull);
 if (!(t18 & 255u)) { goto L233; }
 put8(b, l0, 1u);
 L233:;
@@ -61285,7 +61985,7 @@ L235:;
 l51 = get32(b, l8);
 l9 = get64(b, l6 + 216);
 if (get64(b, l6 + 224) != l9) { goto L238; }
-t19 = f246(b, l6 + 208ull, 1ull);
+t19 = f247(b, l6 + 208ull, 1ull);
 if (!t19) { goto L237; }
 l9 = get64(b, l6 + 216);
 L238:;
@@ -61318,7 +62018,7 @@ put64(b, l23 + 8, 0ull);
 put64(b, l23, 0ull);
 put64(b, l6 + 528, l6 + 744ull);
 if (l58) { goto L242; }
-t20 = f253(b, l6 + 528ull, l37);
+t20 = f254(b, l6 + 528ull, l37);
 if (!t20) { goto L244; }
 l20 = get64(b, l6 + 528);
 l8 = get64(b, l6 + 536);
@@ -61348,7 +62048,7 @@ if (l19 <= l17) { goto L247; }
 if (get8(b, l20 + l17) != 1u) { goto L247; }
 l17 = get64(b, l6 + 536);
 if (get64(b, l6 + 544) != l17) { goto L249; }
-t21 = f246(b, l6 + 528ull, 1ull);
+t21 = f247(b, l6 + 528ull, 1ull);
 if (!t21) { goto L248; }
 l17 = get64(b, l6 + 536);
 L249:;
@@ -61418,7 +62118,7 @@ put64(b, l6 + 536, l30);
 put64(b, l6 + 528, l13);
 l51 = l52 + 11u;
 put32(b, l6 + 552, (l62 < (((s32)l55 > (s32)4294967295u) ? (l55 << 1) : 4294967295u)) ? ((l51 < l52) ? 4294967295u : l51) : l64);
-f258(b, l0, l6 + 32ull, l6 + 528ull);
+f259(b, l0, l6 + 32ull, l6 + 528ull);
 L250:;
 if (!l40) { goto L242; }
 rattle_dealloc(b, l20);
@@ -61433,7 +62133,7 @@ put64(b, l6 + 536, 0ull);
 put64(b, l6 + 528, l6 + 744ull);
 l13 = l6 + 744ull;
 if (l66) { goto L258; }
-t22 = f246(b, l6 + 528ull, l35);
+t22 = f247(b, l6 + 528ull, l35);
 if (!t22) { goto L259; }
 l13 = get64(b, l6 + 528);
 l8 = get64(b, l6 + 536);
@@ -61470,7 +62170,7 @@ put64(b, l6 + 528, l6 + 744ull);
 l23 = l6 + 744ull;
 if (!l17) { goto L263; }
 l8 = (l17 < 4294967295ull) ? l17 : 4294967295ull;
-t23 = f246(b, l6 + 528ull, l8);
+t23 = f247(b, l6 + 528ull, l8);
 if (!t23) { goto L264; }
 l23 = get64(b, l6 + 528);
 l9 = get64(b, l6 + 536);
@@ -61518,7 +62218,7 @@ put64(b, l6 + 536, 0ull);
 put64(b, l6 + 528, l6 + 744ull);
 l37 = l6 + 744ull;
 if (l66) { goto L270; }
-t24 = f253(b, l6 + 528ull, l35);
+t24 = f254(b, l6 + 528ull, l35);
 if (!t24) { goto L271; }
 l37 = get64(b, l6 + 528);
 l8 = get64(b, l6 + 536);
@@ -61643,7 +62343,7 @@ put64(b, l6 + 536, 0ull);
 put64(b, l6 + 528, l6 + 744ull);
 l41 = l6 + 744ull;
 if (l66) { goto L294; }
-t25 = f253(b, l6 + 528ull, l35);
+t25 = f254(b, l6 + 528ull, l35);
 if (!t25) { goto L295; }
 l41 = get64(b, l6 + 528);
 l8 = get64(b, l6 + 536);
@@ -61694,7 +62394,7 @@ if (l20 <= l11) { goto L303; }
 if (get8(b, l41 + l11) != 1u) { goto L303; }
 l11 = get64(b, l6 + 536);
 if (get64(b, l6 + 544) != l11) { goto L305; }
-t26 = f246(b, l6 + 528ull, 1ull);
+t26 = f247(b, l6 + 528ull, 1ull);
 if (!t26) { goto L304; }
 l11 = get64(b, l6 + 536);
 L305:;
@@ -61765,7 +62465,7 @@ put64(b, l6 + 536, l23);
 put64(b, l6 + 528, l19);
 l51 = l52 + 12u;
 put32(b, l6 + 552, (l62 < (((s32)l55 > (s32)4294967295u) ? (l55 << 1) : 4294967295u)) ? ((l51 < l52) ? 4294967295u : l51) : l53);
-f258(b, l0, l6 + 32ull, l6 + 528ull);
+f259(b, l0, l6 + 32ull, l6 + 528ull);
 L306:;
 put64(b, l6 + 528, 0ull);
 put64(b, l6 + 536, 0ull);
@@ -61801,7 +62501,7 @@ L318:;
 l17 = get64(b, l8);
 l9 = get64(b, l6 + 216);
 if (get64(b, l6 + 224) != l9) { goto L321; }
-t27 = f251(b, l6 + 208ull);
+t27 = f252(b, l6 + 208ull);
 if (!t27) { goto L320; }
 l9 = get64(b, l6 + 216);
 L321:;
@@ -61815,7 +62515,7 @@ l8 = l8 + 16ull;
 l11 = l11 + 18446744073709551615ull;
 if (l11 != 0ull) { goto L318; }
 L314:;
-f252(b, l6 + 528ull, l0, l6 + 208ull, l51);
+f253(b, l6 + 528ull, l0, l6 + 208ull, l51);
 l44 = get64(b, l6 + 544);
 l30 = get64(b, l6 + 536);
 l40 = get64(b, l6 + 528);
@@ -61854,7 +62554,7 @@ L327:;
 l55 = get32(b, l11);
 l17 = get64(b, l6 + 536);
 if (get64(b, l6 + 544) != l17) { goto L330; }
-t28 = f249(b, l6 + 528ull);
+t28 = f250(b, l6 + 528ull);
 if (!t28) { goto L329; }
 l17 = get64(b, l6 + 536);
 L330:;
@@ -61872,7 +62572,7 @@ l8 = l8 + 16ull;
 l9 = l9 + 1ull;
 if (l7 != l9) { goto L326; }
 L322:;
-t29 = f272(b, l6 + 528ull);
+t29 = f273(b, l6 + 528ull);
 if (!(t29 & 255u)) { goto L331; }
 put8(b, l0, 1u);
 L331:;
@@ -61885,7 +62585,7 @@ put64(b, l6 + 536, 0ull);
 put64(b, l6 + 528, l6 + 744ull);
 l14 = l6 + 744ull;
 if (l58) { goto L332; }
-t30 = f253(b, l6 + 528ull, l23);
+t30 = f254(b, l6 + 528ull, l23);
 if (!t30) { goto L333; }
 l14 = get64(b, l6 + 528);
 l8 = get64(b, l6 + 536);
@@ -61948,7 +62648,7 @@ l42 = (l30 < 4294967295ull) ? l30 : 4294967295ull;
 put64(b, l6 + 528, l6 + 744ull);
 l64 = (u32)(!l30);
 if (l64) { goto L342; }
-t31 = f246(b, l6 + 528ull, l42);
+t31 = f247(b, l6 + 528ull, l42);
 if (!t31) { goto L344; }
 l13 = get64(b, l6 + 528);
 l7 = get64(b, l6 + 536);
@@ -61967,7 +62667,7 @@ l45 = get64(b, l6 + 544);
 put64(b, l6 + 544, 0ull);
 put64(b, l6 + 536, 0ull);
 put64(b, l6 + 528, l6 + 744ull);
-t32 = f246(b, l6 + 528ull, l42);
+t32 = f247(b, l6 + 528ull, l42);
 if (!t32) { goto L346; }
 l15 = get64(b, l6 + 528);
 l7 = get64(b, l6 + 536);
@@ -61986,7 +62686,7 @@ l47 = get64(b, l6 + 544);
 put64(b, l6 + 544, 0ull);
 put64(b, l6 + 536, 0ull);
 put64(b, l6 + 528, l6 + 744ull);
-t33 = f246(b, l6 + 528ull, l42);
+t33 = f247(b, l6 + 528ull, l42);
 if (!t33) { goto L341; }
 l17 = get64(b, l6 + 528);
 l7 = get64(b, l6 + 536);
@@ -62072,7 +62772,7 @@ l55 = get32(b, l17 + l8);
 L357:;
 l11 = get64(b, l6 + 216);
 if (get64(b, l6 + 224) != l11) { goto L359; }
-t34 = f249(b, l6 + 208ull);
+t34 = f250(b, l6 + 208ull);
 if (!t34) { goto L358; }
 l11 = get64(b, l6 + 216);
 L359:;
@@ -62094,7 +62794,7 @@ l54 = (u32)(!l45);
 l55 = (u32)(!l47);
 l52 = (u32)(!l49);
 L339:;
-t35 = f272(b, l6 + 208ull);
+t35 = f273(b, l6 + 208ull);
 if (!(t35 & 255u)) { goto L360; }
 put8(b, l0, 1u);
 L360:;
@@ -62113,7 +62813,7 @@ L363:;
 l51 = get32(b, l7);
 l8 = get64(b, l6 + 536);
 if (get64(b, l6 + 544) != l8) { goto L366; }
-t36 = f246(b, l6 + 528ull, 1ull);
+t36 = f247(b, l6 + 528ull, 1ull);
 if (!t36) { goto L365; }
 l8 = get64(b, l6 + 536);
 L366:;
@@ -62161,7 +62861,7 @@ put64(b, l23 + 8, 0ull);
 put64(b, l23, 0ull);
 put64(b, l6 + 528, l6 + 744ull);
 if (l64) { goto L378; }
-t37 = f253(b, l6 + 528ull, l42);
+t37 = f254(b, l6 + 528ull, l42);
 if (!t37) { goto L377; }
 l17 = get64(b, l6 + 528);
 l7 = get64(b, l6 + 536);
@@ -62217,7 +62917,7 @@ if (l11 <= l9) { goto L386; }
 if (get8(b, l17 + l9) != 1u) { goto L386; }
 l9 = get64(b, l6 + 536);
 if (get64(b, l6 + 544) != l9) { goto L388; }
-t38 = f246(b, l6 + 528ull, 1ull);
+t38 = f247(b, l6 + 528ull, 1ull);
 if (!t38) { goto L387; }
 l9 = get64(b, l6 + 536);
 L388:;
@@ -62287,7 +62987,7 @@ put64(b, l6 + 536, l20);
 put64(b, l6 + 528, l14);
 l51 = l53 + 11u;
 put32(b, l6 + 552, (l62 < (((s32)l55 > (s32)4294967295u) ? (l55 << 1) : 4294967295u)) ? ((l51 < l53) ? 4294967295u : l51) : l56);
-f258(b, l0, l6 + 32ull, l6 + 528ull);
+f259(b, l0, l6 + 32ull, l6 + 528ull);
 L384:;
 if (l52) { goto L396; }
 rattle_dealloc(b, l17);
@@ -62367,7 +63067,7 @@ if (l9 != 0ull) { goto L415; }
 L414:;
 if (l10 > 5ull) { goto L412; }
 L413:;
-f259(b, l6 + 208ull, l0, l3);
+f260(b, l6 + 208ull, l0, l3);
 copy(b, l6 + 528ull, l6 + 208ull, 216u);
 l7 = get64(b, l8 + 8ull);
 if (!l7) { goto L416; }
@@ -62400,9 +63100,9 @@ l51 = get32(b, l8 + 24ull);
 put8(b, l6 + 732, 0u);
 l55 = l51 + get32(b, l6 + 728);
 put32(b, l6 + 728, (l55 < l51) ? 4294967295u : l55);
-f260(b, l6 + 104ull, l0, l1, l6 + 528ull, l4);
+f261(b, l6 + 104ull, l0, l1, l6 + 528ull, l4);
 copy(b, l6 + 424ull, l6 + 104ull, 104u);
-f305(b, l0, l1, l2, l6 + 528ull, l6 + 424ull, l5);
+f306(b, l0, l1, l2, l6 + 528ull, l6 + 424ull, l5);
 if (!get64(b, l6 + 440)) { goto L421; }
 rattle_dealloc(b, get64(b, l6 + 424));
 L421:;
@@ -62457,7 +63157,7 @@ L12:;
 SP = l6 + 752ull;
 }
 
-FN u32 f302(B b, u64 l0) {
+FN u32 f303(B b, u64 l0) {
 u32 l6 = 0;
 u64 l1 = 0, l2 = 0, l3 = 0, l4 = 0, l5 = 0;
 l1 = SP - 32ull;
@@ -62489,7 +63189,7 @@ SP = l1 + 32ull;
 return l6;
 }
 
-FN u32 f303(B b, u64 l0, u64 l1) {
+FN u32 f304(B b, u64 l0, u64 l1) {
 u32 l6 = 0;
 u64 l2 = 0, l3 = 0, l4 = 0, l5 = 0;
 l2 = SP - 32ull;
@@ -62522,7 +63222,7 @@ SP = l2 + 32ull;
 return l6;
 }
 
-FN void f304(B b, u64 l0, u64 l1, u64 l2, u64 l3, u32 l4, u32 l5, u32 l6) {
+FN void f305(B b, u64 l0, u64 l1, u64 l2, u64 l3, u32 l4, u32 l5, u32 l6) {
 u32 l7 = 0, l8 = 0, l9 = 0, l10 = 0, l11 = 0, l12 = 0, l13 = 0, l14 = 0, l15 = 0, l16 = 0;
 u64 l17 = 0, l18 = 0, l19 = 0, l20 = 0, l21 = 0;
 l7 = 0u;
@@ -62641,7 +63341,7 @@ L21:;
 put8(b, l3, l4);
 }
 
-FN void f305(B b, u64 l0, u64 l1, u64 l2, u64 l3, u64 l4, u64 l5) {
+FN void f306(B b, u64 l0, u64 l1, u64 l2, u64 l3, u64 l4, u64 l5) {
 u32 l26 = 0, l27 = 0, l28 = 0, l29 = 0, l30 = 0, l31 = 0, l32 = 0, l33 = 0, l34 = 0, t0, t1, t2, t3, t4, t5;
 u64 l6 = 0, l7 = 0, l8 = 0, l9 = 0, l10 = 0, l11 = 0, l12 = 0, l13 = 0, l14 = 0, l15 = 0, l16 = 0, l17 = 0, l18 = 0, l19 = 0, l20 = 0, l21 = 0, l22 = 0, l23 = 0, l24 = 0, l25 = 0;
 l6 = SP - 480ull;
@@ -62654,7 +63354,7 @@ put32(b, l6 + 227, 0u);
 fill(b, l6 + 120ull, 0u, 104u);
 l26 = 1u;
 if (get8(b, l4 + 96ull) != 1u) { goto L7; }
-t0 = f311(b, l0, l1, l3, l4);
+t0 = f312(b, l0, l1, l3, l4);
 l26 = t0;
 l7 = l4 + 80ull;
 if (!(u32)(!get64(b, l7))) { goto L6; }
@@ -62677,7 +63377,7 @@ put64(b, l6 + 448, l6 + 479ull);
 l10 = l6 + 479ull;
 if (!l8) { goto L8; }
 l8 = (l8 < 4294967295ull) ? l8 : 4294967295ull;
-t1 = f253(b, l6 + 448ull, l8);
+t1 = f254(b, l6 + 448ull, l8);
 if (!t1) { goto L9; }
 l10 = get64(b, l6 + 448);
 l11 = get64(b, l6 + 456);
@@ -62737,9 +63437,9 @@ l7 = get64(b, l1 + 32ull) + (l7 * 12ull);
 l28 = get32(b, l7 + 8);
 l29 = get32(b, l7 + 4);
 L19:;
-t2 = f312(b, l3, l29, l28, 0u);
+t2 = f313(b, l3, l29, l28, 0u);
 l26 = t2;
-t3 = f312(b, l3, l29, l28, 1u);
+t3 = f313(b, l3, l29, l28, 1u);
 l30 = t3;
 l31 = l26 & l30;
 if (l31 == 4294967295u) { goto L20; }
@@ -62825,7 +63525,7 @@ if (!l13) { goto L30; }
 rattle_dealloc(b, l10);
 L30:;
 if (!l26) { goto L4; }
-f256(b, l6 + 336ull, l0, l1, l3);
+f257(b, l6 + 336ull, l0, l1, l3);
 l15 = get64(b, l6 + 424);
 l16 = get64(b, l6 + 408);
 l17 = get64(b, l6 + 400);
@@ -62887,7 +63587,7 @@ put32(b, l6 + 224, get32(b, l6 + 440));
 put32(b, l6 + 227, get32(b, l6 + 443));
 goto L3;
 L31:;
-t5 = f311(b, l0, l1, l3, l6 + 336ull);
+t5 = f312(b, l0, l1, l3, l6 + 336ull);
 if (t5) { goto L38; }
 if (!l21) { goto L39; }
 rattle_dealloc(b, l22);
@@ -62902,7 +63602,7 @@ if (!l15) { goto L4; }
 rattle_dealloc(b, l16);
 goto L4;
 L38:;
-f256(b, l6 + 232ull, l0, l1, l3);
+f257(b, l6 + 232ull, l0, l1, l3);
 put32(b, l6 + 448, 0u);
 put32(b, l6 + 451, 0u);
 l10 = get64(b, l6 + 320);
@@ -62966,7 +63666,7 @@ put32(b, l6 + 227, get32(b, l6 + 443));
 put32(b, l6 + 224, get32(b, l6 + 440));
 goto L3;
 L5:;
-f256(b, l6 + 120ull, l0, l1, l3);
+f257(b, l6 + 120ull, l0, l1, l3);
 put32(b, l6 + 336, 0u);
 put32(b, l6 + 339, 0u);
 l10 = get64(b, l6 + 208);
@@ -63057,7 +63757,7 @@ case 2: goto L59;
 default: goto L58;
 }
 L60:;
-f313(b, l0, l1, l2, l3, l4, l5);
+f314(b, l0, l1, l2, l3, l4, l5);
 goto L58;
 L59:;
 put8(b, l6 + 112, 0u);
@@ -63075,7 +63775,7 @@ put64(b, l6 + 24, l25);
 put64(b, l6 + 16, l11);
 put32(b, l6 + 113, get32(b, l6 + 8));
 put32(b, l6 + 116, get32(b, l6 + 11));
-f313(b, l0, l1, l2, l3, l6 + 16ull, l5);
+f314(b, l0, l1, l2, l3, l6 + 16ull, l5);
 if (!get64(b, l6 + 32)) { goto L61; }
 rattle_dealloc(b, get64(b, l6 + 16));
 L61:;
@@ -63091,7 +63791,7 @@ L58:;
 SP = l6 + 480ull;
 }
 
-FN void f306(B b, u64 l0, u64 l1, u32 l2) {
+FN void f307(B b, u64 l0, u64 l1, u32 l2) {
 u32 t0, t1;
 u64 l3 = 0, l4 = 0, l5 = 0, l6 = 0, l7 = 0, l8 = 0, l9 = 0, l10 = 0, l11 = 0;
 l3 = SP - 64ull;
@@ -63102,7 +63802,7 @@ put64(b, l3 + 16, 0ull);
 put64(b, l3 + 8, l3 + 60ull);
 if (!l2) { goto L4; }
 l5 = (u64)l2;
-t0 = f246(b, l3 + 8ull, l5);
+t0 = f247(b, l3 + 8ull, l5);
 if (!t0) { goto L3; }
 l6 = get64(b, l3 + 8);
 l7 = get64(b, l3 + 16);
@@ -63171,7 +63871,7 @@ l7 = get64(b, l3 + 24);
 put64(b, l3 + 48, 0ull);
 put64(b, l3 + 40, 0ull);
 put64(b, l3 + 32, l3 + 60ull);
-t1 = f253(b, l3 + 32ull, l5);
+t1 = f254(b, l3 + 32ull, l5);
 if (!t1) { goto L14; }
 l8 = get64(b, l3 + 40);
 l9 = l8 + l5;
@@ -63193,7 +63893,7 @@ put64(b, l0 + 40, get64(b, l3 + 48));
 SP = l3 + 64ull;
 }
 
-FN u32 f307(B b, u64 l0, u32 l1, u32 l2, u32 l3) {
+FN u32 f308(B b, u64 l0, u32 l1, u32 l2, u32 l3) {
 u32 l4 = 0, l5 = 0, l6 = 0, l7 = 0;
 u64 l8 = 0, l9 = 0, l10 = 0, l11 = 0, l12 = 0, l13 = 0;
 l4 = 0u;
@@ -63287,7 +63987,7 @@ L15:;
 return l1 & 1u;
 }
 
-FN void f308(B b, u64 l0, u64 l1, u64 l2, u64 l3) {
+FN void f309(B b, u64 l0, u64 l1, u64 l2, u64 l3) {
 u32 l16 = 0, l17 = 0, l18 = 0, t0;
 u64 l4 = 0, l5 = 0, l6 = 0, l7 = 0, l8 = 0, l9 = 0, l10 = 0, l11 = 0, l12 = 0, l13 = 0, l14 = 0, l15 = 0;
 l4 = SP - 32ull;
@@ -63299,7 +63999,7 @@ put64(b, l4 + 8, 0ull);
 put64(b, l4, l4 + 28ull);
 if (!l5) { goto L4; }
 l7 = (l5 < 4294967295ull) ? l5 : 4294967295ull;
-t0 = f246(b, l4, l7);
+t0 = f247(b, l4, l7);
 if (!t0) { goto L3; }
 l8 = get64(b, l4);
 l5 = get64(b, l4 + 8);
@@ -63370,7 +64070,7 @@ put64(b, l0, l8);
 SP = l4 + 32ull;
 }
 
-FN void f309(B b, u64 l0, u64 l1, u64 l2, u64 l3, u32 l4) {
+FN void f310(B b, u64 l0, u64 l1, u64 l2, u64 l3, u32 l4) {
 u32 l13 = 0, l14 = 0, l15 = 0, l16 = 0, l17 = 0, l18 = 0;
 u64 l5 = 0, l6 = 0, l7 = 0, l8 = 0, l9 = 0, l10 = 0, l11 = 0, l12 = 0;
 l5 = SP - 48ull;
@@ -63383,7 +64083,7 @@ put64(b, l5 + 16, 0ull);
 put64(b, l5 + 8, 0ull);
 put64(b, l5, 0ull);
 l7 = get64(b, l2 + 16ull);
-f306(b, l5, l1, (u32)((l7 < 4294967295ull) ? l7 : 4294967295ull));
+f307(b, l5, l1, (u32)((l7 < 4294967295ull) ? l7 : 4294967295ull));
 l7 = get64(b, l3 + 8ull);
 if (!l7) { goto L1; }
 l13 = 4294967295u;
@@ -63441,7 +64141,7 @@ L10:;
 if (l15 != l13) { goto L11; }
 if (l18 == l14) { goto L3; }
 L11:;
-f307(b, l5, l15, l18, 0u);
+f308(b, l5, l15, l18, 0u);
 l14 = l18;
 l13 = l15;
 L3:;
@@ -63457,7 +64157,7 @@ put64(b, l0, get64(b, l5));
 SP = l5 + 48ull;
 }
 
-FN u32 f310(B b, u64 l0) {
+FN u32 f311(B b, u64 l0) {
 u32 l6 = 0;
 u64 l1 = 0, l2 = 0, l3 = 0, l4 = 0, l5 = 0;
 l1 = SP - 32ull;
@@ -63489,7 +64189,7 @@ SP = l1 + 32ull;
 return l6;
 }
 
-FN u32 f311(B b, u64 l0, u64 l1, u64 l2, u64 l3) {
+FN u32 f312(B b, u64 l0, u64 l1, u64 l2, u64 l3) {
 u32 l15 = 0, l16 = 0, l17 = 0, l18 = 0, l19 = 0, l20 = 0, l21 = 0, l22 = 0, l23 = 0, l24 = 0, l25 = 0, l26 = 0, l27 = 0, l28 = 0, l29 = 0, l30 = 0, t0, t1, t2, t3;
 u64 l4 = 0, l5 = 0, l6 = 0, l7 = 0, l8 = 0, l9 = 0, l10 = 0, l11 = 0, l12 = 0, l13 = 0, l14 = 0;
 l4 = SP - 112ull;
@@ -63505,7 +64205,7 @@ put64(b, l4 + 8, 0ull);
 put64(b, l4 + 16, 0ull);
 put64(b, l4 + 24, 0ull);
 l6 = get64(b, l1 + 16ull);
-f306(b, l4 + 32ull, l0, (u32)((l6 < 4294967295ull) ? l6 : 4294967295ull));
+f307(b, l4 + 32ull, l0, (u32)((l6 < 4294967295ull) ? l6 : 4294967295ull));
 l7 = get64(b, l3 + 8ull);
 if (!l7) { goto L3; }
 l15 = 1u;
@@ -63537,7 +64237,7 @@ L7:;
 if (l9 <= l10) { goto L8; }
 l17 = get32(b, l8 + (l10 << 2));
 L8:;
-t0 = f307(b, l4 + 32ull, l18, l17, (l16 ^ 4294967295u) & 1u);
+t0 = f308(b, l4 + 32ull, l18, l17, (l16 ^ 4294967295u) & 1u);
 l15 = l15 & t0;
 L5:;
 l5 = l5 + 1ull;
@@ -63561,7 +64261,7 @@ put64(b, l4 + 16, 0ull);
 put64(b, l4 + 24, 0ull);
 l12 = l1 + 40ull;
 l6 = get64(b, l12);
-f306(b, l4 + 32ull, l0, (u32)((l6 < 4294967295ull) ? l6 : 4294967295ull));
+f307(b, l4 + 32ull, l0, (u32)((l6 < 4294967295ull) ? l6 : 4294967295ull));
 l7 = get64(b, l3 + 8ull);
 if (!l7) { goto L2; }
 l15 = 1u;
@@ -63593,7 +64293,7 @@ L14:;
 if (l9 <= l10) { goto L15; }
 l17 = get32(b, l8 + (l10 << 2));
 L15:;
-t1 = f307(b, l4 + 32ull, l18, l17, (l16 ^ 4294967295u) & 1u);
+t1 = f308(b, l4 + 32ull, l18, l17, (l16 ^ 4294967295u) & 1u);
 l15 = l15 & t1;
 L12:;
 l5 = l5 + 1ull;
@@ -63614,7 +64314,7 @@ put64(b, l4 + 88, 0ull);
 put64(b, l4 + 80, l4 + 111ull);
 if (!l5) { goto L20; }
 l8 = (l5 < 4294967295ull) ? l5 : 4294967295ull;
-t2 = f253(b, l4 + 80ull, l8);
+t2 = f254(b, l4 + 80ull, l8);
 if (!t2) { goto L19; }
 l7 = get64(b, l4 + 80);
 l5 = get64(b, l4 + 88);
@@ -63648,7 +64348,7 @@ l5 = l5 + 1ull;
 if (l8 != l5) { goto L21; }
 l16 = (u32)(!l1);
 L17:;
-f314(b, l4 + 8ull, l0, l4 + 32ull, l7, l6);
+f315(b, l4 + 8ull, l0, l4 + 32ull, l7, l6);
 l1 = get64(b, l4 + 24);
 l6 = get64(b, l4 + 8);
 l8 = get64(b, l4 + 16);
@@ -63689,7 +64389,7 @@ put64(b, l4 + 88, 0ull);
 put64(b, l4 + 80, l4 + 111ull);
 if (!l5) { goto L34; }
 l7 = (l5 < 4294967295ull) ? l5 : 4294967295ull;
-t3 = f253(b, l4 + 80ull, l7);
+t3 = f254(b, l4 + 80ull, l7);
 if (!t3) { goto L33; }
 l13 = get64(b, l4 + 80);
 l5 = get64(b, l4 + 88);
@@ -63727,7 +64427,7 @@ l5 = l5 + 1ull;
 if (l7 != l5) { goto L35; }
 l19 = (u32)(!l10);
 L31:;
-f314(b, l4 + 8ull, l0, l4 + 32ull, l13, l8);
+f315(b, l4 + 8ull, l0, l4 + 32ull, l13, l8);
 l14 = get64(b, l4 + 24);
 l6 = get64(b, l4 + 8);
 l10 = get64(b, l1 + 16ull);
@@ -63894,7 +64594,7 @@ SP = l4 + 112ull;
 return l16;
 }
 
-FN u32 f312(B b, u64 l0, u32 l1, u32 l2, u32 l3) {
+FN u32 f313(B b, u64 l0, u32 l1, u32 l2, u32 l3) {
 u32 l4 = 0, l5 = 0, l6 = 0, l7 = 0, l8 = 0, l9 = 0, l10 = 0, l11 = 0, l12 = 0;
 u64 l13 = 0, l14 = 0, l15 = 0;
 if (l2) { goto L1; }
@@ -63985,7 +64685,7 @@ L6:;
 return l9;
 }
 
-FN void f313(B b, u64 l0, u64 l1, u64 l2, u64 l3, u64 l4, u64 l5) {
+FN void f314(B b, u64 l0, u64 l1, u64 l2, u64 l3, u64 l4, u64 l5) {
 u32 l20 = 0, l21 = 0, l22 = 0, l23 = 0, l24 = 0, l25 = 0, t0, t1;
 u64 l6 = 0, l7 = 0, l8 = 0, l9 = 0, l10 = 0, l11 = 0, l12 = 0, l13 = 0, l14 = 0, l15 = 0, l16 = 0, l17 = 0, l18 = 0, l19 = 0;
 l6 = SP - 240ull;
@@ -64062,7 +64762,7 @@ put64(b, l6 + 56, 0ull);
 put64(b, l6 + 48, 0ull);
 put64(b, l6 + 40, 0ull);
 put64(b, l6 + 72, l4);
-f315(b, l0, l1, l2, l3, l6 + 40ull, l5);
+f316(b, l0, l1, l2, l3, l6 + 40ull, l5);
 put64(b, l6 + 120, 0ull);
 put64(b, l6 + 128, 0ull);
 put64(b, l6 + 136, 0ull);
@@ -64098,7 +64798,7 @@ put64(b, l6 + 184, 0ull);
 put64(b, l6 + 176, 0ull);
 put64(b, l6 + 168, 0ull);
 put64(b, l6 + 160, 0ull);
-f309(b, l6 + 160ull, l0, l1, l4, 1u);
+f310(b, l6 + 160ull, l0, l1, l4, 1u);
 l14 = get64(b, l6 + 200);
 l10 = get64(b, l6 + 192);
 l15 = get64(b, l6 + 184);
@@ -64157,7 +64857,7 @@ if (l18 != 0ull) { goto L22; }
 L21:;
 l13 = get64(b, l6 + 216);
 if (get64(b, l6 + 224) != l13) { goto L28; }
-t0 = f249(b, l6 + 208ull);
+t0 = f250(b, l6 + 208ull);
 if (!t0) { goto L27; }
 l13 = get64(b, l6 + 216);
 L28:;
@@ -64176,7 +64876,7 @@ L19:;
 l7 = l7 + 1ull;
 if (l7 != l11) { goto L18; }
 L17:;
-t1 = f272(b, l6 + 208ull);
+t1 = f273(b, l6 + 208ull);
 if (!(t1 & 255u)) { goto L29; }
 put8(b, l0, 1u);
 L29:;
@@ -64194,13 +64894,13 @@ put32(b, l6 + 144, 0u);
 put64(b, l6 + 136, l12);
 put64(b, l6 + 128, l7);
 put64(b, l6 + 120, 1ull);
-f315(b, l0, l1, l2, l3, l6 + 120ull, l5);
+f316(b, l0, l1, l2, l3, l6 + 120ull, l5);
 put64(b, l6 + 112, l4);
 put32(b, l6 + 104, 1u);
 put64(b, l6 + 96, l12);
 put64(b, l6 + 88, l7);
 put64(b, l6 + 80, 1ull);
-f316(b, l0, l1, l2, l3, l6 + 80ull, l5);
+f317(b, l0, l1, l2, l3, l6 + 80ull, l5);
 if (!l8) { goto L1; }
 rattle_dealloc(b, l7);
 goto L1;
@@ -64210,15 +64910,15 @@ put64(b, l6 + 16, 0ull);
 put64(b, l6 + 8, 0ull);
 put64(b, l6, 0ull);
 put64(b, l6 + 32, l4);
-f316(b, l0, l1, l2, l3, l6, l5);
+f317(b, l0, l1, l2, l3, l6, l5);
 goto L1;
 L2:;
-f317(b, l0, l1, l2, l3, l4, l5);
+f318(b, l0, l1, l2, l3, l4, l5);
 L1:;
 SP = l6 + 240ull;
 }
 
-FN void f314(B b, u64 l0, u64 l1, u64 l2, u64 l3, u64 l4) {
+FN void f315(B b, u64 l0, u64 l1, u64 l2, u64 l3, u64 l4) {
 u32 l21 = 0, l22 = 0, l23 = 0, l24 = 0, t0, t1, t2;
 u64 l5 = 0, l6 = 0, l7 = 0, l8 = 0, l9 = 0, l10 = 0, l11 = 0, l12 = 0, l13 = 0, l14 = 0, l15 = 0, l16 = 0, l17 = 0, l18 = 0, l19 = 0, l20 = 0;
 l5 = SP - 32ull;
@@ -64229,7 +64929,7 @@ put64(b, l5 + 8, 0ull);
 put64(b, l5, l5 + 28ull);
 if (!l4) { goto L4; }
 l7 = (l4 < 4294967295ull) ? l4 : 4294967295ull;
-t0 = f246(b, l5, l7);
+t0 = f247(b, l5, l7);
 if (!t0) { goto L6; }
 l8 = get64(b, l5);
 l4 = get64(b, l5 + 8);
@@ -64248,7 +64948,7 @@ l11 = get64(b, l5 + 16);
 put64(b, l5 + 16, 0ull);
 put64(b, l5 + 8, 0ull);
 put64(b, l5, l5 + 28ull);
-t1 = f246(b, l5, l7);
+t1 = f247(b, l5, l7);
 if (!t1) { goto L3; }
 l12 = get64(b, l5);
 l4 = get64(b, l5 + 8);
@@ -64331,7 +65031,7 @@ if (l16 != l7) { goto L7; }
 put64(b, l5 + 16, 0ull);
 put64(b, l5 + 8, 0ull);
 put64(b, l5, l5 + 28ull);
-t2 = f253(b, l5, l7);
+t2 = f254(b, l5, l7);
 if (!t2) { goto L17; }
 l4 = get64(b, l5 + 8);
 l14 = l4 + l7;
@@ -64413,7 +65113,7 @@ put64(b, l0, l1);
 SP = l5 + 32ull;
 }
 
-FN void f315(B b, u64 l0, u64 l1, u64 l2, u64 l3, u64 l4, u64 l5) {
+FN void f316(B b, u64 l0, u64 l1, u64 l2, u64 l3, u64 l4, u64 l5) {
 u32 l11 = 0, l12 = 0, l13 = 0;
 u64 l6 = 0, l7 = 0, l8 = 0, l9 = 0, l10 = 0;
 l6 = SP - 496ull;
@@ -64444,14 +65144,14 @@ if (l10 != 0ull) { goto L4; }
 L3:;
 if (l9 > 5ull) { goto L1; }
 L2:;
-f259(b, l6 + 48ull, l0, l3);
+f260(b, l6 + 48ull, l0, l3);
 copy(b, l6 + 264ull, l6 + 48ull, 216u);
 put64(b, l6 + 8, l8);
 put64(b, l6 + 40, l7);
 put32(b, l6 + 32, l11);
 put64(b, l6 + 16, get64(b, l6 + 480));
 put64(b, l6 + 24, get64(b, l6 + 488));
-f316(b, l0, l1, l2, l6 + 264ull, l6 + 8ull, l5);
+f317(b, l0, l1, l2, l6 + 264ull, l6 + 8ull, l5);
 if (!get64(b, l6 + 280)) { goto L5; }
 rattle_dealloc(b, get64(b, l6 + 264));
 L5:;
@@ -64479,7 +65179,7 @@ L1:;
 SP = l6 + 496ull;
 }
 
-FN void f316(B b, u64 l0, u64 l1, u64 l2, u64 l3, u64 l4, u64 l5) {
+FN void f317(B b, u64 l0, u64 l1, u64 l2, u64 l3, u64 l4, u64 l5) {
 u32 l14 = 0, l15 = 0, l16 = 0, l17 = 0, l18 = 0, l19 = 0, l20 = 0, l21 = 0, t0, t1, t2;
 u64 l6 = 0, l7 = 0, l8 = 0, l9 = 0, l10 = 0, l11 = 0, l12 = 0, l13 = 0;
 l6 = SP - 320ull;
@@ -64511,7 +65211,7 @@ if (l11 >= 6ull) { goto L1; }
 L2:;
 fill(b, l6 + 216ull, 0u, 104u);
 if (l15) { goto L6; }
-t0 = f318(b, l0, l1, l3, l9, 2u);
+t0 = f319(b, l0, l1, l3, l9, 2u);
 if (t0) { goto L5; }
 goto L1;
 L6:;
@@ -64555,7 +65255,7 @@ l20 = (u32)(l16 < l20);
 l13 = (u64)get32(b, l11 + 16);
 l11 = l12;
 if (get64(b, l3 + 120ull) != l12) { goto L14; }
-t1 = f254(b, l3 + 104ull, 1ull);
+t1 = f255(b, l3 + 104ull, 1ull);
 if (!t1) { goto L13; }
 l11 = get64(b, l3 + 112ull);
 L14:;
@@ -64603,7 +65303,7 @@ put32(b, l3 + 208ull, l17 ? l17 : 4294967295u);
 l17 = l16 + 4u;
 put32(b, l3 + 200ull, (l17 < l16) ? 4294967295u : l17);
 L5:;
-f260(b, l6 + 216ull, l0, l1, l3, l9);
+f261(b, l6 + 216ull, l0, l1, l3, l9);
 copy(b, l6 + 112ull, l6 + 216ull, 104u);
 fill(b, l6 + 216ull, 0u, 104u);
 if (l15 != 1u) { goto L18; }
@@ -64616,9 +65316,9 @@ l10 = get64(b, l6 + 152);
 l12 = get64(b, l6 + 136);
 l11 = get64(b, l6 + 128);
 l13 = get64(b, l6 + 112);
-t2 = f311(b, l0, l1, l3, l6 + 112ull);
+t2 = f312(b, l0, l1, l3, l6 + 112ull);
 if (!t2) { goto L18; }
-f256(b, l6 + 216ull, l0, l1, l3);
+f257(b, l6 + 216ull, l0, l1, l3);
 if (!l11) { goto L19; }
 rattle_dealloc(b, l13);
 L19:;
@@ -64644,7 +65344,7 @@ l7 = get64(b, l6 + 72);
 l13 = get64(b, l6 + 80);
 l10 = get64(b, l6 + 96);
 l11 = get64(b, l6 + 24);
-f317(b, l0, l1, l2, l3, l6 + 8ull, l5);
+f318(b, l0, l1, l2, l3, l6 + 8ull, l5);
 if (!l11) { goto L23; }
 rattle_dealloc(b, l8);
 L23:;
@@ -64660,7 +65360,7 @@ L1:;
 SP = l6 + 320ull;
 }
 
-FN void f317(B b, u64 l0, u64 l1, u64 l2, u64 l3, u64 l4, u64 l5) {
+FN void f318(B b, u64 l0, u64 l1, u64 l2, u64 l3, u64 l4, u64 l5) {
 u32 l69 = 0, l70 = 0, l71 = 0, l72 = 0, l73 = 0, l74 = 0, l75 = 0, l76 = 0, l77 = 0, l78 = 0, l79 = 0, l80 = 0, l81 = 0, l82 = 0, l83 = 0, l84 = 0, l85 = 0, l86 = 0, l87 = 0, l88 = 0, t0, t1, t2, t3, t4, t5, t6, t7, t8, t9, t10, t11, t12, t13, t14, t15, t16, t17, t18, t19, t20, t21, t22, t23, t24, t25, t26;
 u64 l6 = 0, l7 = 0, l8 = 0, l9 = 0, l10 = 0, l11 = 0, l12 = 0, l13 = 0, l14 = 0, l15 = 0, l16 = 0, l17 = 0, l18 = 0, l19 = 0, l20 = 0, l21 = 0, l22 = 0, l23 = 0, l24 = 0, l25 = 0, l26 = 0, l27 = 0, l28 = 0, l29 = 0, l30 = 0, l31 = 0, l32 = 0, l33 = 0, l34 = 0, l35 = 0, l36 = 0, l37 = 0, l38 = 0, l39 = 0, l40 = 0, l41 = 0, l42 = 0, l43 = 0, l44 = 0, l45 = 0, l46 = 0, l47 = 0, l48 = 0, l49 = 0, l50 = 0, l51 = 0, l52 = 0, l53 = 0, l54 = 0, l55 = 0, l56 = 0, l57 = 0, l58 = 0, l59 = 0, l60 = 0, l61 = 0, l62 = 0, l63 = 0, l64 = 0, l65 = 0, l66 = 0, l67 = 0, l68 = 0;
 l6 = SP - 608ull;
@@ -64689,7 +65389,7 @@ L3:;
 if (l11 >= 6ull) { goto L1; }
 L2:;
 if (get32(b, l3 + 96ull) > 1u) { goto L5; }
-f318(b, l0, l1, l3, l4, 0u);
+f319(b, l0, l1, l3, l4, 0u);
 l69 = get32(b, l3 + 200ull);
 l70 = l69 + 3u;
 l69 = get8(b, l4 + 98ull) ? ((l70 < l69) ? 4294967295u : l70) : l69;
@@ -64716,7 +65416,7 @@ put64(b, l6 + 360, l6 + 604ull);
 l13 = l6 + 604ull;
 if (!l10) { goto L9; }
 l10 = (l10 < 4294967295ull) ? l10 : 4294967295ull;
-t0 = f246(b, l6 + 360ull, l10);
+t0 = f247(b, l6 + 360ull, l10);
 if (!t0) { goto L10; }
 l13 = get64(b, l6 + 360);
 l11 = get64(b, l6 + 368);
@@ -64778,7 +65478,7 @@ l18 = l6 + 604ull;
 l15 = 0ull;
 if (!l10) { goto L18; }
 l10 = (l10 < 4294967295ull) ? l10 : 4294967295ull;
-t1 = f253(b, l6 + 360ull, l10);
+t1 = f254(b, l6 + 360ull, l10);
 if (!t1) { goto L19; }
 l18 = get64(b, l6 + 360);
 l11 = get64(b, l6 + 368);
@@ -64810,7 +65510,7 @@ put64(b, l6 + 368, 0ull);
 put64(b, l6 + 360, l6 + 604ull);
 if (!l9) { goto L30; }
 l10 = (l9 < 4294967295ull) ? l9 : 4294967295ull;
-t2 = f253(b, l6 + 360ull, l10);
+t2 = f254(b, l6 + 360ull, l10);
 if (!t2) { goto L32; }
 l22 = get64(b, l6 + 360);
 l11 = get64(b, l6 + 368);
@@ -64866,7 +65566,7 @@ if (get64(b, l4 + 8ull) <= l11) { goto L39; }
 if (get32(b, get64(b, l4) + (l11 << 4)) == 4294967295u) { goto L39; }
 l17 = get64(b, l6 + 128);
 if (get64(b, l6 + 136) != l17) { goto L40; }
-t3 = f319(b, l6 + 120ull);
+t3 = f320(b, l6 + 120ull);
 if (t3) { goto L41; }
 put8(b, l0, 1u);
 goto L39;
@@ -64917,7 +65617,7 @@ if (l69 != 4294967295u) { goto L46; }
 L45:;
 l10 = get64(b, l6 + 128);
 if (get64(b, l6 + 136) != l10) { goto L51; }
-t4 = f319(b, l6 + 120ull);
+t4 = f320(b, l6 + 120ull);
 if (!t4) { goto L50; }
 l10 = get64(b, l6 + 128);
 L51:;
@@ -64987,7 +65687,7 @@ if (l69 != 4294967295u) { goto L56; }
 L55:;
 l10 = get64(b, l6 + 368);
 if (get64(b, l6 + 376) != l10) { goto L59; }
-t5 = f246(b, l6 + 360ull, 1ull);
+t5 = f247(b, l6 + 360ull, 1ull);
 if (!t5) { goto L58; }
 l10 = get64(b, l6 + 368);
 L59:;
@@ -65015,7 +65715,7 @@ if (get64(b, l4 + 8ull) <= l11) { goto L61; }
 if (get32(b, get64(b, l4) + (l11 << 4)) == 4294967295u) { goto L61; }
 l12 = get64(b, l6 + 368);
 if (get64(b, l6 + 376) != l12) { goto L63; }
-t6 = f246(b, l6 + 360ull, 1ull);
+t6 = f247(b, l6 + 360ull, 1ull);
 if (t6) { goto L64; }
 put8(b, l0, 1u);
 goto L61;
@@ -65046,7 +65746,7 @@ l19 = l28;
 l18 = 0ull;
 if (!l10) { goto L66; }
 l10 = (l10 < 4294967295ull) ? l10 : 4294967295ull;
-t7 = f253(b, l6 + 360ull, l10);
+t7 = f254(b, l6 + 360ull, l10);
 if (!t7) { goto L67; }
 l19 = get64(b, l6 + 360);
 l11 = get64(b, l6 + 368);
@@ -65067,7 +65767,7 @@ put64(b, l6 + 368, 0ull);
 put64(b, l6 + 360, l6 + 604ull);
 if (!l69) { goto L68; }
 l10 = (u64)l69;
-t8 = f253(b, l6 + 360ull, l10);
+t8 = f254(b, l6 + 360ull, l10);
 if (!t8) { goto L69; }
 l28 = get64(b, l6 + 360);
 l11 = get64(b, l6 + 368);
@@ -65146,7 +65846,7 @@ l12 = (u64)get32(b, get64(b, l3 + 128ull) + (l10 << 3)) | 8589934592ull;
 L83:;
 l10 = l11;
 if (get64(b, l3 + 144ull) != l11) { goto L86; }
-t9 = f255(b, l3 + 128ull, 1ull);
+t9 = f256(b, l3 + 128ull, 1ull);
 if (!t9) { goto L85; }
 l10 = get64(b, l26);
 L86:;
@@ -65254,7 +65954,7 @@ l15 = (u64)get32(b, get64(b, l3 + 128ull) + (l10 << 3)) | 8589934592ull;
 L103:;
 l10 = l11;
 if (get64(b, l3 + 144ull) != l11) { goto L106; }
-t10 = f255(b, l3 + 128ull, 1ull);
+t10 = f256(b, l3 + 128ull, 1ull);
 if (!t10) { goto L105; }
 l10 = get64(b, l26);
 L106:;
@@ -65405,7 +66105,7 @@ l70 = (u32)(l12 < 4294967295ull);
 put64(b, l6 + 360, l6 + 604ull);
 if (!l10) { goto L133; }
 l9 = (l10 < 4294967295ull) ? l10 : 4294967295ull;
-t11 = f246(b, l6 + 360ull, l9);
+t11 = f247(b, l6 + 360ull, l9);
 if (!t11) { goto L132; }
 l28 = get64(b, l6 + 360);
 l10 = get64(b, l6 + 368);
@@ -65453,7 +66153,7 @@ l76 = (u32)(!l17);
 l23 = l6 + 604ull;
 if (!l10) { goto L130; }
 l10 = (l10 < 4294967295ull) ? l10 : 4294967295ull;
-t12 = f246(b, l6 + 360ull, l10);
+t12 = f247(b, l6 + 360ull, l10);
 if (!t12) { goto L136; }
 l23 = get64(b, l6 + 360);
 l11 = get64(b, l6 + 368);
@@ -65476,7 +66176,7 @@ put64(b, l6 + 368, 0ull);
 put64(b, l6 + 360, l6 + 604ull);
 l74 = (u32)(!l12);
 if (l74) { goto L140; }
-t13 = f246(b, l6 + 360ull, l19);
+t13 = f247(b, l6 + 360ull, l19);
 if (!t13) { goto L139; }
 l27 = get64(b, l6 + 360);
 l10 = get64(b, l6 + 368);
@@ -65503,7 +66203,7 @@ l30 = get64(b, l6 + 376);
 put64(b, l6 + 376, 0ull);
 put64(b, l6 + 368, 0ull);
 put64(b, l6 + 360, l6 + 604ull);
-t14 = f246(b, l6 + 360ull, l19);
+t14 = f247(b, l6 + 360ull, l19);
 if (!t14) { goto L141; }
 l18 = get64(b, l6 + 360);
 l10 = get64(b, l6 + 368);
@@ -65611,7 +66311,7 @@ put64(b, l6 + 360, l6 + 604ull);
 l19 = l6 + 604ull;
 if (!l10) { goto L160; }
 l10 = (l10 < 4294967295ull) ? l10 : 4294967295ull;
-t15 = f253(b, l6 + 360ull, l10);
+t15 = f254(b, l6 + 360ull, l10);
 if (!t15) { goto L161; }
 l19 = get64(b, l6 + 360);
 l12 = get64(b, l6 + 368);
@@ -65671,7 +66371,7 @@ L172:;
 l18 = l3 + 184ull;
 l12 = get64(b, l18);
 if (get64(b, l3 + 192ull) != l12) { goto L175; }
-t16 = f298(b, l3 + 176ull, 1ull);
+t16 = f299(b, l3 + 176ull, 1ull);
 if (!t16) { goto L174; }
 l12 = get64(b, l3 + 184ull);
 L175:;
@@ -65692,7 +66392,7 @@ L168:;
 l17 = l3 + 160ull;
 l11 = get64(b, l17);
 if (get64(b, l3 + 168ull) != l11) { goto L177; }
-t17 = f297(b, l3 + 152ull, 1ull);
+t17 = f298(b, l3 + 152ull, 1ull);
 if (!t17) { goto L176; }
 l11 = get64(b, l3 + 160ull);
 L177:;
@@ -65744,7 +66444,7 @@ L183:;
 l69 = get32(b, get64(b, l9) + l11);
 l12 = get64(b, l6 + 368);
 if (get64(b, l6 + 376) != l12) { goto L186; }
-t18 = f249(b, l6 + 360ull);
+t18 = f250(b, l6 + 360ull);
 if (!t18) { goto L185; }
 l12 = get64(b, l6 + 368);
 L186:;
@@ -65763,7 +66463,7 @@ l11 = l11 + 12ull;
 l4 = l4 + 1ull;
 if (l15 != l4) { goto L183; }
 L182:;
-t19 = f272(b, l6 + 360ull);
+t19 = f273(b, l6 + 360ull);
 if (!(t19 & 255u)) { goto L187; }
 put8(b, l0, 1u);
 L187:;
@@ -65797,7 +66497,7 @@ put32(b, l6 + 56, get32(b, l11 + 8));
 put64(b, l6 + 48, get64(b, l11));
 l11 = get64(b, l6 + 128);
 if (get64(b, l6 + 136) != l11) { goto L195; }
-t20 = f297(b, l6 + 120ull, 1ull);
+t20 = f298(b, l6 + 120ull, 1ull);
 if (!t20) { goto L194; }
 l11 = get64(b, l6 + 128);
 L195:;
@@ -65835,7 +66535,7 @@ l18 = l6 + 604ull;
 l17 = l18;
 if (!l69) { goto L198; }
 l10 = (u64)l69;
-t21 = f246(b, l6 + 360ull, l10);
+t21 = f247(b, l6 + 360ull, l10);
 if (!t21) { goto L199; }
 l17 = get64(b, l6 + 360);
 l11 = get64(b, l6 + 368);
@@ -65857,7 +66557,7 @@ put64(b, l6 + 368, 0ull);
 put64(b, l6 + 360, l6 + 604ull);
 if (!l69) { goto L200; }
 l4 = (u64)l69;
-t22 = f246(b, l6 + 360ull, l4);
+t22 = f247(b, l6 + 360ull, l4);
 if (!t22) { goto L201; }
 l18 = get64(b, l6 + 360);
 l10 = get64(b, l6 + 368);
@@ -65997,7 +66697,7 @@ put64(b, l6 + 40, 0ull);
 l78 = get8(b, l3 + 204ull);
 l4 = l3 + 208ull;
 l79 = get32(b, l4);
-f262(b, l6 + 48ull, l0, l1, l3, l2);
+f263(b, l6 + 48ull, l0, l1, l3, l2);
 l30 = l5 + 8ull;
 l32 = get64(b, l6 + 88);
 l33 = get64(b, l6 + 80);
@@ -66560,7 +67260,7 @@ put64(b, l6 + 144, l34);
 put64(b, l6 + 136, l35);
 put64(b, l6 + 128, l23);
 put64(b, l6 + 120, l27);
-f263(b, l6 + 360ull, l0, l1, l2, l3, l6 + 120ull, l70);
+f264(b, l6 + 360ull, l0, l1, l2, l3, l6 + 120ull, l70);
 if (get8(b, l6 + 360) != 1u) { goto L217; }
 l28 = get64(b, l6 + 512);
 l12 = get64(b, l6 + 504);
@@ -66855,14 +67555,14 @@ put64(b, l6 + 336, get64(b, l6 + 40));
 put64(b, l6 + 328, get64(b, l6 + 32));
 put16(b, l6 + 349, get16(b, l6 + 100));
 put8(b, l6 + 351, get8(b, l6 + 102));
-f320(b, l30, l4, l6 + 120ull);
+f321(b, l30, l4, l6 + 120ull);
 goto L336;
 L337:;
 if (l3 != l24) { goto L339; }
-t26 = f321(b, l30);
+t26 = f322(b, l30);
 if (!t26) { goto L338; }
 L339:;
-f320(b, l30, l4, l6 + 360ull);
+f321(b, l30, l4, l6 + 360ull);
 goto L336;
 L338:;
 if (!l40) { goto L341; }
@@ -66953,7 +67653,7 @@ l10 = get64(b, l4);
 put64(b, l8 + 8, 0ull);
 l11 = l5 + 8ull;
 l12 = get64(b, l11);
-f322(b, l12, 6ull, l3);
+f323(b, l12, 6ull, l3);
 put64(b, l4, l10);
 put64(b, l5 + 16ull, 6ull);
 put64(b, l11, l12);
@@ -66964,7 +67664,7 @@ put64(b, l8, 0ull);
 l3 = l5 + 24ull;
 l4 = get64(b, l3);
 put64(b, l8 + 8, 0ull);
-f322(b, l17, 6ull, l24);
+f323(b, l17, 6ull, l24);
 put64(b, l3, l4);
 put64(b, l5 + 16ull, 6ull);
 put64(b, l5 + 8ull, l17);
@@ -67059,7 +67759,7 @@ L1:;
 SP = l6 + 608ull;
 }
 
-FN u32 f318(B b, u64 l0, u64 l1, u64 l2, u64 l3, u32 l4) {
+FN u32 f319(B b, u64 l0, u64 l1, u64 l2, u64 l3, u32 l4) {
 u32 l40 = 0, l41 = 0, l42 = 0, l43 = 0, l44 = 0, l45 = 0, l46 = 0, l47 = 0, l48 = 0, l49 = 0, l50 = 0, l51 = 0, l52 = 0, l53 = 0, l54 = 0, t0, t1, t2, t3, t4, t5, t6, t7, t8, t9, t10, t11, t12;
 u64 l5 = 0, l6 = 0, l7 = 0, l8 = 0, l9 = 0, l10 = 0, l11 = 0, l12 = 0, l13 = 0, l14 = 0, l15 = 0, l16 = 0, l17 = 0, l18 = 0, l19 = 0, l20 = 0, l21 = 0, l22 = 0, l23 = 0, l24 = 0, l25 = 0, l26 = 0, l27 = 0, l28 = 0, l29 = 0, l30 = 0, l31 = 0, l32 = 0, l33 = 0, l34 = 0, l35 = 0, l36 = 0, l37 = 0, l38 = 0, l39 = 0;
 l5 = SP - 80ull;
@@ -67070,7 +67770,7 @@ put64(b, l5 + 24, 0ull);
 put64(b, l5 + 16, 0ull);
 put64(b, l5 + 8, 0ull);
 put64(b, l5, 0ull);
-f309(b, l5, l0, l1, l3, l4);
+f310(b, l5, l0, l1, l3, l4);
 l3 = get64(b, l2 + 80ull);
 l6 = get64(b, l5 + 40);
 l7 = get64(b, l5 + 32);
@@ -67083,7 +67783,7 @@ put64(b, l5 + 56, 0ull);
 put64(b, l5 + 48, l5 + 76ull);
 if (!l3) { goto L4; }
 l12 = (l3 < 4294967295ull) ? l3 : 4294967295ull;
-t0 = f246(b, l5 + 48ull, l12);
+t0 = f247(b, l5 + 48ull, l12);
 if (!t0) { goto L6; }
 l13 = get64(b, l5 + 48);
 l3 = get64(b, l5 + 56);
@@ -67102,7 +67802,7 @@ l16 = get64(b, l5 + 64);
 put64(b, l5 + 64, 0ull);
 put64(b, l5 + 56, 0ull);
 put64(b, l5 + 48, l5 + 76ull);
-t1 = f246(b, l5 + 48ull, l12);
+t1 = f247(b, l5 + 48ull, l12);
 if (!t1) { goto L8; }
 l17 = get64(b, l5 + 48);
 l3 = get64(b, l5 + 56);
@@ -67217,7 +67917,7 @@ put64(b, l5 + 64, 0ull);
 put64(b, l5 + 56, 0ull);
 put64(b, l5 + 48, l5 + 76ull);
 l3 = (u64)l40;
-t2 = f246(b, l5 + 48ull, l3);
+t2 = f247(b, l5 + 48ull, l3);
 if (!t2) { goto L25; }
 l24 = get64(b, l5 + 48);
 l15 = get64(b, l5 + 56);
@@ -67240,7 +67940,7 @@ put64(b, l5 + 48, l5 + 76ull);
 if (!l18) { goto L29; }
 l3 = (l18 < 4294967295ull) ? l18 : 4294967295ull;
 l4 = (u32)l3;
-t3 = f246(b, l5 + 48ull, l3);
+t3 = f247(b, l5 + 48ull, l3);
 if (!t3) { goto L28; }
 l28 = get64(b, l5 + 48);
 l15 = get64(b, l5 + 56);
@@ -67295,7 +67995,7 @@ l29 = 0ull;
 l20 = l5 + 76ull;
 l30 = l20;
 if (!l15) { goto L36; }
-t4 = f254(b, l5 + 48ull, l15);
+t4 = f255(b, l5 + 48ull, l15);
 if (!t4) { goto L35; }
 l3 = get64(b, l5 + 56);
 l13 = l3 + l15;
@@ -67359,7 +68059,7 @@ put64(b, l5 + 56, 0ull);
 put64(b, l5 + 48, l5 + 76ull);
 if (!l7) { goto L43; }
 l3 = (l7 < 4294967295ull) ? l7 : 4294967295ull;
-t5 = f246(b, l5 + 48ull, l3);
+t5 = f247(b, l5 + 48ull, l3);
 if (!t5) { goto L42; }
 l23 = get64(b, l5 + 48);
 l15 = get64(b, l5 + 56);
@@ -67386,7 +68086,7 @@ l31 = get64(b, l5 + 64);
 put64(b, l5 + 64, 0ull);
 put64(b, l5 + 56, 0ull);
 put64(b, l5 + 48, l5 + 76ull);
-t6 = f246(b, l5 + 48ull, l3);
+t6 = f247(b, l5 + 48ull, l3);
 if (!t6) { goto L44; }
 l12 = get64(b, l5 + 48);
 l15 = get64(b, l5 + 56);
@@ -67408,7 +68108,7 @@ put64(b, l5 + 56, 0ull);
 put64(b, l5 + 48, l5 + 76ull);
 if (!l22) { goto L48; }
 l3 = (l22 < 4294967295ull) ? l22 : 4294967295ull;
-t7 = f246(b, l5 + 48ull, l3);
+t7 = f247(b, l5 + 48ull, l3);
 if (!t7) { goto L47; }
 l19 = get64(b, l5 + 48);
 l15 = get64(b, l5 + 56);
@@ -67435,7 +68135,7 @@ l33 = get64(b, l5 + 64);
 put64(b, l5 + 64, 0ull);
 put64(b, l5 + 56, 0ull);
 put64(b, l5 + 48, l5 + 76ull);
-t8 = f246(b, l5 + 48ull, l3);
+t8 = f247(b, l5 + 48ull, l3);
 if (!t8) { goto L49; }
 l16 = get64(b, l5 + 48);
 l15 = get64(b, l5 + 56);
@@ -67541,7 +68241,7 @@ l39 = (u64)get32(b, get64(b, l2 + 128ull) + (l20 << 3)) | 4294967296ull;
 L68:;
 l18 = l21;
 if (get64(b, l2 + 144ull) != l21) { goto L71; }
-t9 = f255(b, l2 + 128ull, 1ull);
+t9 = f256(b, l2 + 128ull, 1ull);
 if (!t9) { goto L70; }
 l18 = get64(b, l2 + 136ull);
 L71:;
@@ -67576,7 +68276,7 @@ l39 = (u64)get32(b, get64(b, l2 + 128ull) + (l20 << 3)) | 4294967296ull;
 L75:;
 l18 = l21;
 if (get64(b, l2 + 144ull) != l21) { goto L78; }
-t10 = f255(b, l2 + 128ull, 1ull);
+t10 = f256(b, l2 + 128ull, 1ull);
 if (!t10) { goto L77; }
 l18 = get64(b, l2 + 136ull);
 L78:;
@@ -67605,7 +68305,7 @@ goto L79;
 L80:;
 l18 = l20;
 if (get64(b, l2 + 120ull) != l20) { goto L83; }
-t11 = f254(b, l2 + 104ull, 1ull);
+t11 = f255(b, l2 + 104ull, 1ull);
 if (!t11) { goto L82; }
 l18 = get64(b, l2 + 112ull);
 L83:;
@@ -67651,7 +68351,7 @@ l18 = (u64)get32(b, get64(b, l2 + 128ull) + (l15 << 3)) | 4294967296ull;
 L87:;
 l21 = l20;
 if (get64(b, l2 + 144ull) != l20) { goto L90; }
-t12 = f255(b, l2 + 128ull, 1ull);
+t12 = f256(b, l2 + 128ull, 1ull);
 if (!t12) { goto L89; }
 l21 = get64(b, l2 + 136ull);
 L90:;
@@ -67725,7 +68425,7 @@ SP = l5 + 80ull;
 return l4;
 }
 
-FN u32 f319(B b, u64 l0) {
+FN u32 f320(B b, u64 l0) {
 u32 l6 = 0;
 u64 l1 = 0, l2 = 0, l3 = 0, l4 = 0, l5 = 0;
 l1 = SP - 32ull;
@@ -67757,7 +68457,7 @@ SP = l1 + 32ull;
 return l6;
 }
 
-FN void f320(B b, u64 l0, u64 l1, u64 l2) {
+FN void f321(B b, u64 l0, u64 l1, u64 l2) {
 u64 l3 = 0, l4 = 0, l5 = 0, l6 = 0, l7 = 0, l8 = 0, l9 = 0, l10 = 0, l11 = 0, l12 = 0, l13 = 0;
 l3 = SP - 240ull;
 SP = l3;
@@ -67871,7 +68571,7 @@ put64(b, l0, l6);
 SP = l3 + 240ull;
 }
 
-FN u32 f321(B b, u64 l0) {
+FN u32 f322(B b, u64 l0) {
 u32 l6 = 0;
 u64 l1 = 0, l2 = 0, l3 = 0, l4 = 0, l5 = 0;
 l1 = SP - 32ull;
@@ -67903,7 +68603,7 @@ SP = l1 + 32ull;
 return l6;
 }
 
-FN void f322(B b, u64 l0, u64 l1, u64 l2) {
+FN void f323(B b, u64 l0, u64 l1, u64 l2) {
 u64 l3 = 0, l4 = 0, l5 = 0, l6 = 0, l7 = 0, l8 = 0, l9 = 0, l10 = 0, l11 = 0, l12 = 0, l13 = 0, l14 = 0, l15 = 0, l16 = 0, l17 = 0, l18 = 0, l19 = 0, l20 = 0, l21 = 0;
 l3 = SP - 160ull;
 SP = l3;
@@ -67950,7 +68650,7 @@ put64(b, l3 + 32, l12);
 put64(b, l3 + 24, l13);
 put64(b, l3 + 16, l21);
 put64(b, l3 + 8, l14);
-f265(b, l3 + 8ull);
+f266(b, l3 + 8ull);
 goto L3;
 L4:;
 l15 = get64(b, l1 + 200ull);
@@ -67988,7 +68688,7 @@ L1:;
 SP = l3 + 160ull;
 }
 
-FN u32 f323(B b, u64 l0) {
+FN u32 f324(B b, u64 l0) {
 u32 l6 = 0;
 u64 l1 = 0, l2 = 0, l3 = 0, l4 = 0, l5 = 0;
 l1 = SP - 32ull;
@@ -68020,7 +68720,7 @@ SP = l1 + 32ull;
 return l6;
 }
 
-FN void f324(B b, u64 l0, u64 l1, u64 l2, u64 l3, u32 l4) {
+FN void f325(B b, u64 l0, u64 l1, u64 l2, u64 l3, u32 l4) {
 u32 l5 = 0, l6 = 0, l7 = 0, l8 = 0, l9 = 0, l10 = 0, l11 = 0, l12 = 0, l13 = 0, t0;
 u64 l14 = 0, l15 = 0, l16 = 0, l17 = 0, l18 = 0, l19 = 0, l20 = 0, l21 = 0, l22 = 0, l23 = 0, l24 = 0, l25 = 0;
 l5 = 0u;
@@ -68130,7 +68830,7 @@ if (get64(b, l20 + 32ull) <= l18) { goto L20; }
 l9 = get32(b, get64(b, l20 + 24ull) + (l18 << 2));
 L20:;
 if (get64(b, l3 + 16ull) != l17) { goto L23; }
-t0 = f332(b, l3);
+t0 = f333(b, l3);
 if (!t0) { goto L22; }
 l17 = get64(b, l3 + 8ull);
 L23:;
@@ -68166,7 +68866,7 @@ put32(b, l0 + 4, l5);
 put8(b, l0, l6);
 }
 
-FN u32 f325(B b, u64 l0) {
+FN u32 f326(B b, u64 l0) {
 u32 l6 = 0;
 u64 l1 = 0, l2 = 0, l3 = 0, l4 = 0, l5 = 0;
 l1 = SP - 32ull;
@@ -68198,7 +68898,7 @@ SP = l1 + 32ull;
 return l6;
 }
 
-FN u32 f326(B b, u64 l0) {
+FN u32 f327(B b, u64 l0) {
 u32 l6 = 0;
 u64 l1 = 0, l2 = 0, l3 = 0, l4 = 0, l5 = 0;
 l1 = SP - 32ull;
@@ -68230,7 +68930,7 @@ SP = l1 + 32ull;
 return l6;
 }
 
-FN u32 f327(B b, u64 l0) {
+FN u32 f328(B b, u64 l0) {
 u32 l6 = 0;
 u64 l1 = 0, l2 = 0, l3 = 0, l4 = 0, l5 = 0;
 l1 = SP - 32ull;
@@ -68262,7 +68962,7 @@ SP = l1 + 32ull;
 return l6;
 }
 
-FN u32 f328(B b, u64 l0) {
+FN u32 f329(B b, u64 l0) {
 u32 l6 = 0;
 u64 l1 = 0, l2 = 0, l3 = 0, l4 = 0, l5 = 0;
 l1 = SP - 32ull;
@@ -68294,7 +68994,7 @@ SP = l1 + 32ull;
 return l6;
 }
 
-FN u32 f329(B b, u64 l0) {
+FN u32 f330(B b, u64 l0) {
 u32 l6 = 0;
 u64 l1 = 0, l2 = 0, l3 = 0, l4 = 0, l5 = 0;
 l1 = SP - 32ull;
@@ -68326,7 +69026,7 @@ SP = l1 + 32ull;
 return l6;
 }
 
-FN u32 f330(B b, u64 l0) {
+FN u32 f331(B b, u64 l0) {
 u32 l6 = 0;
 u64 l1 = 0, l2 = 0, l3 = 0, l4 = 0, l5 = 0;
 l1 = SP - 32ull;
@@ -68358,7 +69058,7 @@ SP = l1 + 32ull;
 return l6;
 }
 
-FN u32 f331(B b, u64 l0) {
+FN u32 f332(B b, u64 l0) {
 u32 l6 = 0;
 u64 l1 = 0, l2 = 0, l3 = 0, l4 = 0, l5 = 0;
 l1 = SP - 32ull;
@@ -68390,7 +69090,7 @@ SP = l1 + 32ull;
 return l6;
 }
 
-FN u32 f332(B b, u64 l0) {
+FN u32 f333(B b, u64 l0) {
 u32 l6 = 0;
 u64 l1 = 0, l2 = 0, l3 = 0, l4 = 0, l5 = 0;
 l1 = SP - 32ull;
@@ -68422,13 +69122,13 @@ SP = l1 + 32ull;
 return l6;
 }
 
-FN void f333(B b, u64 l0, u64 l1, u64 l2, u32 l3, u64 l4) {
+FN void f334(B b, u64 l0, u64 l1, u64 l2, u32 l3, u64 l4) {
 u32 l17 = 0, l18 = 0, l19 = 0, l20 = 0;
 u64 l5 = 0, l6 = 0, l7 = 0, l8 = 0, l9 = 0, l10 = 0, l11 = 0, l12 = 0, l13 = 0, l14 = 0, l15 = 0, l16 = 0, t0;
 if (l1 < 33ull) { goto L1; }
 L2:;
 if (l3) { goto L3; }
-f335(b, l0, l1, l4);
+f336(b, l0, l1, l4);
 return;
 L3:;
 l5 = l1 >> 3;
@@ -68680,7 +69380,7 @@ L29:;
 put64(b, l4 + 8, l9);
 put64(b, l4, l10);
 l3 = l3 + 4294967295u;
-f333(b, l0, l7, l1, l3, l4);
+f334(b, l0, l7, l1, l3, l4);
 l1 = l15;
 L6:;
 l2 = l1;
@@ -68688,10 +69388,10 @@ l0 = l8;
 l1 = l11;
 if (l11 >= 33ull) { goto L2; }
 L1:;
-f336(b, l0, l1, l4);
+f337(b, l0, l1, l4);
 }
 
-FN void f334(B b, u64 l0, u64 l1, u64 l2, u64 l3, u64 l4, u32 l5, u32 l6, u64 l7, u64 l8, u64 l9) {
+FN void f335(B b, u64 l0, u64 l1, u64 l2, u64 l3, u64 l4, u32 l5, u32 l6, u64 l7, u64 l8, u64 l9) {
 u32 l17 = 0, l18 = 0, l19 = 0, l20 = 0;
 u64 l10 = 0, l11 = 0, l12 = 0, l13 = 0, l14 = 0, l15 = 0, l16 = 0;
 l10 = SP - 48ull;
@@ -68800,7 +69500,7 @@ if (l6 > l20) { goto L18; }
 l15 = l1 + (l3 << 2);
 L19:;
 l11 = l4;
-f334(b, l10 + 8ull, l1, l2, l11, get64(b, l10 + 24), get8(b, l10 + 32), l19, l7, l8, l9);
+f335(b, l10 + 8ull, l1, l2, l11, get64(b, l10 + 24), get8(b, l10 + 32), l19, l7, l8, l9);
 l4 = get64(b, l10 + 8);
 l19 = get8(b, l10 + 16);
 if ((l19 | l5) & 1u) { goto L21; }
@@ -68809,17 +69509,17 @@ goto L20;
 L21:;
 if (l5 & 1u) { goto L22; }
 l14 = l11 - l3;
-f333(b, l15, l14, l14, 126u - (((u32)clz64(l14)) << 1), l9);
+f334(b, l15, l14, l14, 126u - (((u32)clz64(l14)) << 1), l9);
 L22:;
 l14 = l11 << 2;
 l5 = 1u;
 if (l19 & 1u) { goto L23; }
 l12 = l4 - l11;
-f333(b, l1 + l14, l12, l12, 126u - (((u32)clz64(l12)) << 1), l9);
+f334(b, l1 + l14, l12, l12, 126u - (((u32)clz64(l12)) << 1), l9);
 L23:;
 l14 = l1 + l14;
 if (get32(b, l14) >= get32(b, l14 + 18446744073709551612ull)) { goto L20; }
-f338(b, l15, l4 - l3, l11 - l3, l9);
+f339(b, l15, l4 - l3, l11 - l3, l9);
 L20:;
 put32(b, l13, 0u);
 put32(b, l13 + 3, 0u);
@@ -68844,30 +69544,30 @@ L1:;
 SP = l10 + 48ull;
 }
 
-FN void f335(B b, u64 l0, u64 l1, u64 l2) {
+FN void f336(B b, u64 l0, u64 l1, u64 l2) {
 u64 l3 = 0;
 if (l1 >= 33ull) { goto L1; }
-f336(b, l0, l1, l2);
+f337(b, l0, l1, l2);
 return;
 L1:;
 l3 = l1 >> 1;
-f335(b, l0, l3, l2);
-f335(b, l0 + (l3 << 2), l1 - l3, l2);
-f338(b, l0, l1, l3, l2);
+f336(b, l0, l3, l2);
+f336(b, l0 + (l3 << 2), l1 - l3, l2);
+f339(b, l0, l1, l3, l2);
 }
 
-FN void f336(B b, u64 l0, u64 l1, u64 l2) {
+FN void f337(B b, u64 l0, u64 l1, u64 l2) {
 u32 l14 = 0, l15 = 0, l16 = 0, l17 = 0, l18 = 0, l19 = 0;
 u64 l3 = 0, l4 = 0, l5 = 0, l6 = 0, l7 = 0, l8 = 0, l9 = 0, l10 = 0, l11 = 0, l12 = 0, l13 = 0;
 l3 = SP - 32ull;
 SP = l3;
 if (l1 >= 16ull) { goto L2; }
-f337(b, l0, l1, l2);
+f338(b, l0, l1, l2);
 goto L1;
 L2:;
 l4 = l1 >> 1;
-f337(b, l0, l4, l2);
-f337(b, l0 + (l4 << 2), l1 - l4, l2);
+f338(b, l0, l4, l2);
+f338(b, l0 + (l4 << 2), l1 - l4, l2);
 l5 = get64(b, l2 + 8);
 l6 = get64(b, l2);
 put64(b, l3 + 24, 0ull);
@@ -68987,7 +69687,7 @@ L1:;
 SP = l3 + 32ull;
 }
 
-FN void f337(B b, u64 l0, u64 l1, u64 l2) {
+FN void f338(B b, u64 l0, u64 l1, u64 l2) {
 u32 l3 = 0, l4 = 0, l5 = 0, l6 = 0, l7 = 0, l8 = 0, l9 = 0, l10 = 0, l11 = 0, l12 = 0, l13 = 0, l14 = 0;
 u64 l15 = 0, l16 = 0, l17 = 0, l18 = 0, l19 = 0, l20 = 0, l21 = 0, l22 = 0, l23 = 0, l24 = 0, l25 = 0, l26 = 0, l27 = 0, l28 = 0;
 if (l1 < 8ull) { goto L2; }
@@ -69180,7 +69880,7 @@ if (l17 != l1) { goto L9; }
 L8:;
 }
 
-FN void f338(B b, u64 l0, u64 l1, u64 l2, u64 l3) {
+FN void f339(B b, u64 l0, u64 l1, u64 l2, u64 l3) {
 u32 l17 = 0, l18 = 0, l19 = 0;
 u64 l4 = 0, l5 = 0, l6 = 0, l7 = 0, l8 = 0, l9 = 0, l10 = 0, l11 = 0, l12 = 0, l13 = 0, l14 = 0, l15 = 0, l16 = 0;
 if (l1 < 4097ull) { goto L2; }
@@ -69510,7 +70210,7 @@ put64(b, l3 + 8, l15);
 put64(b, l3, l4);
 }
 
-FN u32 f339(B b, u64 l0) {
+FN u32 f340(B b, u64 l0) {
 u32 l6 = 0;
 u64 l1 = 0, l2 = 0, l3 = 0, l4 = 0, l5 = 0;
 l1 = SP - 32ull;
@@ -69542,7 +70242,7 @@ SP = l1 + 32ull;
 return l6;
 }
 
-FN u32 f340(B b, u64 l0) {
+FN u32 f341(B b, u64 l0) {
 u32 l6 = 0;
 u64 l1 = 0, l2 = 0, l3 = 0, l4 = 0, l5 = 0;
 l1 = SP - 32ull;
@@ -69574,7 +70274,7 @@ SP = l1 + 32ull;
 return l6;
 }
 
-FN void f341(B b, u64 l0, u64 l1, u32 l2, u32 l3, u64 l4) {
+FN void f342(B b, u64 l0, u64 l1, u32 l2, u32 l3, u64 l4) {
 u32 l19 = 0, l20 = 0, l21 = 0, t0, t1, t2, t3, t4;
 u64 l5 = 0, l6 = 0, l7 = 0, l8 = 0, l9 = 0, l10 = 0, l11 = 0, l12 = 0, l13 = 0, l14 = 0, l15 = 0, l16 = 0, l17 = 0, l18 = 0;
 l5 = SP - 32ull;
@@ -69663,7 +70363,7 @@ l7 = l6 - l10;
 l6 = (l7 > l6) ? 0ull : l7;
 l7 = get64(b, l1 + 136ull);
 if (((l6 < l7) ? l6 : l7) != 0ull) { goto L19; }
-t3 = f351(b, l11);
+t3 = f352(b, l11);
 if (t3 & 255u) { goto L9; }
 l12 = get64(b, l1 + 96ull);
 l9 = get64(b, l1 + 88ull);
@@ -69721,7 +70421,7 @@ L1:;
 SP = l5 + 32ull;
 }
 
-FN u32 f342(B b, u64 l0) {
+FN u32 f343(B b, u64 l0) {
 u32 l6 = 0;
 u64 l1 = 0, l2 = 0, l3 = 0, l4 = 0, l5 = 0;
 l1 = SP - 32ull;
@@ -69753,14 +70453,14 @@ SP = l1 + 32ull;
 return l6;
 }
 
-FN void f343(B b, u64 l0, u64 l1, u32 l2, u32 l3, u32 l4) {
+FN void f344(B b, u64 l0, u64 l1, u32 l2, u32 l3, u32 l4) {
 u32 l11 = 0, l12 = 0, l13 = 0, t0, t1, t2, t3;
 u64 l5 = 0, l6 = 0, l7 = 0, l8 = 0, l9 = 0, l10 = 0;
 l5 = SP - 16ull;
 SP = l5;
 put32(b, l5 + 8, 0u);
 put64(b, l5, 0ull);
-f341(b, l5, l1 + 64ull, l2, l3, get64(b, l1 + 48ull));
+f342(b, l5, l1 + 64ull, l2, l3, get64(b, l1 + 48ull));
 if (get8(b, l5)) { goto L2; }
 l6 = get64(b, l5 + 4);
 if ((l6 & 4294967296ull) != 0ull) { goto L4; }
@@ -69770,7 +70470,7 @@ L4:;
 l7 = l1 + 48ull;
 l8 = get64(b, l7);
 if (get64(b, l1 + 56ull) != l8) { goto L5; }
-t0 = f350(b, l1 + 40ull);
+t0 = f351(b, l1 + 40ull);
 if (!t0) { goto L2; }
 l8 = get64(b, l1 + 48ull);
 L5:;
@@ -69803,13 +70503,13 @@ put32(b, l5 + 8, 0u);
 put64(b, l5, 0ull);
 l8 = l1 + 240ull;
 l6 = l1 + 224ull;
-f341(b, l5, l8, l2, l12, get64(b, l6));
+f342(b, l5, l8, l2, l12, get64(b, l6));
 if (get8(b, l5)) { goto L2; }
 l6 = get64(b, l6);
 l7 = get64(b, l5 + 4);
 if (!(l7 & 4294967296ull)) { goto L8; }
 if (get64(b, l1 + 232ull) != l6) { goto L9; }
-t1 = f342(b, l1 + 216ull);
+t1 = f343(b, l1 + 216ull);
 if (!t1) { goto L2; }
 l6 = get64(b, l1 + 224ull);
 L9:;
@@ -69821,14 +70521,14 @@ put64(b, l1 + 224ull, l6);
 L8:;
 put32(b, l5 + 8, 0u);
 put64(b, l5, 0ull);
-f341(b, l5, l8, l11, l13, l6);
+f342(b, l5, l8, l11, l13, l6);
 if (get8(b, l5)) { goto L2; }
 l8 = get64(b, l5 + 4);
 if (!(l8 & 4294967296ull)) { goto L10; }
 l9 = l1 + 224ull;
 l6 = get64(b, l9);
 if (get64(b, l1 + 232ull) != l6) { goto L11; }
-t2 = f342(b, l1 + 216ull);
+t2 = f343(b, l1 + 216ull);
 if (!t2) { goto L2; }
 l6 = get64(b, l1 + 224ull);
 L11:;
@@ -69864,7 +70564,7 @@ L1:;
 SP = l5 + 16ull;
 }
 
-FN void f344(B b, u64 l0) {
+FN void f345(B b, u64 l0) {
 u64 l1 = 0, l2 = 0, l3 = 0, l4 = 0, l5 = 0, l6 = 0, l7 = 0;
 l1 = get64(b, l0 + 16);
 l2 = get64(b, l0);
@@ -69903,7 +70603,7 @@ rattle_dealloc(b, l2);
 L8:;
 }
 
-FN u32 f345(B b, u64 l0, u32 l1, u32 l2, u64 l3) {
+FN u32 f346(B b, u64 l0, u32 l1, u32 l2, u64 l3) {
 u32 l13 = 0, l14 = 0, l15 = 0, l16 = 0, t0, t1, t2;
 u64 l4 = 0, l5 = 0, l6 = 0, l7 = 0, l8 = 0, l9 = 0, l10 = 0, l11 = 0, l12 = 0;
 l4 = SP - 32ull;
@@ -69976,7 +70676,7 @@ SP = l4 + 32ull;
 return l14;
 }
 
-FN void f346(B b, u64 l0, u32 l1, u64 l2) {
+FN void f347(B b, u64 l0, u32 l1, u64 l2) {
 u32 l54 = 0, l55 = 0, l56 = 0, l57 = 0, t0, t1;
 u64 l3 = 0, l4 = 0, l5 = 0, l6 = 0, l7 = 0, l8 = 0, l9 = 0, l10 = 0, l11 = 0, l12 = 0, l13 = 0, l14 = 0, l15 = 0, l16 = 0, l17 = 0, l18 = 0, l19 = 0, l20 = 0, l21 = 0, l22 = 0, l23 = 0, l24 = 0, l25 = 0, l26 = 0, l27 = 0, l28 = 0, l29 = 0, l30 = 0, l31 = 0, l32 = 0, l33 = 0, l34 = 0, l35 = 0, l36 = 0, l37 = 0, l38 = 0, l39 = 0, l40 = 0, l41 = 0, l42 = 0, l43 = 0, l44 = 0, l45 = 0, l46 = 0, l47 = 0, l48 = 0, l49 = 0, l50 = 0, l51 = 0, l52 = 0, l53 = 0;
 l3 = SP - 176ull;
@@ -70120,7 +70820,7 @@ l2 = get64(b, l40 + 24ull);
 l38 = get64(b, l40 + 16ull);
 L33:;
 if (l2 <= (l45 - l42)) { goto L35; }
-t0 = f354(b, l3 + 144ull, l2);
+t0 = f355(b, l3 + 144ull, l2);
 if (!t0) { goto L25; }
 l44 = get64(b, l3 + 144);
 l45 = get64(b, l3 + 160);
@@ -70199,7 +70899,7 @@ put64(b, l3 + 160, get64(b, l2 + 16));
 put64(b, l3 + 152, get64(b, l2 + 8));
 put64(b, l3 + 144, get64(b, l2));
 l2 = l2 + 32ull;
-f344(b, l3 + 144ull);
+f345(b, l3 + 144ull);
 l35 = l35 + 18446744073709551615ull;
 if (l35 != 0ull) { goto L42; }
 if (!(u32)(!l33)) { goto L19; }
@@ -70325,7 +71025,7 @@ put64(b, l3 + 160, get64(b, l2 + 16));
 put64(b, l3 + 152, get64(b, l2 + 8));
 put64(b, l3 + 144, get64(b, l2));
 l2 = l2 + 32ull;
-f344(b, l3 + 144ull);
+f345(b, l3 + 144ull);
 l35 = l35 + 18446744073709551615ull;
 if (l35 != 0ull) { goto L59; }
 L58:;
@@ -70383,7 +71083,7 @@ put64(b, l3 + 160, get64(b, l2 + 16));
 put64(b, l3 + 152, get64(b, l2 + 8));
 put64(b, l3 + 144, get64(b, l2));
 l2 = l2 + 32ull;
-f344(b, l3 + 144ull);
+f345(b, l3 + 144ull);
 l35 = l35 + 18446744073709551615ull;
 if (l35 != 0ull) { goto L74; }
 L73:;
@@ -70516,7 +71216,7 @@ L1:;
 SP = l3 + 176ull;
 }
 
-FN void f347(B b, u64 l0) {
+FN void f348(B b, u64 l0) {
 u64 l1 = 0, l2 = 0, l3 = 0;
 l1 = get64(b, l0 + 16);
 l2 = get64(b, l0);
@@ -70536,7 +71236,7 @@ rattle_dealloc(b, l2);
 L4:;
 }
 
-FN void f348(B b, u64 l0) {
+FN void f349(B b, u64 l0) {
 u64 l1 = 0, l2 = 0, l3 = 0, l4 = 0;
 l1 = SP - 32ull;
 SP = l1;
@@ -70550,7 +71250,7 @@ put64(b, l1 + 24, get64(b, l0 + 16));
 put64(b, l1 + 16, get64(b, l0 + 8));
 put64(b, l1 + 8, get64(b, l0));
 l0 = l0 + 32ull;
-f344(b, l1 + 8ull);
+f345(b, l1 + 8ull);
 l4 = l4 + 18446744073709551615ull;
 if (l4 != 0ull) { goto L2; }
 L1:;
@@ -70560,7 +71260,7 @@ L3:;
 SP = l1 + 32ull;
 }
 
-FN void f349(B b, u64 l0) {
+FN void f350(B b, u64 l0) {
 u64 l1 = 0, l2 = 0, l3 = 0, l4 = 0, l5 = 0, l6 = 0, l7 = 0, l8 = 0, l9 = 0, l10 = 0, l11 = 0;
 l1 = get64(b, l0 + 16);
 l2 = get64(b, l0);
@@ -70612,7 +71312,7 @@ rattle_dealloc(b, l2);
 L11:;
 }
 
-FN u32 f350(B b, u64 l0) {
+FN u32 f351(B b, u64 l0) {
 u32 l6 = 0;
 u64 l1 = 0, l2 = 0, l3 = 0, l4 = 0, l5 = 0;
 l1 = SP - 32ull;
@@ -70644,7 +71344,7 @@ SP = l1 + 32ull;
 return l6;
 }
 
-FN u32 f351(B b, u64 l0) {
+FN u32 f352(B b, u64 l0) {
 u32 l6 = 0, t0;
 u64 l1 = 0, l2 = 0, l3 = 0, l4 = 0, l5 = 0;
 l1 = SP - 64ull;
@@ -70652,7 +71352,7 @@ SP = l1;
 l2 = get64(b, l0 + 96ull);
 if (l2 != 0ull) { goto L2; }
 l6 = 1u;
-t0 = f352(b, l0 + 48ull);
+t0 = f353(b, l0 + 48ull);
 if (t0 & 255u) { goto L1; }
 l2 = get64(b, l0 + 96ull);
 L2:;
@@ -70706,7 +71406,7 @@ SP = l1 + 64ull;
 return l6;
 }
 
-FN u32 f352(B b, u64 l0) {
+FN u32 f353(B b, u64 l0) {
 u32 l13 = 0, l14 = 0, l15 = 0, l16 = 0, t0, t1, t2;
 u64 l1 = 0, l2 = 0, l3 = 0, l4 = 0, l5 = 0, l6 = 0, l7 = 0, l8 = 0, l9 = 0, l10 = 0, l11 = 0, l12 = 0;
 l1 = SP - 64ull;
@@ -70835,7 +71535,7 @@ l3 = 0ull;
 goto L24;
 L25:;
 if (l5 <= l11) { goto L26; }
-t1 = f353(b, l0, l5);
+t1 = f354(b, l0, l5);
 if (!t1) { goto L1; }
 l11 = get64(b, l0 + 16ull);
 l8 = get64(b, l0 + 8ull);
@@ -70892,7 +71592,7 @@ abort();
 return 0;
 }
 
-FN u32 f353(B b, u64 l0, u64 l1) {
+FN u32 f354(B b, u64 l0, u64 l1) {
 u32 l6 = 0;
 u64 l2 = 0, l3 = 0, l4 = 0, l5 = 0;
 l2 = SP - 32ull;
@@ -70925,7 +71625,7 @@ SP = l2 + 32ull;
 return l6;
 }
 
-FN u32 f354(B b, u64 l0, u64 l1) {
+FN u32 f355(B b, u64 l0, u64 l1) {
 u32 l6 = 0;
 u64 l2 = 0, l3 = 0, l4 = 0, l5 = 0;
 l2 = SP - 32ull;
@@ -70958,7 +71658,7 @@ SP = l2 + 32ull;
 return l6;
 }
 
-FN void f355(B b, u64 l0) {
+FN void f356(B b, u64 l0) {
 u64 l1 = 0, l2 = 0, l3 = 0, l4 = 0, l5 = 0, l6 = 0, l7 = 0;
 l1 = get64(b, l0 + 16);
 l2 = get64(b, l0);
@@ -70992,7 +71692,7 @@ rattle_dealloc(b, l2);
 L7:;
 }
 
-FN u32 f356(B b, u64 l0) {
+FN u32 f357(B b, u64 l0) {
 u32 l6 = 0;
 u64 l1 = 0, l2 = 0, l3 = 0, l4 = 0, l5 = 0;
 l1 = SP - 32ull;
@@ -71024,7 +71724,7 @@ SP = l1 + 32ull;
 return l6;
 }
 
-FN u32 f357(B b, u64 l0) {
+FN u32 f358(B b, u64 l0) {
 u32 l6 = 0;
 u64 l1 = 0, l2 = 0, l3 = 0, l4 = 0, l5 = 0;
 l1 = SP - 32ull;
@@ -71056,7 +71756,7 @@ SP = l1 + 32ull;
 return l6;
 }
 
-FN u32 f358(B b, u64 l0) {
+FN u32 f359(B b, u64 l0) {
 u32 l6 = 0;
 u64 l1 = 0, l2 = 0, l3 = 0, l4 = 0, l5 = 0;
 l1 = SP - 32ull;
@@ -71088,7 +71788,7 @@ SP = l1 + 32ull;
 return l6;
 }
 
-FN u32 f359(B b, u64 l0) {
+FN u32 f360(B b, u64 l0) {
 u32 l6 = 0;
 u64 l1 = 0, l2 = 0, l3 = 0, l4 = 0, l5 = 0;
 l1 = SP - 32ull;
@@ -71120,7 +71820,7 @@ SP = l1 + 32ull;
 return l6;
 }
 
-FN void f360(B b, u64 l0) {
+FN void f361(B b, u64 l0) {
 u32 l7 = 0;
 u64 l1 = 0, l2 = 0, l3 = 0, l4 = 0, l5 = 0, l6 = 0;
 l1 = get64(b, l0 + 16);
@@ -71169,7 +71869,7 @@ rattle_dealloc(b, l2);
 L8:;
 }
 
-FN u32 f361(B b, u64 l0) {
+FN u32 f362(B b, u64 l0) {
 u32 l6 = 0;
 u64 l1 = 0, l2 = 0, l3 = 0, l4 = 0, l5 = 0;
 l1 = SP - 32ull;
@@ -71201,7 +71901,7 @@ SP = l1 + 32ull;
 return l6;
 }
 
-FN u32 f362(B b, u64 l0, u32 l1, u32 l2) {
+FN u32 f363(B b, u64 l0, u32 l1, u32 l2) {
 u32 t0, t1;
 u64 l3 = 0, l4 = 0, l5 = 0, l6 = 0, l7 = 0, l8 = 0;
 l3 = SP - 32ull;
@@ -71252,38 +71952,6 @@ SP = l3 + 32ull;
 return l1;
 }
 
-FN u32 f363(B b, u64 l0) {
-u32 l6 = 0;
-u64 l1 = 0, l2 = 0, l3 = 0, l4 = 0, l5 = 0;
-l1 = SP - 32ull;
-SP = l1;
-l6 = 0u;
-l2 = get64(b, l0 + 8ull);
-if (l2 == 18446744073709551615ull) { goto L1; }
-l3 = ((l2 > 3ull) ? l2 : 3ull) + 1ull;
-l4 = get64(b, l0 + 16ull);
-l5 = l4 << 1;
-l5 = (l3 > l5) ? l3 : l5;
-l3 = (l4 < 4611686018427387904ull) ? l5 : l3;
-if (l3 > 384307168202282325ull) { goto L1; }
-if (!l4) { goto L3; }
-rattle_realloc(b, l1 + 16ull, get64(b, l0), l2 * 24ull, l3 * 24ull, 8ull);
-if (!(((u32)get64(b, l1 + 16)) & 1u)) { goto L1; }
-l2 = get64(b, l1 + 24);
-goto L2;
-L3:;
-rattle_alloc(b, l1, l5 * 24ull, 8ull);
-if (!(((u32)get64(b, l1)) & 1u)) { goto L1; }
-l2 = get64(b, l1 + 8);
-L2:;
-put64(b, l0 + 16ull, l3);
-put64(b, l0, l2);
-l6 = 1u;
-L1:;
-SP = l1 + 32ull;
-return l6;
-}
-
 FN void f364(B b, u64 l0, u64 l1, u64 l2) {
 u32 t0, t1;
 u64 l3 = 0, l4 = 0, l5 = 0;
@@ -71309,7 +71977,7 @@ put64(b, l3 + 16, l5 + 1ull);
 if (!(u32)(!l2)) { goto L4; }
 goto L2;
 L5:;
-f360(b, l3 + 8ull);
+f361(b, l3 + 8ull);
 put16(b, l0, 1u);
 put64(b, l0 + 8ull, 0ull);
 put64(b, l0 + 16ull, 0ull);
@@ -71324,7 +71992,7 @@ l2 = l2 + 18446744073709551615ull;
 if (!l2) { goto L2; }
 goto L8;
 L7:;
-f360(b, l3 + 8ull);
+f361(b, l3 + 8ull);
 put16(b, l0, 257u);
 put64(b, l0 + 8ull, 0ull);
 put64(b, l0 + 16ull, 0ull);
@@ -71335,7 +72003,7 @@ put64(b, l3 + 48, 0ull);
 put64(b, l3 + 40, l2);
 put64(b, l3 + 32, 1ull);
 f36(b, l3 + 32ull);
-f360(b, l3 + 8ull);
+f361(b, l3 + 8ull);
 put64(b, l0 + 8ull, 0ull);
 put16(b, l0, 257u);
 put64(b, l0 + 16ull, 0ull);
@@ -71458,19 +72126,19 @@ if (l5 <= l9) { goto L14; }
 l15 = l14 + (l9 * 120ull);
 if (!get64(b, l15)) { goto L14; }
 if (l13 <= l9) { goto L14; }
-t0 = f370(b, l4 + 384ull, l4 + 32ull, l15, l12 + (l9 * 24ull));
+t0 = f369(b, l4 + 384ull, l4 + 32ull, l15, l12 + (l9 * 24ull));
 if (!(t0 & 255u)) { goto L13; }
 goto L11;
 L14:;
 put64(b, l11, 0ull);
 put64(b, l11 + 8, 0ull);
 put64(b, l4 + 624, l4 + 792ull);
-t1 = f370(b, l4 + 384ull, l4 + 32ull, l10, l4 + 624ull);
+t1 = f369(b, l4 + 384ull, l4 + 32ull, l10, l4 + 624ull);
 l18 = t1;
 put64(b, l4 + 512, get64(b, l4 + 640));
 put64(b, l4 + 504, get64(b, l4 + 632));
 put64(b, l4 + 496, get64(b, l4 + 624));
-f186(b, l4 + 496ull);
+f185(b, l4 + 496ull);
 if (l18 & 255u) { goto L11; }
 L13:;
 l10 = l10 + 120ull;
@@ -71537,7 +72205,7 @@ L22:;
 l2 = l2 + 8ull;
 l3 = l3 + 18446744073709551615ull;
 if (!(u32)(!l3)) { goto L21; }
-f184(b, l4 + 264ull, l4 + 32ull);
+f183(b, l4 + 264ull, l4 + 32ull);
 if (!get8(b, l4 + 264)) { goto L5; }
 if (!l5) { goto L23; }
 rattle_dealloc(b, l9);
@@ -71608,11 +72276,11 @@ put64(b, l4 + 624, 0ull);
 put64(b, l16 + 8, 0ull);
 put64(b, l16, 0ull);
 put64(b, l4 + 752, l4 + 792ull);
-f192(b, l4 + 776ull, l4 + 384ull, l15, l4 + 624ull, l4 + 752ull);
-f186(b, l12);
+f191(b, l4 + 776ull, l4 + 384ull, l15, l4 + 624ull, l4 + 752ull);
+f185(b, l12);
 goto L31;
 L32:;
-f192(b, l4 + 776ull, l4 + 384ull, l15, l4 + 496ull, l12);
+f191(b, l4 + 776ull, l4 + 384ull, l15, l4 + 496ull, l12);
 L31:;
 l15 = get64(b, l4 + 784);
 l18 = get8(b, l4 + 777);
@@ -71626,7 +72294,7 @@ L33:;
 if (!get64(b, l4 + 400)) { goto L34; }
 rattle_dealloc(b, get64(b, l4 + 384));
 L34:;
-f186(b, l4 + 416ull);
+f185(b, l4 + 416ull);
 if (!get64(b, l4 + 456)) { goto L35; }
 rattle_dealloc(b, get64(b, l4 + 440));
 L35:;
@@ -71640,7 +72308,7 @@ put64(b, l4 + 640, get64(b, l2 + 16));
 put64(b, l4 + 632, get64(b, l2 + 8));
 put64(b, l4 + 624, get64(b, l2));
 l2 = l2 + 24ull;
-f186(b, l4 + 624ull);
+f185(b, l4 + 624ull);
 l1 = l1 + 18446744073709551615ull;
 if (l1 != 0ull) { goto L37; }
 L36:;
@@ -71673,7 +72341,7 @@ L3:;
 if (!get64(b, l4 + 48)) { goto L41; }
 rattle_dealloc(b, get64(b, l4 + 32));
 L41:;
-f186(b, l4 + 64ull);
+f185(b, l4 + 64ull);
 l10 = get64(b, l4 + 128);
 l1 = get64(b, l4 + 120);
 l3 = get64(b, l4 + 112);
@@ -71687,7 +72355,7 @@ put64(b, l4 + 640, get64(b, l2 + 16));
 put64(b, l4 + 632, get64(b, l2 + 8));
 put64(b, l4 + 624, get64(b, l2));
 l2 = l2 + 24ull;
-f186(b, l4 + 624ull);
+f185(b, l4 + 624ull);
 l1 = l1 + 18446744073709551615ull;
 if (l1 != 0ull) { goto L44; }
 L43:;
@@ -71701,365 +72369,7 @@ L1:;
 SP = l4 + 800ull;
 }
 
-FN void f368(B b, u64 l0, u64 l1, u32 l2, u64 l3) {
-u32 l57 = 0, l58 = 0;
-u64 l4 = 0, l5 = 0, l6 = 0, l7 = 0, l8 = 0, l9 = 0, l10 = 0, l11 = 0, l12 = 0, l13 = 0, l14 = 0, l15 = 0, l16 = 0, l17 = 0, l18 = 0, l19 = 0, l20 = 0, l21 = 0, l22 = 0, l23 = 0, l24 = 0, l25 = 0, l26 = 0, l27 = 0, l28 = 0, l29 = 0, l30 = 0, l31 = 0, l32 = 0, l33 = 0, l34 = 0, l35 = 0, l36 = 0, l37 = 0, l38 = 0, l39 = 0, l40 = 0, l41 = 0, l42 = 0, l43 = 0, l44 = 0, l45 = 0, l46 = 0, l47 = 0, l48 = 0, l49 = 0, l50 = 0, l51 = 0, l52 = 0, l53 = 0, l54 = 0, l55 = 0, l56 = 0;
-l4 = SP - 880ull;
-SP = l4;
-put64(b, l4 + 64, 0ull);
-put64(b, l4 + 56, 0ull);
-put64(b, l4 + 48, 0ull);
-put64(b, l4 + 24, 0ull);
-put64(b, l4 + 32, 0ull);
-put64(b, l4 + 40, 0ull);
-copy(b, l4 + 72ull, l1, 112u);
-put64(b, l4 + 200, 0ull);
-put64(b, l4 + 208, 0ull);
-put64(b, l4 + 224, 0ull);
-put64(b, l4 + 232, 0ull);
-put64(b, l4 + 248, 0ull);
-put64(b, l4 + 256, 0ull);
-put64(b, l4 + 272, 0ull);
-put64(b, l4 + 280, 0ull);
-put64(b, l4 + 296, 0ull);
-put64(b, l4 + 304, 0ull);
-put64(b, l4 + 328, 0ull);
-put64(b, l4 + 320, 0ull);
-put64(b, l4 + 192, l4 + 872ull);
-put64(b, l4 + 184, l4 + 72ull);
-put64(b, l4 + 216, l4 + 872ull);
-put64(b, l4 + 240, l4 + 872ull);
-put64(b, l4 + 264, l4 + 872ull);
-put64(b, l4 + 288, l4 + 872ull);
-put64(b, l4 + 312, l4 + 872ull);
-put64(b, l4 + 344, 0ull);
-put64(b, l4 + 352, 0ull);
-put64(b, l4 + 368, 0ull);
-put64(b, l4 + 376, 0ull);
-put64(b, l4 + 392, 0ull);
-put64(b, l4 + 400, 0ull);
-put64(b, l4 + 416, 0ull);
-put64(b, l4 + 424, 0ull);
-put64(b, l4 + 440, 0ull);
-put64(b, l4 + 448, 0ull);
-put64(b, l4 + 456, 0ull);
-put64(b, l4 + 464, 2611923443488327891ull);
-put64(b, l4 + 336, l4 + 872ull);
-put64(b, l4 + 360, l4 + 872ull);
-put64(b, l4 + 384, l4 + 872ull);
-put64(b, l4 + 408, l4 + 872ull);
-put64(b, l4 + 432, l4 + 872ull);
-put64(b, l4 + 472, l4 + 872ull);
-put64(b, l4 + 488, 0ull);
-put64(b, l4 + 480, 0ull);
-put64(b, l4 + 512, 0ull);
-put64(b, l4 + 504, 0ull);
-put64(b, l4 + 536, 0ull);
-put64(b, l4 + 528, 0ull);
-put64(b, l4 + 560, 0ull);
-put64(b, l4 + 552, 0ull);
-put64(b, l4 + 584, 0ull);
-put64(b, l4 + 576, 0ull);
-put64(b, l4 + 608, 0ull);
-put64(b, l4 + 600, 0ull);
-put64(b, l4 + 496, l4 + 872ull);
-put64(b, l4 + 520, l4 + 872ull);
-put64(b, l4 + 544, l4 + 872ull);
-put64(b, l4 + 568, l4 + 872ull);
-put64(b, l4 + 592, l4 + 872ull);
-put64(b, l4 + 616, l4 + 872ull);
-put64(b, l4 + 640, 0ull);
-put64(b, l4 + 632, 0ull);
-put64(b, l4 + 624, 0ull);
-put64(b, l4 + 648, 2611923443488327891ull);
-put64(b, l4 + 656, l4 + 872ull);
-put64(b, l4 + 672, 0ull);
-put64(b, l4 + 664, 0ull);
-put64(b, l4 + 680, l4 + 872ull);
-put64(b, l4 + 696, 0ull);
-put64(b, l4 + 688, 0ull);
-put64(b, l4 + 704, l4 + 872ull);
-put64(b, l4 + 720, 0ull);
-put64(b, l4 + 712, 0ull);
-put64(b, l4 + 728, l4 + 872ull);
-put64(b, l4 + 744, 0ull);
-put64(b, l4 + 736, 0ull);
-put64(b, l4 + 752, l4 + 872ull);
-put64(b, l4 + 768, 0ull);
-put64(b, l4 + 760, 0ull);
-put64(b, l4 + 776, l4 + 872ull);
-put64(b, l4 + 792, 0ull);
-put64(b, l4 + 784, 0ull);
-put64(b, l4 + 800, l4 + 872ull);
-put64(b, l4 + 816, 0ull);
-put64(b, l4 + 808, 0ull);
-put64(b, l4 + 824, l4 + 872ull);
-put64(b, l4 + 840, 0ull);
-put64(b, l4 + 832, 0ull);
-put64(b, l4 + 848, l4 + 872ull);
-put64(b, l4 + 864, 0ull);
-put64(b, l4 + 856, 0ull);
-f372(b, l4 + 16ull, l4 + 184ull, l2);
-l57 = 0u;
-if (!get8(b, l4 + 16)) { goto L4; }
-l58 = 0u;
-goto L3;
-L4:;
-l58 = 1u;
-if (!(get8(b, l4 + 17) & 1u)) { goto L3; }
-l5 = get64(b, l4 + 136);
-if (l3 >= l5) { goto L5; }
-l1 = l3 * 120ull;
-l2 = (((u32)l3) << 1) | 1u;
-L6:;
-if (get64(b, l4 + 136) <= l3) { goto L2; }
-if (get64(b, get64(b, l4 + 128) + l1) != 186ull) { goto L7; }
-f372(b, l4 + 8ull, l4 + 184ull, l2);
-if (!get8(b, l4 + 8)) { goto L8; }
-l58 = 0u;
-goto L3;
-L8:;
-l58 = 1u;
-if (!(get8(b, l4 + 9) & 1u)) { goto L3; }
-L7:;
-l2 = l2 + 2u;
-l1 = l1 + 120ull;
-l3 = l3 + 1ull;
-if (l5 != l3) { goto L6; }
-L5:;
-l57 = 1u;
-l58 = 1u;
-L3:;
-l6 = get64(b, l4 + 864);
-l7 = get64(b, l4 + 848);
-l8 = get64(b, l4 + 840);
-l9 = get64(b, l4 + 824);
-l10 = get64(b, l4 + 816);
-l11 = get64(b, l4 + 800);
-l12 = get64(b, l4 + 792);
-l13 = get64(b, l4 + 776);
-l14 = get64(b, l4 + 768);
-l15 = get64(b, l4 + 752);
-l16 = get64(b, l4 + 744);
-l17 = get64(b, l4 + 728);
-l18 = get64(b, l4 + 720);
-l19 = get64(b, l4 + 704);
-l20 = get64(b, l4 + 696);
-l1 = get64(b, l4 + 688);
-l21 = get64(b, l4 + 680);
-l22 = get64(b, l4 + 672);
-l23 = get64(b, l4 + 656);
-l24 = get64(b, l4 + 632);
-l25 = get64(b, l4 + 616);
-l26 = get64(b, l4 + 608);
-l27 = get64(b, l4 + 592);
-l28 = get64(b, l4 + 584);
-l29 = get64(b, l4 + 568);
-l30 = get64(b, l4 + 560);
-l31 = get64(b, l4 + 544);
-l32 = get64(b, l4 + 536);
-l33 = get64(b, l4 + 520);
-l34 = get64(b, l4 + 512);
-l5 = get64(b, l4 + 504);
-l35 = get64(b, l4 + 496);
-l3 = get64(b, l4 + 488);
-l36 = get64(b, l4 + 472);
-l37 = get64(b, l4 + 448);
-l38 = get64(b, l4 + 432);
-l39 = get64(b, l4 + 424);
-l40 = get64(b, l4 + 408);
-l41 = get64(b, l4 + 400);
-l42 = get64(b, l4 + 384);
-l43 = get64(b, l4 + 376);
-l44 = get64(b, l4 + 360);
-l45 = get64(b, l4 + 352);
-l46 = get64(b, l4 + 336);
-l47 = get64(b, l4 + 328);
-l48 = get64(b, l4 + 312);
-l49 = get64(b, l4 + 304);
-l50 = get64(b, l4 + 288);
-l51 = get64(b, l4 + 280);
-l52 = get64(b, l4 + 264);
-l53 = get64(b, l4 + 256);
-l54 = get64(b, l4 + 240);
-l55 = get64(b, l4 + 232);
-l56 = get64(b, l4 + 216);
-if (!get64(b, l4 + 208)) { goto L9; }
-rattle_dealloc(b, get64(b, l4 + 192));
-L9:;
-if (!l55) { goto L10; }
-rattle_dealloc(b, l56);
-L10:;
-if (!l53) { goto L11; }
-rattle_dealloc(b, l54);
-L11:;
-if (!l51) { goto L12; }
-rattle_dealloc(b, l52);
-L12:;
-if (!l49) { goto L13; }
-rattle_dealloc(b, l50);
-L13:;
-if (!l47) { goto L14; }
-rattle_dealloc(b, l48);
-L14:;
-if (!l45) { goto L15; }
-rattle_dealloc(b, l46);
-L15:;
-if (!l43) { goto L16; }
-rattle_dealloc(b, l44);
-L16:;
-if (!l41) { goto L17; }
-rattle_dealloc(b, l42);
-L17:;
-if (!l39) { goto L18; }
-rattle_dealloc(b, l40);
-L18:;
-if (!l37) { goto L19; }
-rattle_dealloc(b, l38);
-L19:;
-if (!l3) { goto L20; }
-rattle_dealloc(b, l36);
-L20:;
-if (!l5) { goto L21; }
-l3 = l35 + 24ull;
-L22:;
-if (!get64(b, l3)) { goto L23; }
-rattle_dealloc(b, get64(b, l3 + 18446744073709551600ull));
-L23:;
-l3 = l3 + 32ull;
-l5 = l5 + 18446744073709551615ull;
-if (l5 != 0ull) { goto L22; }
-L21:;
-if (!l34) { goto L24; }
-rattle_dealloc(b, l35);
-L24:;
-if (!l32) { goto L25; }
-rattle_dealloc(b, l33);
-L25:;
-if (!l30) { goto L26; }
-rattle_dealloc(b, l31);
-L26:;
-if (!l28) { goto L27; }
-rattle_dealloc(b, l29);
-L27:;
-if (!l26) { goto L28; }
-rattle_dealloc(b, l27);
-L28:;
-if (!l24) { goto L29; }
-rattle_dealloc(b, l25);
-L29:;
-if (!l22) { goto L30; }
-rattle_dealloc(b, l23);
-L30:;
-if (!l1) { goto L31; }
-l3 = l21 + 24ull;
-L32:;
-if (!get64(b, l3)) { goto L33; }
-rattle_dealloc(b, get64(b, l3 + 18446744073709551600ull));
-L33:;
-l3 = l3 + 32ull;
-l1 = l1 + 18446744073709551615ull;
-if (l1 != 0ull) { goto L32; }
-L31:;
-if (!l20) { goto L34; }
-rattle_dealloc(b, l21);
-L34:;
-if (!l18) { goto L35; }
-rattle_dealloc(b, l19);
-L35:;
-if (!l16) { goto L36; }
-rattle_dealloc(b, l17);
-L36:;
-if (!l14) { goto L37; }
-rattle_dealloc(b, l15);
-L37:;
-if (!l12) { goto L38; }
-rattle_dealloc(b, l13);
-L38:;
-if (!l10) { goto L39; }
-rattle_dealloc(b, l11);
-L39:;
-if (!l8) { goto L40; }
-rattle_dealloc(b, l9);
-L40:;
-if (!l6) { goto L41; }
-rattle_dealloc(b, l7);
-L41:;
-if (!l58) { goto L43; }
-if (!l57) { goto L42; }
-put8(b, l0, 0u);
-put64(b, l0 + 8ull, 1ull);
-copy(b, l0 + 16ull, l4 + 72ull, 112u);
-goto L1;
-L43:;
-if (!get64(b, l4 + 88)) { goto L44; }
-rattle_dealloc(b, get64(b, l4 + 72));
-L44:;
-put64(b, l4 + 64, get64(b, l4 + 120));
-put64(b, l4 + 56, get64(b, l4 + 112));
-put64(b, l4 + 48, get64(b, l4 + 104));
-f201(b, l4 + 48ull);
-l21 = get64(b, l4 + 168);
-l1 = get64(b, l4 + 160);
-l5 = get64(b, l4 + 152);
-if (!get64(b, l4 + 144)) { goto L45; }
-rattle_dealloc(b, get64(b, l4 + 128));
-L45:;
-if (!l1) { goto L46; }
-l3 = l5;
-L47:;
-put64(b, l4 + 200, get64(b, l3 + 16));
-put64(b, l4 + 192, get64(b, l3 + 8));
-put64(b, l4 + 184, get64(b, l3));
-l3 = l3 + 24ull;
-f201(b, l4 + 184ull);
-l1 = l1 + 18446744073709551615ull;
-if (l1 != 0ull) { goto L47; }
-L46:;
-if (!l21) { goto L48; }
-rattle_dealloc(b, l5);
-L48:;
-put8(b, l0, 1u);
-fill(b, l0 + 8ull, 0u, 120u);
-goto L1;
-L42:;
-if (!get64(b, l4 + 88)) { goto L49; }
-rattle_dealloc(b, get64(b, l4 + 72));
-L49:;
-put64(b, l4 + 40, get64(b, l4 + 120));
-put64(b, l4 + 32, get64(b, l4 + 112));
-put64(b, l4 + 24, get64(b, l4 + 104));
-f201(b, l4 + 24ull);
-l21 = get64(b, l4 + 168);
-l1 = get64(b, l4 + 160);
-l5 = get64(b, l4 + 152);
-if (!get64(b, l4 + 144)) { goto L50; }
-rattle_dealloc(b, get64(b, l4 + 128));
-L50:;
-if (!l1) { goto L51; }
-l3 = l5;
-L52:;
-put64(b, l4 + 200, get64(b, l3 + 16));
-put64(b, l4 + 192, get64(b, l3 + 8));
-put64(b, l4 + 184, get64(b, l3));
-l3 = l3 + 24ull;
-f201(b, l4 + 184ull);
-l1 = l1 + 18446744073709551615ull;
-if (l1 != 0ull) { goto L52; }
-L51:;
-if (!l21) { goto L53; }
-rattle_dealloc(b, l5);
-L53:;
-put8(b, l0, 0u);
-fill(b, l0 + 8ull, 0u, 120u);
-goto L1;
-L2:;
-abort();
-L1:;
-SP = l4 + 880ull;
-}
-
-FN void f369(B b, u64 l0) {
+FN void f368(B b, u64 l0) {
 u64 l1 = 0, l2 = 0, l3 = 0, l4 = 0;
 l1 = SP - 160ull;
 SP = l1;
@@ -72071,7 +72381,7 @@ l0 = l3;
 L2:;
 copy(b, l1 + 8ull, l0, 152u);
 l0 = l0 + 152ull;
-f197(b, l1 + 8ull);
+f196(b, l1 + 8ull);
 l4 = l4 + 18446744073709551615ull;
 if (l4 != 0ull) { goto L2; }
 L1:;
@@ -72081,7 +72391,7 @@ L3:;
 SP = l1 + 160ull;
 }
 
-FN u32 f370(B b, u64 l0, u64 l1, u64 l2, u64 l3) {
+FN u32 f369(B b, u64 l0, u64 l1, u64 l2, u64 l3) {
 u32 l15 = 0, t0;
 u64 l4 = 0, l5 = 0, l6 = 0, l7 = 0, l8 = 0, l9 = 0, l10 = 0, l11 = 0, l12 = 0, l13 = 0, l14 = 0;
 l4 = SP - 64ull;
@@ -72106,7 +72416,7 @@ l1 = l0 + 8ull;
 l2 = get64(b, l1);
 if (l3 <= (l7 - l2)) { goto L7; }
 l15 = 1u;
-t0 = f371(b, l0, l3);
+t0 = f370(b, l0, l3);
 if (!t0) { goto L2; }
 l7 = get64(b, l0 + 16ull);
 l2 = get64(b, l0 + 8ull);
@@ -72174,7 +72484,7 @@ SP = l4 + 64ull;
 return l15;
 }
 
-FN u32 f371(B b, u64 l0, u64 l1) {
+FN u32 f370(B b, u64 l0, u64 l1) {
 u32 l6 = 0;
 u64 l2 = 0, l3 = 0, l4 = 0, l5 = 0;
 l2 = SP - 32ull;
@@ -72207,85 +72517,7 @@ SP = l2 + 32ull;
 return l6;
 }
 
-FN void f372(B b, u64 l0, u64 l1, u32 l2) {
-u32 l19 = 0;
-u64 l3 = 0, l4 = 0, l5 = 0, l6 = 0, l7 = 0, l8 = 0, l9 = 0, l10 = 0, l11 = 0, l12 = 0, l13 = 0, l14 = 0, l15 = 0, l16 = 0, l17 = 0, l18 = 0;
-l3 = SP - 96ull;
-SP = l3;
-l19 = 0u;
-fill(b, l3 + 8ull, 0u, 88u);
-f24(b, l3 + 8ull, l1, l2);
-if (get8(b, l3 + 8)) { goto L2; }
-l4 = get64(b, l3 + 88);
-l5 = get64(b, l3 + 72);
-l6 = get64(b, l3 + 64);
-l7 = get64(b, l3 + 48);
-l8 = get64(b, l3 + 40);
-l9 = get64(b, l3 + 24);
-l10 = get64(b, l3 + 32);
-f373(b, l3, l3 + 16ull);
-l19 = get8(b, l3 + 1);
-l2 = get8(b, l3);
-if (!l10) { goto L3; }
-l11 = 0ull;
-L4:;
-l1 = l9 + (l11 << 5);
-l12 = get64(b, l1 + 24);
-l13 = get64(b, l1 + 8);
-l14 = get64(b, l1 + 16);
-if (!l14) { goto L5; }
-l15 = 0ull;
-L6:;
-l1 = l13 + (l15 * 104ull);
-l16 = get64(b, l1 + 96);
-l17 = get64(b, l1 + 88);
-l18 = get64(b, l1 + 80);
-if (!get8(b, l1 + 8)) { goto L7; }
-if (!get8(b, l1 + 24)) { goto L7; }
-if (!get64(b, l1 + 48)) { goto L7; }
-rattle_dealloc(b, get64(b, l1 + 32));
-L7:;
-if (!l17) { goto L8; }
-l1 = l18 + 16ull;
-L9:;
-if (!get8(b, l1 + 18446744073709551608ull)) { goto L10; }
-if (!get64(b, l1 + 16ull)) { goto L10; }
-rattle_dealloc(b, get64(b, l1));
-L10:;
-l1 = l1 + 64ull;
-l17 = l17 + 18446744073709551615ull;
-if (l17 != 0ull) { goto L9; }
-L8:;
-if (!l16) { goto L11; }
-rattle_dealloc(b, l18);
-L11:;
-l15 = l15 + 1ull;
-if (l15 != l14) { goto L6; }
-L5:;
-if (!l12) { goto L12; }
-rattle_dealloc(b, l13);
-L12:;
-l11 = l11 + 1ull;
-if (l11 != l10) { goto L4; }
-L3:;
-if (!l8) { goto L13; }
-rattle_dealloc(b, l9);
-L13:;
-if (!l6) { goto L14; }
-rattle_dealloc(b, l7);
-L14:;
-if (!l4) { goto L1; }
-rattle_dealloc(b, l5);
-goto L1;
-L2:;
-l2 = (u32)(get8(b, l3 + 12) != 0u);
-L1:;
-put8(b, l0, l2);
-put8(b, l0 + 1, l19);
-SP = l3 + 96ull;
-}
-
-FN void f373(B b, u64 l0, u64 l1) {
+FN void f371(B b, u64 l0, u64 l1) {
 u32 l23 = 0, l24 = 0, l25 = 0;
 u64 l2 = 0, l3 = 0, l4 = 0, l5 = 0, l6 = 0, l7 = 0, l8 = 0, l9 = 0, l10 = 0, l11 = 0, l12 = 0, l13 = 0, l14 = 0, l15 = 0, l16 = 0, l17 = 0, l18 = 0, l19 = 0, l20 = 0, l21 = 0, l22 = 0;
 l2 = SP - 432ull;
@@ -72306,7 +72538,7 @@ l23 = 1u;
 l25 = 0u;
 if (get8(b, l2 + 168)) { goto L1; }
 copy(b, l2 + 304ull, l4, 128u);
-f196(b, l2 + 8ull, l1, l24, l2 + 304ull, l5);
+f195(b, l2 + 8ull, l1, l24, l2 + 304ull, l5);
 if (get8(b, l2 + 8)) { goto L6; }
 l7 = get64(b, l2 + 160);
 l8 = get64(b, l2 + 144);
@@ -72441,7 +72673,7 @@ put8(b, l0, l23);
 SP = l2 + 432ull;
 }
 
-FN u32 f374(B b, u64 l0, u64 l1, u64 l2) {
+FN u32 f372(B b, u64 l0, u64 l1, u64 l2) {
 u32 l18 = 0, l19 = 0, t0, t1, t2, t3, t4;
 u64 l3 = 0, l4 = 0, l5 = 0, l6 = 0, l7 = 0, l8 = 0, l9 = 0, l10 = 0, l11 = 0, l12 = 0, l13 = 0, l14 = 0, l15 = 0, l16 = 0, l17 = 0;
 l3 = SP - 80ull;
@@ -72633,16 +72865,16 @@ SP = l3 + 80ull;
 return l18;
 }
 
-FN u32 f375(B b, u64 l0, u64 l1, u64 l2, u64 l3, u32 l4, u64 l5) {
+FN u32 f373(B b, u64 l0, u64 l1, u64 l2, u64 l3, u32 l4, u64 l5) {
 u32 l25 = 0, l26 = 0, l27 = 0, l28 = 0, l29 = 0, t0, t1, t2, t3, t4, t5, t6, t7, t8, t9, t10, t11, t12, t13, t14, t15, t16, t17, t18, t19, t20, t21, t22, t23, t24, t25, t26, t27, t28, t29, t30, t31, t32, t33, t34, t35, t36, t37, t38, t39, t40, t41, t42, t43, t44, t45, t46, t47, t48, t49, t50, t51, t52, t53, t54, t55, t56, t57, t58, t59, t60, t61, t62;
 u64 l6 = 0, l7 = 0, l8 = 0, l9 = 0, l10 = 0, l11 = 0, l12 = 0, l13 = 0, l14 = 0, l15 = 0, l16 = 0, l17 = 0, l18 = 0, l19 = 0, l20 = 0, l21 = 0, l22 = 0, l23 = 0, l24 = 0;
 l6 = SP - 192ull;
 SP = l6;
 l7 = (u64)get32(b, l5);
 l25 = 1u;
-t0 = f379(b, l0, 1049550ull, 11ull, l3);
+t0 = f377(b, l0, 1049550ull, 11ull, l3);
 if (t0 & 255u) { goto L1; }
-t1 = f379(b, l0, 1049561ull, 6ull, l7 + 1ull);
+t1 = f377(b, l0, 1049561ull, 6ull, l7 + 1ull);
 if (t1 & 255u) { goto L1; }
 l8 = l0 + 16ull;
 l9 = get64(b, l8);
@@ -72755,9 +72987,9 @@ l3 = l3 + 1ull;
 if (l10 != l3) { goto L19; }
 l7 = get64(b, l6 + 48);
 l3 = get64(b, l6 + 32);
-t6 = f380(b, l0, l1, l2, 0u, 1049752ull, 6ull, l14, l11);
+t6 = f378(b, l0, l1, l2, 0u, 1049752ull, 6ull, l14, l11);
 if (t6 & 255u) { goto L11; }
-t7 = f380(b, l0, l1, l2, 1u, 1049758ull, 4ull, l3, l12);
+t7 = f378(b, l0, l1, l2, 1u, 1049758ull, 4ull, l3, l12);
 l25 = t7 & 255u;
 if (!l7) { goto L13; }
 rattle_dealloc(b, l3);
@@ -72839,7 +73071,7 @@ if (get64(b, l9 + 24ull) <= l3) { goto L35; }
 if (get8(b, get64(b, l9 + 16ull) + l7) != 1u) { goto L35; }
 l12 = (u64)get32(b, l8);
 if (get64(b, l6 + 48) != l14) { goto L36; }
-t8 = f381(b, l6 + 32ull);
+t8 = f379(b, l6 + 32ull);
 if (!t8) { goto L27; }
 l13 = get64(b, l6 + 32);
 l14 = get64(b, l6 + 40);
@@ -72893,7 +73125,7 @@ if (!(get8(b, l3 + 13ull) & 1u)) { goto L45; }
 l25 = get8(b, l11);
 l4 = get8(b, l3 + 12ull);
 if (get64(b, l6 + 48) != l10) { goto L46; }
-t9 = f382(b, l6 + 32ull);
+t9 = f380(b, l6 + 32ull);
 if (!t9) { goto L37; }
 l12 = get64(b, l6 + 32);
 l10 = get64(b, l6 + 40);
@@ -72937,7 +73169,7 @@ l10 = 0ull;
 l18 = l6 + 184ull;
 l15 = l18;
 L28:;
-t10 = f383(b, l0, 2u, l14);
+t10 = f381(b, l0, 2u, l14);
 if (t10 & 255u) { goto L48; }
 l13 = (l14 < 20ull) ? l14 : 20ull;
 l25 = get8(b, l2 + 24ull);
@@ -72946,7 +73178,7 @@ if (!l8) { goto L49; }
 l3 = l18;
 L50:;
 l25 = get32(b, l3 + 4ull);
-t11 = f379(b, l0, 1053130ull, 12ull, (u64)get32(b, l3));
+t11 = f377(b, l0, 1053130ull, 12ull, (u64)get32(b, l3));
 if (t11 & 255u) { goto L48; }
 l9 = get64(b, l0 + 16ull);
 l7 = get64(b, l0 + 8ull);
@@ -72970,7 +73202,7 @@ L52:;
 t12 = f46(b, l0, 1053142ull, 5ull);
 if (t12 & 255u) { goto L48; }
 L51:;
-t13 = f384(b, get64(b, l2 + 16ull), l0, l1, l25);
+t13 = f382(b, get64(b, l2 + 16ull), l0, l1, l25);
 if (t13 & 255u) { goto L48; }
 l9 = get64(b, l0 + 16ull);
 l11 = l0 + 8ull;
@@ -72991,11 +73223,11 @@ l8 = l8 + 18446744073709551615ull;
 if (l8 != 0ull) { goto L50; }
 l25 = get8(b, l2 + 24ull);
 L49:;
-t15 = f385(b, l0, 1049504ull, 0ull, (l25 & 255u) ? 0ull : (l14 - l13));
+t15 = f383(b, l0, 1049504ull, 0ull, (l25 & 255u) ? 0ull : (l14 - l13));
 if (t15 & 255u) { goto L48; }
 l25 = get8(b, l2 + 24ull);
 l27 = 0u;
-t16 = f383(b, l0, 3u, l10);
+t16 = f381(b, l0, 3u, l10);
 if (t16 & 255u) { goto L57; }
 l13 = (l25 & 255u) ? l10 : ((l10 < 20ull) ? l10 : 20ull);
 if (!l13) { goto L58; }
@@ -73004,11 +73236,11 @@ l8 = l13;
 L59:;
 l25 = get8(b, l3 + 16ull);
 l7 = get64(b, l3 + 8ull);
-t17 = f379(b, l0, 1053147ull, 11ull, (u64)get32(b, l3));
+t17 = f377(b, l0, 1053147ull, 11ull, (u64)get32(b, l3));
 if (t17 & 255u) { goto L57; }
-t18 = f379(b, l0, 1053158ull, 6ull, l7);
+t18 = f377(b, l0, 1053158ull, 6ull, l7);
 if (t18 & 255u) { goto L57; }
-t19 = f379(b, l0, 1053164ull, 5ull, ((u64)l25) & 1ull);
+t19 = f377(b, l0, 1053164ull, 5ull, ((u64)l25) & 1ull);
 if (t19 & 255u) { goto L57; }
 l9 = l0 + 16ull;
 l11 = get64(b, l9);
@@ -73029,7 +73261,7 @@ l3 = l3 + 24ull;
 l8 = l8 + 18446744073709551615ull;
 if (l8 != 0ull) { goto L59; }
 L58:;
-t21 = f385(b, l0, 1049504ull, 0ull, l10 - l13);
+t21 = f383(b, l0, 1049504ull, 0ull, l10 - l13);
 l27 = (t21 & 255u) ^ 1u;
 L57:;
 if (l4) { goto L62; }
@@ -73042,7 +73274,7 @@ l25 = 1u;
 if (!l27) { goto L1; }
 l21 = get64(b, l5 + 80ull);
 l18 = get64(b, l5 + 88ull);
-t22 = f383(b, l0, 4u, l18);
+t22 = f381(b, l0, 4u, l18);
 if (t22 & 255u) { goto L1; }
 l19 = (l18 < 20ull) ? l18 : 20ull;
 l4 = get8(b, l2 + 24ull);
@@ -73139,9 +73371,9 @@ t25 = f46(b, l0, l12, l3);
 if (t25 & 255u) { goto L1; }
 L72:;
 l3 = l2 + 8ull;
-t26 = f386(b, l0, get64(b, l3), l27);
+t26 = f384(b, l0, get64(b, l3), l27);
 if (t26 & 255u) { goto L1; }
-t27 = f386(b, l0, get64(b, l3), l26);
+t27 = f384(b, l0, get64(b, l3), l26);
 if (t27 & 255u) { goto L1; }
 l7 = l0 + 16ull;
 l8 = get64(b, l7);
@@ -73162,11 +73394,11 @@ l22 = l22 + 1ull;
 if (l22 != l16) { goto L65; }
 l4 = get8(b, l2 + 24ull);
 L64:;
-t29 = f385(b, l0, 1049504ull, 0ull, (l4 & 255u) ? 0ull : (l18 - l19));
+t29 = f383(b, l0, 1049504ull, 0ull, (l4 & 255u) ? 0ull : (l18 - l19));
 if (t29 & 255u) { goto L1; }
 l7 = get64(b, l5 + 32ull);
 l12 = get64(b, l5 + 40ull);
-t30 = f383(b, l0, 5u, l12);
+t30 = f381(b, l0, 5u, l12);
 if (t30 & 255u) { goto L1; }
 l15 = (l12 < 20ull) ? l12 : 20ull;
 l4 = get8(b, l2 + 24ull);
@@ -73197,7 +73429,7 @@ L83:;
 t31 = f46(b, l0, 1053193ull, 11ull);
 if (t31 & 255u) { goto L1; }
 L82:;
-t32 = f387(b, get64(b, l2 + 16ull), l0, l4);
+t32 = f385(b, get64(b, l2 + 16ull), l0, l4);
 if (t32 & 255u) { goto L1; }
 l9 = get64(b, l0 + 16ull);
 l10 = l0 + 8ull;
@@ -73218,11 +73450,11 @@ l8 = l8 + 18446744073709551615ull;
 if (l8 != 0ull) { goto L81; }
 l4 = get8(b, l2 + 24ull);
 L80:;
-t34 = f385(b, l0, 1049504ull, 0ull, (l4 & 255u) ? 0ull : (l12 - l15));
+t34 = f383(b, l0, 1049504ull, 0ull, (l4 & 255u) ? 0ull : (l12 - l15));
 if (t34 & 255u) { goto L1; }
 l3 = get64(b, l5 + 56ull);
 l15 = get64(b, l5 + 64ull);
-t35 = f383(b, l0, 6u, l15);
+t35 = f381(b, l0, 6u, l15);
 if (t35 & 255u) { goto L1; }
 l14 = (l15 < 20ull) ? l15 : 20ull;
 l4 = get8(b, l2 + 24ull);
@@ -73256,7 +73488,7 @@ L91:;
 t36 = f46(b, l0, 1053207ull, 5ull);
 if (t36 & 255u) { goto L1; }
 L90:;
-t37 = f386(b, l0, get64(b, l2 + 8ull), l4);
+t37 = f384(b, l0, get64(b, l2 + 8ull), l4);
 if (t37 & 255u) { goto L1; }
 l9 = get64(b, l0 + 16ull);
 l7 = get64(b, l0 + 8ull);
@@ -73281,13 +73513,13 @@ t38 = f46(b, l0, 1053212ull, 6ull);
 if (t38 & 255u) { goto L1; }
 L94:;
 if (l26 & 255u) { goto L99; }
-t39 = f387(b, get64(b, l2 + 16ull), l0, l27);
+t39 = f385(b, get64(b, l2 + 16ull), l0, l27);
 if (!(t39 & 255u)) { goto L98; }
 goto L1;
 L99:;
 l7 = (u64)l27;
 if (get64(b, l5 + 40ull) <= l7) { goto L98; }
-t40 = f387(b, get64(b, l2 + 16ull), l0, get32(b, get64(b, l5 + 32ull) + (l7 << 2)));
+t40 = f385(b, get64(b, l2 + 16ull), l0, get32(b, get64(b, l5 + 32ull) + (l7 << 2)));
 if (t40 & 255u) { goto L1; }
 L98:;
 l9 = get64(b, l0 + 16ull);
@@ -73311,13 +73543,13 @@ t41 = f46(b, l0, 1053218ull, 4ull);
 if (t41 & 255u) { goto L1; }
 L100:;
 if (l29 & 255u) { goto L105; }
-t42 = f387(b, get64(b, l2 + 16ull), l0, l28);
+t42 = f385(b, get64(b, l2 + 16ull), l0, l28);
 if (!(t42 & 255u)) { goto L104; }
 goto L1;
 L105:;
 l7 = (u64)l28;
 if (get64(b, l5 + 40ull) <= l7) { goto L104; }
-t43 = f387(b, get64(b, l2 + 16ull), l0, get32(b, get64(b, l5 + 32ull) + (l7 << 2)));
+t43 = f385(b, get64(b, l2 + 16ull), l0, get32(b, get64(b, l5 + 32ull) + (l7 << 2)));
 if (t43 & 255u) { goto L1; }
 L104:;
 l9 = l0 + 16ull;
@@ -73340,7 +73572,7 @@ l8 = l8 + 18446744073709551615ull;
 if (l8 != 0ull) { goto L89; }
 l4 = get8(b, l2 + 24ull);
 L88:;
-t45 = f385(b, l0, 1049504ull, 0ull, (l4 & 255u) ? 0ull : (l15 - l14));
+t45 = f383(b, l0, 1049504ull, 0ull, (l4 & 255u) ? 0ull : (l15 - l14));
 if (t45 & 255u) { goto L1; }
 l3 = get64(b, l2 + 8ull);
 l7 = (u64)get32(b, l5);
@@ -73369,7 +73601,7 @@ if (get8(b, l10 + 18446744073709551608ull) != 1u) { goto L121; }
 l12 = (u64)get32(b, l8);
 l10 = (u64)get32(b, l10);
 if (get64(b, l6 + 48) != l11) { goto L122; }
-t46 = f388(b, l6 + 32ull);
+t46 = f386(b, l6 + 32ull);
 if (!t46) { goto L119; }
 l15 = get64(b, l6 + 32);
 l11 = get64(b, l6 + 40);
@@ -73397,7 +73629,7 @@ l8 = l11;
 L123:;
 l4 = get32(b, l7);
 if (get64(b, l6 + 176) != l3) { goto L124; }
-t47 = f389(b, l6 + 160ull);
+t47 = f387(b, l6 + 160ull);
 if (!t47) { goto L118; }
 l10 = get64(b, l6 + 160);
 l3 = get64(b, l6 + 168);
@@ -73477,7 +73709,7 @@ L112:;
 put64(b, l6 + 24, l12);
 put64(b, l6 + 16, l3);
 put64(b, l6 + 8, l10);
-f390(b, l6 + 32ull, l6 + 8ull, 0u, l7);
+f388(b, l6 + 32ull, l6 + 8ull, 0u, l7);
 if (get8(b, l6 + 32)) { goto L131; }
 l21 = get64(b, l6 + 152);
 l17 = get64(b, l6 + 136);
@@ -73542,7 +73774,7 @@ L136:;
 if (!l3) { goto L135; }
 if (l12 != (u64)get32(b, l17 + (l7 << 2))) { goto L135; }
 if (get64(b, l6 + 48) != l13) { goto L141; }
-t48 = f391(b, l6 + 32ull);
+t48 = f389(b, l6 + 32ull);
 if (!t48) { goto L133; }
 l24 = get64(b, l6 + 32);
 l13 = get64(b, l6 + 40);
@@ -73609,7 +73841,7 @@ L150:;
 if (l29) { goto L151; }
 rattle_dealloc(b, l15);
 L151:;
-t49 = f383(b, l0, 7u, l13);
+t49 = f381(b, l0, 7u, l13);
 if (t49 & 255u) { goto L153; }
 l15 = (l13 < 20ull) ? l13 : 20ull;
 l4 = get8(b, l2 + 24ull);
@@ -73621,9 +73853,9 @@ L155:;
 l4 = get32(b, l3 + 8ull);
 l8 = get64(b, l3);
 l7 = l7 + 1ull;
-t50 = f379(b, l0, 1053222ull, 4ull, l7);
+t50 = f377(b, l0, 1053222ull, 4ull, l7);
 if (t50 & 255u) { goto L153; }
-t51 = f379(b, l0, 1053226ull, 6ull, l8);
+t51 = f377(b, l0, 1053226ull, 6ull, l8);
 if (t51 & 255u) { goto L153; }
 l9 = get64(b, l0 + 16ull);
 l8 = get64(b, l0 + 8ull);
@@ -73647,7 +73879,7 @@ L157:;
 t52 = f46(b, l0, 1053232ull, 6ull);
 if (t52 & 255u) { goto L153; }
 L156:;
-t53 = f384(b, get64(b, l2 + 16ull), l0, l1, l4);
+t53 = f382(b, get64(b, l2 + 16ull), l0, l1, l4);
 if (t53 & 255u) { goto L153; }
 l9 = get64(b, l0 + 16ull);
 l10 = l0 + 8ull;
@@ -73667,12 +73899,12 @@ l3 = l3 + 16ull;
 if (l12 != l7) { goto L155; }
 l4 = get8(b, l2 + 24ull);
 L154:;
-t55 = f385(b, l0, 1049504ull, 0ull, (l4 & 255u) ? 0ull : (l13 - l15));
+t55 = f383(b, l0, 1049504ull, 0ull, (l4 & 255u) ? 0ull : (l13 - l15));
 if (t55 & 255u) { goto L153; }
 l3 = get64(b, l5 + 128ull);
 l25 = 1u;
 l13 = get64(b, l5 + 136ull);
-t56 = f383(b, l0, 8u, l13);
+t56 = f381(b, l0, 8u, l13);
 if (t56 & 255u) { goto L162; }
 l20 = (l13 < 20ull) ? l13 : 20ull;
 l4 = get8(b, l2 + 24ull);
@@ -73682,9 +73914,9 @@ l3 = l3 + 16ull;
 l7 = 0ull;
 L164:;
 l7 = l7 + 1ull;
-t57 = f379(b, l0, 1053238ull, 3ull, l7);
+t57 = f377(b, l0, 1053238ull, 3ull, l7);
 if (t57 & 255u) { goto L162; }
-t58 = f379(b, l0, 1053241ull, 6ull, get64(b, l3));
+t58 = f377(b, l0, 1053241ull, 6ull, get64(b, l3));
 if (t58 & 255u) { goto L162; }
 if (!get64(b, l3)) { goto L165; }
 l8 = get64(b, l3 + 18446744073709551608ull);
@@ -73692,11 +73924,11 @@ l4 = get32(b, l8 + 4ull);
 if (!get8(b, l8)) { goto L166; }
 l8 = (u64)l4;
 if (get64(b, l5 + 64ull) <= l8) { goto L165; }
-t59 = f386(b, l0, get64(b, l2 + 8ull), get32(b, get64(b, l5 + 56ull) + (l8 * 36ull)));
+t59 = f384(b, l0, get64(b, l2 + 8ull), get32(b, get64(b, l5 + 56ull) + (l8 * 36ull)));
 if (!(t59 & 255u)) { goto L165; }
 goto L162;
 L166:;
-t60 = f386(b, l0, get64(b, l2 + 8ull), l4);
+t60 = f384(b, l0, get64(b, l2 + 8ull), l4);
 if (t60 & 255u) { goto L162; }
 L165:;
 l9 = l0 + 16ull;
@@ -73718,7 +73950,7 @@ l3 = l3 + 32ull;
 if (l15 != l7) { goto L164; }
 l4 = get8(b, l2 + 24ull);
 L163:;
-t62 = f385(b, l0, 1049504ull, 0ull, (l4 & 255u) ? 0ull : (l13 - l20));
+t62 = f383(b, l0, 1049504ull, 0ull, (l4 & 255u) ? 0ull : (l13 - l20));
 l25 = t62 & 255u;
 L162:;
 if (!(u32)(!l14)) { goto L152; }
@@ -73746,7 +73978,7 @@ SP = l6 + 192ull;
 return l25;
 }
 
-FN void f376(B b, u64 l0) {
+FN void f374(B b, u64 l0) {
 u64 l1 = 0, l2 = 0, l3 = 0, l4 = 0, l5 = 0, l6 = 0, l7 = 0, l8 = 0, l9 = 0, l10 = 0, l11 = 0;
 l1 = get64(b, l0 + 16);
 l2 = get64(b, l0);
@@ -73798,7 +74030,7 @@ rattle_dealloc(b, l2);
 L11:;
 }
 
-FN void f377(B b, u64 l0, u64 l1, u32 l2, u64 l3) {
+FN void f375(B b, u64 l0, u64 l1, u32 l2, u64 l3) {
 u32 l8 = 0;
 u64 l4 = 0, l5 = 0, l6 = 0, l7 = 0;
 l4 = SP - 416ull;
@@ -73861,7 +74093,7 @@ L1:;
 SP = l4 + 416ull;
 }
 
-FN void f378(B b, u64 l0) {
+FN void f376(B b, u64 l0) {
 u64 l1 = 0, l2 = 0;
 l1 = get64(b, l0);
 l2 = get64(b, l0 + 16);
@@ -73871,7 +74103,7 @@ rattle_dealloc(b, l1);
 L1:;
 }
 
-FN u32 f379(B b, u64 l0, u64 l1, u64 l2, u64 l3) {
+FN u32 f377(B b, u64 l0, u64 l1, u64 l2, u64 l3) {
 u32 l14 = 0, l15 = 0, t0, t1, t2;
 u64 l4 = 0, l5 = 0, l6 = 0, l7 = 0, l8 = 0, l9 = 0, l10 = 0, l11 = 0, l12 = 0, l13 = 0;
 l4 = SP - 32ull;
@@ -73987,11 +74219,11 @@ SP = l4 + 32ull;
 return l14;
 }
 
-FN u32 f380(B b, u64 l0, u64 l1, u64 l2, u32 l3, u64 l4, u64 l5, u64 l6, u64 l7) {
+FN u32 f378(B b, u64 l0, u64 l1, u64 l2, u32 l3, u64 l4, u64 l5, u64 l6, u64 l7) {
 u32 l8 = 0, t0, t1, t2, t3, t4;
 u64 l9 = 0, l10 = 0, l11 = 0, l12 = 0, l13 = 0, l14 = 0, l15 = 0;
 l8 = 1u;
-t0 = f383(b, l0, l3, l7);
+t0 = f381(b, l0, l3, l7);
 if (t0 & 255u) { goto L1; }
 l9 = (l7 < 20ull) ? l7 : 20ull;
 l3 = get8(b, l2 + 24ull);
@@ -74030,7 +74262,7 @@ L5:;
 t1 = f46(b, l0, l4, l5);
 if (t1 & 255u) { goto L1; }
 L4:;
-t2 = f384(b, get64(b, l2 + 16ull), l0, l1, l3);
+t2 = f382(b, get64(b, l2 + 16ull), l0, l1, l3);
 if (t2 & 255u) { goto L1; }
 l12 = get64(b, l0 + 16ull);
 l14 = l0 + 8ull;
@@ -74051,13 +74283,13 @@ l10 = l10 + 18446744073709551615ull;
 if (l10 != 0ull) { goto L3; }
 l3 = get8(b, l2 + 24ull);
 L2:;
-t4 = f385(b, l0, 1049504ull, 0ull, (l3 & 255u) ? 0ull : (l7 - l9));
+t4 = f383(b, l0, 1049504ull, 0ull, (l3 & 255u) ? 0ull : (l7 - l9));
 l8 = t4 & 255u;
 L1:;
 return l8;
 }
 
-FN u32 f381(B b, u64 l0) {
+FN u32 f379(B b, u64 l0) {
 u32 l6 = 0;
 u64 l1 = 0, l2 = 0, l3 = 0, l4 = 0, l5 = 0;
 l1 = SP - 32ull;
@@ -74089,7 +74321,7 @@ SP = l1 + 32ull;
 return l6;
 }
 
-FN u32 f382(B b, u64 l0) {
+FN u32 f380(B b, u64 l0) {
 u32 l6 = 0;
 u64 l1 = 0, l2 = 0, l3 = 0, l4 = 0, l5 = 0;
 l1 = SP - 32ull;
@@ -74121,7 +74353,7 @@ SP = l1 + 32ull;
 return l6;
 }
 
-FN u32 f383(B b, u64 l0, u32 l1, u64 l2) {
+FN u32 f381(B b, u64 l0, u32 l1, u64 l2) {
 u32 l3 = 0, t0, t1, t2;
 u64 l4 = 0, l5 = 0, l6 = 0, l7 = 0, l8 = 0, l9 = 0, l10 = 0, l11 = 0, l12 = 0;
 l3 = 0u;
@@ -74129,7 +74361,7 @@ if (!l2) { goto L1; }
 l3 = 1u;
 l4 = (u64)l1;
 l5 = (l4 & 255ull) << 3;
-t0 = f379(b, l0, get64(b, l5 + 1062816), get64(b, l5 + 1062744), l2);
+t0 = f377(b, l0, get64(b, l5 + 1062816), get64(b, l5 + 1062744), l2);
 if (t0 & 255u) { goto L1; }
 l5 = l0 + 16ull;
 l6 = get64(b, l5);
@@ -74195,7 +74427,7 @@ L1:;
 return l3;
 }
 
-FN u32 f384(B b, u64 l0, u64 l1, u64 l2, u32 l3) {
+FN u32 f382(B b, u64 l0, u64 l1, u64 l2, u32 l3) {
 u32 l14 = 0, t0, t1, t2;
 u64 l4 = 0, l5 = 0, l6 = 0, l7 = 0, l8 = 0, l9 = 0, l10 = 0, l11 = 0, l12 = 0, l13 = 0;
 l4 = (u64)l3;
@@ -74255,7 +74487,7 @@ t0 = f46(b, l1, l6, l5);
 if (!(t0 & 255u)) { goto L1; }
 return 1u;
 L2:;
-t1 = f392(b, l1, l2, get64(b, l0), l3);
+t1 = f390(b, l1, l2, get64(b, l0), l3);
 return t1 & 255u;
 L1:;
 l4 = l2 + 8ull;
@@ -74272,7 +74504,7 @@ put64(b, l4, l0 + 1ull);
 return 0u;
 }
 
-FN u32 f385(B b, u64 l0, u64 l1, u64 l2, u64 l3) {
+FN u32 f383(B b, u64 l0, u64 l1, u64 l2, u64 l3) {
 u32 l13 = 0, t0, t1, t2, t3, t4;
 u64 l4 = 0, l5 = 0, l6 = 0, l7 = 0, l8 = 0, l9 = 0, l10 = 0, l11 = 0, l12 = 0;
 l4 = SP - 64ull;
@@ -74406,7 +74638,7 @@ SP = l4 + 64ull;
 return l13;
 }
 
-FN u32 f386(B b, u64 l0, u64 l1, u32 l2) {
+FN u32 f384(B b, u64 l0, u64 l1, u32 l2) {
 u32 l9 = 0, t0, t1, t2, t3, t4;
 u64 l3 = 0, l4 = 0, l5 = 0, l6 = 0, l7 = 0, l8 = 0;
 l3 = SP - 32ull;
@@ -74566,7 +74798,7 @@ SP = l3 + 32ull;
 return l2;
 }
 
-FN u32 f387(B b, u64 l0, u64 l1, u32 l2) {
+FN u32 f385(B b, u64 l0, u64 l1, u32 l2) {
 u32 t0, t1;
 u64 l3 = 0, l4 = 0, l5 = 0, l6 = 0, l7 = 0, l8 = 0, l9 = 0, l10 = 0, l11 = 0, l12 = 0;
 l3 = (u64)l2;
@@ -74633,11 +74865,11 @@ if (l0 <= l3) { goto L8; }
 l4 = get64(b, get64(b, l6 + 56ull) + (l3 << 3));
 L8:;
 l2 = (u32)(l0 > l3);
-t1 = f395(b, l1, l5, l2 ? ((u32)l4) : 0u, l2 ? ((u32)(l4 >> 32)) : 0u);
+t1 = f393(b, l1, l5, l2 ? ((u32)l4) : 0u, l2 ? ((u32)(l4 >> 32)) : 0u);
 return t1 & 255u;
 }
 
-FN u32 f388(B b, u64 l0) {
+FN u32 f386(B b, u64 l0) {
 u32 l6 = 0;
 u64 l1 = 0, l2 = 0, l3 = 0, l4 = 0, l5 = 0;
 l1 = SP - 32ull;
@@ -74669,7 +74901,7 @@ SP = l1 + 32ull;
 return l6;
 }
 
-FN u32 f389(B b, u64 l0) {
+FN u32 f387(B b, u64 l0) {
 u32 l6 = 0;
 u64 l1 = 0, l2 = 0, l3 = 0, l4 = 0, l5 = 0;
 l1 = SP - 32ull;
@@ -74701,7 +74933,7 @@ SP = l1 + 32ull;
 return l6;
 }
 
-FN void f390(B b, u64 l0, u64 l1, u32 l2, u64 l3) {
+FN void f388(B b, u64 l0, u64 l1, u32 l2, u64 l3) {
 u32 l15 = 0, l16 = 0, l17 = 0, l18 = 0, t0, t1;
 u64 l4 = 0, l5 = 0, l6 = 0, l7 = 0, l8 = 0, l9 = 0, l10 = 0, l11 = 0, l12 = 0, l13 = 0, l14 = 0;
 l4 = SP - 544ull;
@@ -74778,7 +75010,7 @@ L6:;
 put64(b, l4 + 56, l5);
 put64(b, l4 + 48, l7);
 put64(b, l4 + 40, l6);
-f399(b, l4 + 64ull, l4 + 40ull, l2, l3);
+f397(b, l4 + 64ull, l4 + 40ull, l2, l3);
 l1 = l0 + 8ull;
 if (get8(b, l4 + 64)) { goto L12; }
 put8(b, l0, 0u);
@@ -74900,7 +75132,7 @@ l12 = l7;
 L35:;
 if (get32(b, l8) != get32(b, l3)) { goto L29; }
 if (get64(b, l4 + 528) != l1) { goto L36; }
-t0 = f400(b, l4 + 512ull, 1ull);
+t0 = f398(b, l4 + 512ull, 1ull);
 if (!t0) { goto L32; }
 l14 = get64(b, l4 + 512);
 l1 = get64(b, l4 + 520);
@@ -74927,7 +75159,7 @@ l3 = l3 - l12;
 if (l3 > 1ull) { goto L38; }
 if (get32(b, l8 + (l1 << 2)) != l2) { goto L29; }
 if (get64(b, l4 + 528) != l10) { goto L39; }
-t1 = f400(b, l4 + 512ull, 1ull);
+t1 = f398(b, l4 + 512ull, 1ull);
 if (!t1) { goto L32; }
 l14 = get64(b, l4 + 512);
 l10 = get64(b, l4 + 520);
@@ -74976,7 +75208,7 @@ put64(b, l4 + 264, l12);
 put64(b, l4 + 272, l3);
 put64(b, l4 + 280, l1);
 l2 = 0u;
-f399(b, l4 + 288ull, l4 + 264ull, 0u, l13);
+f397(b, l4 + 288ull, l4 + 264ull, 0u, l13);
 if (get8(b, l4 + 288)) { goto L42; }
 put32(b, l4 + 251, get32(b, l4 + 259));
 put32(b, l4 + 248, get32(b, l4 + 256));
@@ -75016,7 +75248,7 @@ L1:;
 SP = l4 + 544ull;
 }
 
-FN u32 f391(B b, u64 l0) {
+FN u32 f389(B b, u64 l0) {
 u32 l6 = 0;
 u64 l1 = 0, l2 = 0, l3 = 0, l4 = 0, l5 = 0;
 l1 = SP - 32ull;
@@ -75048,7 +75280,7 @@ SP = l1 + 32ull;
 return l6;
 }
 
-FN u32 f392(B b, u64 l0, u64 l1, u64 l2, u32 l3) {
+FN u32 f390(B b, u64 l0, u64 l1, u64 l2, u32 l3) {
 u32 l10 = 0, l11 = 0, t0, t1, t2, t3;
 u64 l4 = 0, l5 = 0, l6 = 0, l7 = 0, l8 = 0, l9 = 0;
 l4 = SP - 32ull;
@@ -75126,7 +75358,7 @@ l8 = get64(b, l8);
 if (get8(b, l8) != 1u) { goto L11; }
 l6 = get64(b, l8 + 8ull);
 L11:;
-t2 = f393(b, l0, l2, l6);
+t2 = f391(b, l0, l2, l6);
 if (t2 & 255u) { goto L7; }
 l8 = l1 + 8ull;
 l6 = get64(b, l8);
@@ -75143,7 +75375,7 @@ SP = l4 + 32ull;
 return l10;
 }
 
-FN u32 f393(B b, u64 l0, u64 l1, u64 l2) {
+FN u32 f391(B b, u64 l0, u64 l1, u64 l2) {
 u32 t0, t1, t2;
 u64 l3 = 0, l4 = 0;
 if ((s64)l2 < (s64)0ull) { goto L2; }
@@ -75156,7 +75388,7 @@ l2 = (l2 >> 1) & 2147483647ull;
 if (l4 <= l2) { goto L1; }
 l2 = get64(b, get64(b, l1 + 56ull) + (l2 * 120ull));
 if (!l2) { goto L1; }
-t0 = f394(b, l0, l2);
+t0 = f392(b, l0, l2);
 return t0 & 255u;
 L2:;
 l1 = get64(b, l0 + 16ull);
@@ -75200,7 +75432,7 @@ put64(b, l0 + 8ull, l3);
 return 0u;
 }
 
-FN u32 f394(B b, u64 l0, u64 l1) {
+FN u32 f392(B b, u64 l0, u64 l1) {
 u32 l13 = 0, l14 = 0, t0, t1, t2, t3;
 u64 l2 = 0, l3 = 0, l4 = 0, l5 = 0, l6 = 0, l7 = 0, l8 = 0, l9 = 0, l10 = 0, l11 = 0, l12 = 0;
 l2 = SP - 64ull;
@@ -75370,7 +75602,7 @@ SP = l2 + 64ull;
 return l13;
 }
 
-FN u32 f395(B b, u64 l0, u64 l1, u32 l2, u32 l3) {
+FN u32 f393(B b, u64 l0, u64 l1, u32 l2, u32 l3) {
 u32 l10 = 0, l11 = 0, t0, t1, t2, t3, t4, t5, t6;
 u64 l4 = 0, l5 = 0, l6 = 0, l7 = 0, l8 = 0, l9 = 0;
 l4 = SP - 32ull;
@@ -75497,18 +75729,18 @@ l10 = 1u;
 goto L7;
 L8:;
 l10 = 1u;
-t4 = f396(b, l0, l1, l2, l3, 0ull);
+t4 = f394(b, l0, l1, l2, l3, 0ull);
 if (t4 & 255u) { goto L7; }
-t5 = f396(b, l0, l1, l2, l3, 1ull);
+t5 = f394(b, l0, l1, l2, l3, 1ull);
 if (t5 & 255u) { goto L7; }
-t6 = f396(b, l0, l1, l2, l3, 2ull);
+t6 = f394(b, l0, l1, l2, l3, 2ull);
 l10 = t6 & 255u;
 L7:;
 SP = l4 + 32ull;
 return l10;
 }
 
-FN u32 f396(B b, u64 l0, u64 l1, u32 l2, u32 l3, u64 l4) {
+FN u32 f394(B b, u64 l0, u64 l1, u32 l2, u32 l3, u64 l4) {
 u32 t0, t1, t2, t3, t4;
 u64 l5 = 0, l6 = 0, l7 = 0;
 if (!(l2 & 1u)) { goto L2; }
@@ -75572,7 +75804,7 @@ put64(b, l0, l5);
 return 0u;
 L1:;
 if (l2) { goto L9; }
-t3 = f397(b, l0, l6, 32ull);
+t3 = f395(b, l0, l6, 32ull);
 return t3 & 255u;
 L9:;
 l4 = l0 + 16ull;
@@ -75591,7 +75823,7 @@ put64(b, l0, l7);
 return 0u;
 }
 
-FN u32 f397(B b, u64 l0, u64 l1, u64 l2) {
+FN u32 f395(B b, u64 l0, u64 l1, u64 l2) {
 u32 l13 = 0, l14 = 0, t0, t1, t2, t3, t4;
 u64 l3 = 0, l4 = 0, l5 = 0, l6 = 0, l7 = 0, l8 = 0, l9 = 0, l10 = 0, l11 = 0, l12 = 0;
 l3 = SP - 64ull;
@@ -75796,14 +76028,14 @@ l2 = get64(b, l1 + 16ull);
 l1 = get64(b, l2);
 l4 = get64(b, l2 + 8ull);
 L29:;
-t4 = f398(b, l0, l1, l4);
+t4 = f396(b, l0, l1, l4);
 l13 = t4 & 255u;
 L1:;
 SP = l3 + 64ull;
 return l13;
 }
 
-FN u32 f398(B b, u64 l0, u64 l1, u64 l2) {
+FN u32 f396(B b, u64 l0, u64 l1, u64 l2) {
 u32 l10 = 0, t0, t1;
 u64 l3 = 0, l4 = 0, l5 = 0, l6 = 0, l7 = 0, l8 = 0, l9 = 0;
 l3 = SP - 16ull;
@@ -75874,7 +76106,7 @@ SP = l3 + 16ull;
 return l10;
 }
 
-FN void f399(B b, u64 l0, u64 l1, u32 l2, u64 l3) {
+FN void f397(B b, u64 l0, u64 l1, u32 l2, u64 l3) {
 u32 l17 = 0, l18 = 0, l19 = 0, t0, t1;
 u64 l4 = 0, l5 = 0, l6 = 0, l7 = 0, l8 = 0, l9 = 0, l10 = 0, l11 = 0, l12 = 0, l13 = 0, l14 = 0, l15 = 0, l16 = 0;
 l4 = SP - 96ull;
@@ -75936,7 +76168,7 @@ l9 = l8;
 l12 = l3;
 L20:;
 if (get64(b, l4 + 80) != l1) { goto L21; }
-t0 = f400(b, l4 + 64ull, 1ull);
+t0 = f398(b, l4 + 64ull, 1ull);
 if (!t0) { goto L18; }
 l11 = get64(b, l4 + 64);
 l1 = get64(b, l4 + 72);
@@ -75959,7 +76191,7 @@ if (!get64(b, l4 + 80)) { goto L14; }
 rattle_dealloc(b, get64(b, l4 + 64));
 goto L14;
 L17:;
-t1 = f400(b, l4 + 64ull, 1ull);
+t1 = f398(b, l4 + 64ull, 1ull);
 if (!t1) { goto L15; }
 l13 = get64(b, l4 + 80);
 l1 = get64(b, l4 + 72);
@@ -76098,7 +76330,7 @@ L1:;
 SP = l4 + 96ull;
 }
 
-FN u32 f400(B b, u64 l0, u64 l1) {
+FN u32 f398(B b, u64 l0, u64 l1) {
 u32 l6 = 0;
 u64 l2 = 0, l3 = 0, l4 = 0, l5 = 0;
 l2 = SP - 32ull;
@@ -76131,7 +76363,7 @@ SP = l2 + 32ull;
 return l6;
 }
 
-FN void f401(B b, u64 l0, u64 l1, u32 l2) {
+FN void f399(B b, u64 l0, u64 l1, u32 l2) {
 u32 l3 = 0;
 u64 l4 = 0, l5 = 0, l6 = 0, l7 = 0, l8 = 0, l9 = 0;
 if (get8(b, l1)) { goto L2; }
@@ -76187,7 +76419,7 @@ put64(b, l0 + 8, l4);
 put64(b, l0, l5);
 }
 
-FN u32 f402(B b, u64 l0, u64 l1) {
+FN u32 f400(B b, u64 l0, u64 l1) {
 u32 l2 = 0, l3 = 0, l4 = 0, t0;
 u64 l5 = 0, l6 = 0, l7 = 0, l8 = 0, l9 = 0, l10 = 0, l11 = 0, l12 = 0, l13 = 0, l14 = 0, l15 = 0, t1;
 l2 = get8(b, l1);
@@ -76202,7 +76434,7 @@ l7 = get64(b, l0 + 16ull);
 l8 = l0 + 8ull;
 l9 = get64(b, l8);
 if (l1 <= (l7 - l9)) { goto L4; }
-t0 = f403(b, l0, l1);
+t0 = f401(b, l0, l1);
 if (!t0) { goto L2; }
 l7 = get64(b, l0 + 16ull);
 l9 = get64(b, l0 + 8ull);
@@ -76269,7 +76501,7 @@ L1:;
 return l2;
 }
 
-FN u32 f403(B b, u64 l0, u64 l1) {
+FN u32 f401(B b, u64 l0, u64 l1) {
 u32 l6 = 0;
 u64 l2 = 0, l3 = 0, l4 = 0, l5 = 0;
 l2 = SP - 32ull;
@@ -76302,7 +76534,7 @@ SP = l2 + 32ull;
 return l6;
 }
 
-FN void f404(B b, u64 l0) {
+FN void f402(B b, u64 l0) {
 u64 l1 = 0, l2 = 0;
 l1 = get64(b, l0);
 l2 = get64(b, l0 + 16);
@@ -76312,7 +76544,7 @@ rattle_dealloc(b, l1);
 L1:;
 }
 
-FN void f405(B b, u64 l0) {
+FN void f403(B b, u64 l0) {
 u32 l7 = 0;
 u64 l1 = 0, l2 = 0, l3 = 0, l4 = 0, l5 = 0, l6 = 0;
 l1 = get64(b, l0 + 16);
@@ -76361,7 +76593,7 @@ rattle_dealloc(b, l2);
 L8:;
 }
 
-FN void f406(B b, u64 l0, u64 l1, u64 l2, u64 l3) {
+FN void f404(B b, u64 l0, u64 l1, u64 l2, u64 l3) {
 u32 l18 = 0, l19 = 0, l20 = 0, t1, t3, t6;
 u64 l4 = 0, l5 = 0, l6 = 0, l7 = 0, l8 = 0, l9 = 0, l10 = 0, l11 = 0, l12 = 0, l13 = 0, l14 = 0, l15 = 0, l16 = 0, l17 = 0, t0, t2, t4, t5;
 l4 = SP - 192ull;
@@ -76389,7 +76621,7 @@ put64(b, l4 + 168, 0ull);
 put64(b, l4 + 160, l7);
 l8 = 0ull;
 L16:;
-t0 = f407(b, l1, l8);
+t0 = f405(b, l1, l8);
 l9 = t0;
 if (get64(b, l4 + 176) != l5) { goto L17; }
 t1 = f34(b, l4 + 160ull);
@@ -76439,7 +76671,7 @@ put64(b, l4 + 168, 0ull);
 put64(b, l4 + 160, l7);
 l8 = 0ull;
 L18:;
-t2 = f408(b, l1, l4 + 112ull, l8);
+t2 = f406(b, l1, l4 + 112ull, l8);
 l9 = t2;
 if (get64(b, l4 + 176) != l5) { goto L19; }
 t3 = f34(b, l4 + 160ull);
@@ -76519,7 +76751,7 @@ if ((s64)l8 < (s64)0ull) { goto L25; }
 L26:;
 if (l5 > l8) { goto L24; }
 L25:;
-t4 = f408(b, l1, l4 + 112ull, l8);
+t4 = f406(b, l1, l4 + 112ull, l8);
 l8 = t4;
 goto L23;
 L24:;
@@ -76541,7 +76773,7 @@ if (l5 <= l7) { goto L29; }
 l7 = get64(b, l10 + (l7 << 3));
 goto L28;
 L29:;
-t5 = f408(b, l1, l4 + 112ull, l7);
+t5 = f406(b, l1, l4 + 112ull, l7);
 l7 = t5;
 L28:;
 l8 = l7 + l8;
@@ -76597,7 +76829,7 @@ L1:;
 SP = l4 + 192ull;
 }
 
-FN u64 f407(B b, u64 l0, u64 l1) {
+FN u64 f405(B b, u64 l0, u64 l1) {
 u32 l13 = 0;
 u64 l2 = 0, l3 = 0, l4 = 0, l5 = 0, l6 = 0, l7 = 0, l8 = 0, l9 = 0, l10 = 0, l11 = 0, l12 = 0;
 l2 = 0ull;
@@ -76680,7 +76912,7 @@ L1:;
 return l2;
 }
 
-FN u64 f408(B b, u64 l0, u64 l1, u64 l2) {
+FN u64 f406(B b, u64 l0, u64 l1, u64 l2) {
 u32 l11 = 0;
 u64 l3 = 0, l4 = 0, l5 = 0, l6 = 0, l7 = 0, l8 = 0, l9 = 0, l10 = 0, t0;
 l3 = 0ull;
@@ -76746,7 +76978,7 @@ if (get64(b, l1 + 8ull) <= l2) { goto L8; }
 l2 = get64(b, get64(b, l1) + (l2 << 3));
 goto L7;
 L8:;
-t0 = f407(b, l0, l2);
+t0 = f405(b, l0, l2);
 l2 = t0;
 L7:;
 l2 = l2 + l3;
@@ -76759,7 +76991,7 @@ L1:;
 return l3;
 }
 
-FN void f409(B b, u64 l0, u64 l1, u32 l2, u64 l3) {
+FN void f407(B b, u64 l0, u64 l1, u32 l2, u64 l3) {
 u32 l19 = 0, l20 = 0, l21 = 0;
 u64 l4 = 0, l5 = 0, l6 = 0, l7 = 0, l8 = 0, l9 = 0, l10 = 0, l11 = 0, l12 = 0, l13 = 0, l14 = 0, l15 = 0, l16 = 0, l17 = 0, l18 = 0;
 l4 = SP - 384ull;
@@ -76915,7 +77147,7 @@ if (l8 != l6) { goto L7; }
 L6:;
 l1 = l5 + l3;
 if (l1 <= 6000000ull) { goto L22; }
-f410(b, l4 + 128ull);
+f408(b, l4 + 128ull);
 if (!get64(b, l4 + 168)) { goto L23; }
 rattle_dealloc(b, get64(b, l4 + 152));
 L23:;
@@ -76964,7 +77196,7 @@ put32(b, l4 + 32, get32(b, l4 + 376));
 put64(b, l4 + 24, get64(b, l4 + 368));
 put64(b, l4 + 8, get64(b, l4 + 216));
 put64(b, l4 + 16, get64(b, l4 + 224));
-f410(b, l4 + 128ull);
+f408(b, l4 + 128ull);
 l13 = get64(b, l4 + 168);
 if (l19) { goto L28; }
 if (!l13) { goto L29; }
@@ -77010,7 +77242,7 @@ L4:;
 SP = l4 + 384ull;
 }
 
-FN void f410(B b, u64 l0) {
+FN void f408(B b, u64 l0) {
 u64 l1 = 0, l2 = 0, l3 = 0, l4 = 0, l5 = 0, l6 = 0, l7 = 0, l8 = 0, l9 = 0, l10 = 0, l11 = 0;
 l1 = get64(b, l0 + 16);
 l2 = get64(b, l0);
@@ -77062,7 +77294,7 @@ rattle_dealloc(b, l2);
 L11:;
 }
 
-FN u32 f411(B b, u64 l0) {
+FN u32 f409(B b, u64 l0) {
 u32 l6 = 0;
 u64 l1 = 0, l2 = 0, l3 = 0, l4 = 0, l5 = 0;
 l1 = SP - 32ull;
@@ -77094,7 +77326,7 @@ SP = l1 + 32ull;
 return l6;
 }
 
-FN void f412(B b, u64 l0, u32 l1, u64 l2) {
+FN void f410(B b, u64 l0, u32 l1, u64 l2) {
 u32 l15 = 0, l16 = 0, l17 = 0, t0, t1, t2, t3;
 u64 l3 = 0, l4 = 0, l5 = 0, l6 = 0, l7 = 0, l8 = 0, l9 = 0, l10 = 0, l11 = 0, l12 = 0, l13 = 0, l14 = 0;
 l3 = SP - 160ull;
@@ -77260,7 +77492,7 @@ L1:;
 SP = l3 + 160ull;
 }
 
-FN u32 f413(B b, u64 l0, u32 l1) {
+FN u32 f411(B b, u64 l0, u32 l1) {
 u32 t0, t1;
 u64 l2 = 0, l3 = 0, l4 = 0, l5 = 0, l6 = 0;
 l2 = get64(b, ((((u64)l1) & 255ull) << 3) + 1063032);
@@ -77311,14 +77543,14 @@ L1:;
 return l1;
 }
 
-FN u32 f414(B b, u64 l0, u64 l1) {
+FN u32 f412(B b, u64 l0, u64 l1) {
 u32 l13 = 0, l14 = 0, t0, t1, t2, t3, t4, t5, t6, t7, t8;
 u64 l2 = 0, l3 = 0, l4 = 0, l5 = 0, l6 = 0, l7 = 0, l8 = 0, l9 = 0, l10 = 0, l11 = 0, l12 = 0;
 l2 = SP - 48ull;
 SP = l2;
 put64(b, l2, (u64)get32(b, l1 + 4ull));
 l13 = 1u;
-t0 = f415(b, l0, 1054581ull, 5ull, l2, 1ull);
+t0 = f413(b, l0, 1054581ull, 5ull, l2, 1ull);
 if (t0 & 255u) { goto L1; }
 l3 = get64(b, l1 + 16ull);
 if (!l3) { goto L2; }
@@ -77334,7 +77566,7 @@ put64(b, l2 + 40, (u64)get32(b, l6 + 56ull));
 put64(b, l2 + 32, get64(b, l6 + 40ull));
 l1 = l6 + 16ull;
 put64(b, l2 + 24, get64(b, l1));
-t1 = f415(b, l0, 1054586ull, 5ull, l2 + 8ull, 5ull);
+t1 = f413(b, l0, 1054586ull, 5ull, l2 + 8ull, 5ull);
 if (t1 & 255u) { goto L1; }
 l7 = get64(b, l1);
 if (!l7) { goto L4; }
@@ -77342,7 +77574,7 @@ l1 = get64(b, l6 + 8ull);
 L5:;
 put64(b, l2 + 8, (u64)get32(b, l1) + 1ull);
 put64(b, l2 + 16, (u64)get32(b, l1 + 4ull) + 1ull);
-t2 = f415(b, l0, 1054591ull, 1ull, l2 + 8ull, 2ull);
+t2 = f413(b, l0, 1054591ull, 1ull, l2 + 8ull, 2ull);
 if (t2 & 255u) { goto L1; }
 l1 = l1 + 8ull;
 l7 = l7 + 18446744073709551615ull;
@@ -77368,7 +77600,7 @@ L12:;
 t3 = f46(b, l0, 1054592ull, 1ull);
 if (t3 & 255u) { goto L1; }
 L11:;
-t4 = f416(b, l0, get64(b, l1 + 8ull), get64(b, l1 + 16ull));
+t4 = f414(b, l0, get64(b, l1 + 8ull), get64(b, l1 + 16ull));
 if (t4 & 255u) { goto L1; }
 l8 = get64(b, l0 + 16ull);
 l11 = get64(b, l0 + 8ull);
@@ -77382,7 +77614,7 @@ goto L8;
 L10:;
 put64(b, l2 + 16, (u64)get32(b, l1 + 8ull) + 1ull);
 put64(b, l2 + 8, (u64)get32(b, l1 + 4ull) + 1ull);
-t5 = f415(b, l0, 1054593ull, 1ull, l2 + 8ull, 2ull);
+t5 = f413(b, l0, 1054593ull, 1ull, l2 + 8ull, 2ull);
 if (!(t5 & 255u)) { goto L8; }
 goto L1;
 L9:;
@@ -77398,7 +77630,7 @@ if (!l7) { goto L13; }
 l1 = get64(b, l6 + 64ull);
 L14:;
 put64(b, l2 + 8, (u64)get32(b, l1) + 1ull);
-t7 = f415(b, l0, 1054594ull, 1ull, l2 + 8ull, 1ull);
+t7 = f413(b, l0, 1054594ull, 1ull, l2 + 8ull, 1ull);
 if (t7 & 255u) { goto L1; }
 l1 = l1 + 4ull;
 l7 = l7 + 18446744073709551615ull;
@@ -77412,7 +77644,7 @@ put64(b, l2 + 32, (u64)get32(b, l6 + 92ull));
 put64(b, l2 + 24, l11);
 put64(b, l2 + 16, l7);
 put64(b, l2 + 8, l1);
-t8 = f415(b, l0, 1054595ull, 5ull, l2 + 8ull, 4ull);
+t8 = f413(b, l0, 1054595ull, 5ull, l2 + 8ull, 4ull);
 if (t8 & 255u) { goto L1; }
 L15:;
 l1 = l5;
@@ -77424,7 +77656,7 @@ SP = l2 + 48ull;
 return l13;
 }
 
-FN u32 f415(B b, u64 l0, u64 l1, u64 l2, u64 l3, u64 l4) {
+FN u32 f413(B b, u64 l0, u64 l1, u64 l2, u64 l3, u64 l4) {
 u32 l11 = 0, l12 = 0, t0, t1, t2, t3;
 u64 l5 = 0, l6 = 0, l7 = 0, l8 = 0, l9 = 0, l10 = 0;
 l5 = SP - 32ull;
@@ -77548,7 +77780,7 @@ SP = l5 + 32ull;
 return l11;
 }
 
-FN u32 f416(B b, u64 l0, u64 l1, u64 l2) {
+FN u32 f414(B b, u64 l0, u64 l1, u64 l2) {
 u32 l10 = 0, l11 = 0, l12 = 0, t0, t1;
 u64 l3 = 0, l4 = 0, l5 = 0, l6 = 0, l7 = 0, l8 = 0, l9 = 0;
 l3 = SP - 32ull;
@@ -77626,7 +77858,7 @@ SP = l3 + 32ull;
 return l10;
 }
 
-FN void f417(B b, u64 l0) {
+FN void f415(B b, u64 l0) {
 u64 l1 = 0, l2 = 0, l3 = 0, l4 = 0, l5 = 0, l6 = 0, l7 = 0, l8 = 0, l9 = 0;
 l1 = get64(b, l0 + 16);
 l2 = get64(b, l0);
@@ -77668,162 +77900,162 @@ rattle_dealloc(b, l2);
 L9:;
 }
 
-FN void f418(B b, u64 l0, u32 l1, u32 l2, u64 l3) {
+FN void f416(B b, u64 l0, u32 l1, u32 l2, u64 l3) {
 u32 l34 = 0, l35 = 0, l36 = 0, l37 = 0, l38 = 0, l39 = 0, l40 = 0, l41 = 0, l42 = 0, l43 = 0, l44 = 0, l45 = 0, l46 = 0, l47 = 0, l48 = 0, l49 = 0, l50 = 0, l51 = 0, t0, t1, t2, t3, t4, t5, t6, t7, t8, t9, t10, t11, t12, t13, t14, t15, t16, t17, t18, t19, t20, t21, t22, t23, t24, t25, t26, t27, t28, t29, t30, t31, t32, t33, t34, t35, t36, t37, t38, t39, t40, t41, t42;
 u64 l4 = 0, l5 = 0, l6 = 0, l7 = 0, l8 = 0, l9 = 0, l10 = 0, l11 = 0, l12 = 0, l13 = 0, l14 = 0, l15 = 0, l16 = 0, l17 = 0, l18 = 0, l19 = 0, l20 = 0, l21 = 0, l22 = 0, l23 = 0, l24 = 0, l25 = 0, l26 = 0, l27 = 0, l28 = 0, l29 = 0, l30 = 0, l31 = 0, l32 = 0, l33 = 0;
-l4 = SP - 2256ull;
+l4 = SP - 2192ull;
 SP = l4;
 switch ((u32)(((u64)l1) & 255ull)) {
-case 1: goto L19;
-case 2: goto L18;
-case 3: goto L17;
-case 4: goto L16;
-case 5: goto L15;
-default: goto L20;
+case 1: goto L20;
+case 2: goto L19;
+case 3: goto L18;
+case 4: goto L17;
+case 5: goto L16;
+default: goto L21;
 }
-L20:;
-copy(b, l4 + 2136ull, l3, 112u);
+L21:;
+copy(b, l4 + 2072ull, l3, 112u);
 l1 = 0u;
-fill(b, l4 + 200ull, 0u, 80u);
-fill(b, l4 + 472ull, 0u, 88u);
+fill(b, l4 + 1960ull, 0u, 80u);
+fill(b, l4 + 440ull, 0u, 88u);
 l5 = 0ull;
+put64(b, l4 + 568, 0ull);
+put64(b, l4 + 576, 0ull);
+put64(b, l4 + 592, 0ull);
 put64(b, l4 + 600, 0ull);
-put64(b, l4 + 608, 0ull);
+put64(b, l4 + 616, 0ull);
 put64(b, l4 + 624, 0ull);
-put64(b, l4 + 632, 0ull);
+put64(b, l4 + 640, 0ull);
 put64(b, l4 + 648, 0ull);
-put64(b, l4 + 656, 0ull);
+put64(b, l4 + 664, 0ull);
 put64(b, l4 + 672, 0ull);
-put64(b, l4 + 680, 0ull);
 put64(b, l4 + 696, 0ull);
-put64(b, l4 + 704, 0ull);
-put64(b, l4 + 728, 0ull);
+put64(b, l4 + 688, 0ull);
+put64(b, l4 + 560, l4 + 2184ull);
+put64(b, l4 + 552, l4 + 2072ull);
+put64(b, l4 + 584, l4 + 2184ull);
+put64(b, l4 + 608, l4 + 2184ull);
+put64(b, l4 + 632, l4 + 2184ull);
+put64(b, l4 + 656, l4 + 2184ull);
+put64(b, l4 + 680, l4 + 2184ull);
+put64(b, l4 + 712, 0ull);
 put64(b, l4 + 720, 0ull);
-put64(b, l4 + 592, l4 + 2248ull);
-put64(b, l4 + 584, l4 + 2136ull);
-put64(b, l4 + 616, l4 + 2248ull);
-put64(b, l4 + 640, l4 + 2248ull);
-put64(b, l4 + 664, l4 + 2248ull);
-put64(b, l4 + 688, l4 + 2248ull);
-put64(b, l4 + 712, l4 + 2248ull);
+put64(b, l4 + 736, 0ull);
 put64(b, l4 + 744, 0ull);
-put64(b, l4 + 752, 0ull);
+put64(b, l4 + 760, 0ull);
 put64(b, l4 + 768, 0ull);
-put64(b, l4 + 776, 0ull);
+put64(b, l4 + 784, 0ull);
 put64(b, l4 + 792, 0ull);
-put64(b, l4 + 800, 0ull);
+put64(b, l4 + 808, 0ull);
 put64(b, l4 + 816, 0ull);
 put64(b, l4 + 824, 0ull);
-put64(b, l4 + 840, 0ull);
-put64(b, l4 + 848, 0ull);
+put64(b, l4 + 832, 2611923443488327891ull);
+put64(b, l4 + 704, l4 + 2184ull);
+put64(b, l4 + 728, l4 + 2184ull);
+put64(b, l4 + 752, l4 + 2184ull);
+put64(b, l4 + 776, l4 + 2184ull);
+put64(b, l4 + 800, l4 + 2184ull);
+put64(b, l4 + 840, l4 + 2184ull);
 put64(b, l4 + 856, 0ull);
-put64(b, l4 + 864, 2611923443488327891ull);
-put64(b, l4 + 736, l4 + 2248ull);
-put64(b, l4 + 760, l4 + 2248ull);
-put64(b, l4 + 784, l4 + 2248ull);
-put64(b, l4 + 808, l4 + 2248ull);
-put64(b, l4 + 832, l4 + 2248ull);
-put64(b, l4 + 872, l4 + 2248ull);
-put64(b, l4 + 888, 0ull);
+put64(b, l4 + 848, 0ull);
 put64(b, l4 + 880, 0ull);
-put64(b, l4 + 912, 0ull);
+put64(b, l4 + 872, 0ull);
 put64(b, l4 + 904, 0ull);
-put64(b, l4 + 936, 0ull);
+put64(b, l4 + 896, 0ull);
 put64(b, l4 + 928, 0ull);
-put64(b, l4 + 960, 0ull);
+put64(b, l4 + 920, 0ull);
 put64(b, l4 + 952, 0ull);
-put64(b, l4 + 984, 0ull);
+put64(b, l4 + 944, 0ull);
 put64(b, l4 + 976, 0ull);
+put64(b, l4 + 968, 0ull);
+put64(b, l4 + 864, l4 + 2184ull);
+put64(b, l4 + 888, l4 + 2184ull);
+put64(b, l4 + 912, l4 + 2184ull);
+put64(b, l4 + 936, l4 + 2184ull);
+put64(b, l4 + 960, l4 + 2184ull);
+put64(b, l4 + 984, l4 + 2184ull);
 put64(b, l4 + 1008, 0ull);
 put64(b, l4 + 1000, 0ull);
-put64(b, l4 + 896, l4 + 2248ull);
-put64(b, l4 + 920, l4 + 2248ull);
-put64(b, l4 + 944, l4 + 2248ull);
-put64(b, l4 + 968, l4 + 2248ull);
-put64(b, l4 + 992, l4 + 2248ull);
-put64(b, l4 + 1016, l4 + 2248ull);
+put64(b, l4 + 992, 0ull);
+put64(b, l4 + 1016, 2611923443488327891ull);
+put64(b, l4 + 1024, l4 + 2184ull);
 put64(b, l4 + 1040, 0ull);
 put64(b, l4 + 1032, 0ull);
-put64(b, l4 + 1024, 0ull);
-put64(b, l4 + 1048, 2611923443488327891ull);
-put64(b, l4 + 1056, l4 + 2248ull);
-put64(b, l4 + 1072, 0ull);
+put64(b, l4 + 1048, l4 + 2184ull);
 put64(b, l4 + 1064, 0ull);
-put64(b, l4 + 1080, l4 + 2248ull);
-put64(b, l4 + 1096, 0ull);
+put64(b, l4 + 1056, 0ull);
+put64(b, l4 + 1072, l4 + 2184ull);
 put64(b, l4 + 1088, 0ull);
-put64(b, l4 + 1104, l4 + 2248ull);
-put64(b, l4 + 1120, 0ull);
+put64(b, l4 + 1080, 0ull);
+put64(b, l4 + 1096, l4 + 2184ull);
 put64(b, l4 + 1112, 0ull);
-put64(b, l4 + 1128, l4 + 2248ull);
-put64(b, l4 + 1144, 0ull);
+put64(b, l4 + 1104, 0ull);
+put64(b, l4 + 1120, l4 + 2184ull);
 put64(b, l4 + 1136, 0ull);
-put64(b, l4 + 1152, l4 + 2248ull);
-put64(b, l4 + 1168, 0ull);
+put64(b, l4 + 1128, 0ull);
+put64(b, l4 + 1144, l4 + 2184ull);
 put64(b, l4 + 1160, 0ull);
-put64(b, l4 + 1176, l4 + 2248ull);
-put64(b, l4 + 1192, 0ull);
+put64(b, l4 + 1152, 0ull);
+put64(b, l4 + 1168, l4 + 2184ull);
 put64(b, l4 + 1184, 0ull);
-put64(b, l4 + 1200, l4 + 2248ull);
-put64(b, l4 + 1216, 0ull);
+put64(b, l4 + 1176, 0ull);
+put64(b, l4 + 1192, l4 + 2184ull);
 put64(b, l4 + 1208, 0ull);
-put64(b, l4 + 1224, l4 + 2248ull);
-put64(b, l4 + 1240, 0ull);
+put64(b, l4 + 1200, 0ull);
+put64(b, l4 + 1216, l4 + 2184ull);
 put64(b, l4 + 1232, 0ull);
-put64(b, l4 + 1248, l4 + 2248ull);
-put64(b, l4 + 1264, 0ull);
-put64(b, l4 + 1256, 0ull);
-f24(b, l4 + 472ull, l4 + 584ull, l2);
-copy(b, l4 + 1272ull, l4 + 584ull, 688u);
-f25(b, l4 + 1272ull);
-put16(b, l4 + 1992, get16(b, l4 + 481));
-put8(b, l4 + 1994, get8(b, l4 + 483));
-l2 = get8(b, l4 + 472);
-l34 = get8(b, l4 + 476);
-l35 = get32(b, l4 + 484);
-l36 = get32(b, l4 + 488);
-l37 = get8(b, l4 + 480);
-copy(b, l4 + 1272ull, l4 + 492ull, 68u);
-if (l2) { goto L21; }
-put8(b, l4 + 200, l37);
-put16(b, l4 + 201, get16(b, l4 + 1992));
-put8(b, l4 + 203, get8(b, l4 + 1994));
-put32(b, l4 + 208, l36);
-put32(b, l4 + 204, l35);
-copy(b, l4 + 212ull, l4 + 1272ull, 68u);
-put64(b, l4 + 488, 0ull);
-put64(b, l4 + 480, 0ull);
-put64(b, l4 + 496, 0ull);
-put64(b, l4 + 504, 0ull);
-put64(b, l4 + 472, l4 + 2248ull);
-t0 = f46(b, l4 + 472ull, 1054545ull, 6ull);
+put64(b, l4 + 1224, 0ull);
+f24(b, l4 + 440ull, l4 + 552ull, l2);
+copy(b, l4 + 1240ull, l4 + 552ull, 688u);
+f25(b, l4 + 1240ull);
+put16(b, l4 + 408, get16(b, l4 + 449));
+put8(b, l4 + 410, get8(b, l4 + 451));
+l2 = get8(b, l4 + 440);
+l34 = get8(b, l4 + 444);
+l35 = get32(b, l4 + 452);
+l36 = get32(b, l4 + 456);
+l37 = get8(b, l4 + 448);
+copy(b, l4 + 1240ull, l4 + 460ull, 68u);
+if (l2) { goto L22; }
+put8(b, l4 + 1960, l37);
+put16(b, l4 + 1961, get16(b, l4 + 408));
+put8(b, l4 + 1963, get8(b, l4 + 410));
+put32(b, l4 + 1968, l36);
+put32(b, l4 + 1964, l35);
+copy(b, l4 + 1972ull, l4 + 1240ull, 68u);
+put64(b, l4 + 456, 0ull);
+put64(b, l4 + 448, 0ull);
+put64(b, l4 + 464, 0ull);
+put64(b, l4 + 472, 0ull);
+put64(b, l4 + 440, l4 + 2184ull);
+t0 = f46(b, l4 + 440ull, 1054545ull, 6ull);
 l2 = t0;
-l6 = l4 + 208ull;
-l7 = get64(b, l4 + 488);
-if (l2 & 255u) { goto L22; }
-l3 = (u64)get32(b, l4 + 200);
-put64(b, l4 + 616, 0ull);
-put64(b, l4 + 608, 0ull);
-put64(b, l4 + 600, 0ull);
-put64(b, l4 + 592, 0ull);
+l6 = l4 + 1968ull;
+l7 = get64(b, l4 + 456);
+if (l2 & 255u) { goto L23; }
+l3 = (u64)get32(b, l4 + 1960);
 put64(b, l4 + 584, 0ull);
-f47(b, l4 + 24ull, l4 + 584ull, l3);
+put64(b, l4 + 576, 0ull);
+put64(b, l4 + 568, 0ull);
+put64(b, l4 + 560, 0ull);
+put64(b, l4 + 552, 0ull);
+f47(b, l4 + 24ull, l4 + 552ull, l3);
 l3 = get64(b, l4 + 32);
 l2 = (u32)(!l3);
 if (l2) { goto L5; }
 l8 = get64(b, l4 + 24);
-l9 = get64(b, l4 + 480);
-if ((l7 - l9) < l3) { goto L23; }
+l9 = get64(b, l4 + 448);
+if ((l7 - l9) < l3) { goto L24; }
 l10 = l9 + l3;
-l11 = get64(b, l4 + 472);
+l11 = get64(b, l4 + 440);
 l12 = l11 + l9;
-if ((l12 - l8) >= l3) { goto L25; }
+if ((l12 - l8) >= l3) { goto L26; }
 l13 = l3 & 3ull;
 l14 = 0ull;
-if (l3 < 4ull) { goto L26; }
+if (l3 < 4ull) { goto L27; }
 l15 = l3 & 18446744073709551612ull;
 l14 = 0ull;
-L27:;
+L28:;
 l3 = l12 + l14;
 l5 = l8 + l14;
 put8(b, l3, get8(b, l5));
@@ -77831,34 +78063,46 @@ put8(b, l3 + 1ull, get8(b, l5 + 1ull));
 put8(b, l3 + 2ull, get8(b, l5 + 2ull));
 put8(b, l3 + 3ull, get8(b, l5 + 3ull));
 l14 = l14 + 4ull;
-if (l15 != l14) { goto L27; }
-if (!l13) { goto L24; }
-L26:;
+if (l15 != l14) { goto L28; }
+if (!l13) { goto L25; }
+L27:;
 l3 = l8 + l14;
 l14 = l11 + (l14 + l9);
-L28:;
+L29:;
 put8(b, l14, get8(b, l3));
 l14 = l14 + 1ull;
 l3 = l3 + 1ull;
 l13 = l13 + 18446744073709551615ull;
-if (l13 != 0ull) { goto L28; }
-goto L24;
-L25:;
-if (l2) { goto L24; }
+if (l13 != 0ull) { goto L29; }
+goto L25;
+L26:;
+if (l2) { goto L25; }
 copy(b, l12, l8, l3);
-L24:;
-put64(b, l4 + 480, l10);
+L25:;
+put64(b, l4 + 448, l10);
 goto L5;
-L23:;
-t1 = f46(b, l4 + 472ull, l8, l3);
+L24:;
+t1 = f46(b, l4 + 440ull, l8, l3);
 l2 = t1;
-l7 = get64(b, l4 + 488);
+l7 = get64(b, l4 + 456);
 if (!(l2 & 255u)) { goto L5; }
-if (!l7) { goto L29; }
-rattle_dealloc(b, get64(b, l4 + 472));
-L29:;
-if (get8(b, l4 + 496) != 1u) { goto L3; }
-l3 = get64(b, l4 + 504);
+if (!l7) { goto L30; }
+rattle_dealloc(b, get64(b, l4 + 440));
+L30:;
+if (get8(b, l4 + 464) != 1u) { goto L3; }
+l3 = get64(b, l4 + 472);
+l5 = get64(b, l3);
+l14 = get64(b, l3 + 16);
+rattle_dealloc(b, l3);
+if (!l14) { goto L3; }
+rattle_dealloc(b, l5);
+goto L3;
+L23:;
+if (!l7) { goto L31; }
+rattle_dealloc(b, get64(b, l4 + 440));
+L31:;
+if (get8(b, l4 + 464) != 1u) { goto L3; }
+l3 = get64(b, l4 + 472);
 l5 = get64(b, l3);
 l14 = get64(b, l3 + 16);
 rattle_dealloc(b, l3);
@@ -77866,327 +78110,328 @@ if (!l14) { goto L3; }
 rattle_dealloc(b, l5);
 goto L3;
 L22:;
-if (!l7) { goto L30; }
-rattle_dealloc(b, get64(b, l4 + 472));
-L30:;
-if (get8(b, l4 + 496) != 1u) { goto L3; }
-l3 = get64(b, l4 + 504);
-l5 = get64(b, l3);
-l14 = get64(b, l3 + 16);
-rattle_dealloc(b, l3);
-if (!l14) { goto L3; }
-rattle_dealloc(b, l5);
-goto L3;
-L21:;
 l2 = 1u;
 l38 = 0u;
 if (l34 & 255u) { goto L2; }
-put64(b, l4 + 608, 0ull);
-put64(b, l4 + 600, 0ull);
-put64(b, l4 + 592, 0ull);
-put64(b, l4 + 584, 0ull);
+put64(b, l4 + 576, 0ull);
+put64(b, l4 + 568, 0ull);
+put64(b, l4 + 560, 0ull);
+put64(b, l4 + 552, 0ull);
 l3 = (((u64)l37) & 255ull) << 3;
-f19(b, l4 + 584ull, get64(b, l3 + 1063544), get64(b, l3 + 1063456), l35, l36);
-l5 = get64(b, l4 + 608);
-l38 = get8(b, l4 + 600);
-l1 = get8(b, l4 + 592);
-l2 = get8(b, l4 + 584);
+f19(b, l4 + 552ull, get64(b, l3 + 1063544), get64(b, l3 + 1063456), l35, l36);
+l5 = get64(b, l4 + 576);
+l38 = get8(b, l4 + 568);
+l1 = get8(b, l4 + 560);
+l2 = get8(b, l4 + 552);
 goto L2;
-L19:;
-fill(b, l4 + 200ull, 0u, 80u);
-copy(b, l4 + 2136ull, l3, 112u);
-l34 = get8(b, l4 + 2240);
-fill(b, l4 + 472ull, 0u, 88u);
+L20:;
+fill(b, l4 + 1960ull, 0u, 80u);
+copy(b, l4 + 2072ull, l3, 112u);
+l34 = get8(b, l4 + 2176);
+fill(b, l4 + 440ull, 0u, 88u);
+put64(b, l4 + 568, 0ull);
+put64(b, l4 + 576, 0ull);
+put64(b, l4 + 592, 0ull);
 put64(b, l4 + 600, 0ull);
-put64(b, l4 + 608, 0ull);
+put64(b, l4 + 616, 0ull);
 put64(b, l4 + 624, 0ull);
-put64(b, l4 + 632, 0ull);
+put64(b, l4 + 640, 0ull);
 put64(b, l4 + 648, 0ull);
-put64(b, l4 + 656, 0ull);
+put64(b, l4 + 664, 0ull);
 put64(b, l4 + 672, 0ull);
-put64(b, l4 + 680, 0ull);
 put64(b, l4 + 696, 0ull);
-put64(b, l4 + 704, 0ull);
-put64(b, l4 + 728, 0ull);
+put64(b, l4 + 688, 0ull);
+put64(b, l4 + 560, l4 + 2184ull);
+put64(b, l4 + 552, l4 + 2072ull);
+put64(b, l4 + 584, l4 + 2184ull);
+put64(b, l4 + 608, l4 + 2184ull);
+put64(b, l4 + 632, l4 + 2184ull);
+put64(b, l4 + 656, l4 + 2184ull);
+put64(b, l4 + 680, l4 + 2184ull);
+put64(b, l4 + 712, 0ull);
 put64(b, l4 + 720, 0ull);
-put64(b, l4 + 592, l4 + 2248ull);
-put64(b, l4 + 584, l4 + 2136ull);
-put64(b, l4 + 616, l4 + 2248ull);
-put64(b, l4 + 640, l4 + 2248ull);
-put64(b, l4 + 664, l4 + 2248ull);
-put64(b, l4 + 688, l4 + 2248ull);
-put64(b, l4 + 712, l4 + 2248ull);
+put64(b, l4 + 736, 0ull);
 put64(b, l4 + 744, 0ull);
-put64(b, l4 + 752, 0ull);
+put64(b, l4 + 760, 0ull);
 put64(b, l4 + 768, 0ull);
-put64(b, l4 + 776, 0ull);
+put64(b, l4 + 784, 0ull);
 put64(b, l4 + 792, 0ull);
-put64(b, l4 + 800, 0ull);
+put64(b, l4 + 808, 0ull);
 put64(b, l4 + 816, 0ull);
 put64(b, l4 + 824, 0ull);
-put64(b, l4 + 840, 0ull);
-put64(b, l4 + 848, 0ull);
+put64(b, l4 + 832, 2611923443488327891ull);
+put64(b, l4 + 704, l4 + 2184ull);
+put64(b, l4 + 728, l4 + 2184ull);
+put64(b, l4 + 752, l4 + 2184ull);
+put64(b, l4 + 776, l4 + 2184ull);
+put64(b, l4 + 800, l4 + 2184ull);
+put64(b, l4 + 840, l4 + 2184ull);
 put64(b, l4 + 856, 0ull);
-put64(b, l4 + 864, 2611923443488327891ull);
-put64(b, l4 + 736, l4 + 2248ull);
-put64(b, l4 + 760, l4 + 2248ull);
-put64(b, l4 + 784, l4 + 2248ull);
-put64(b, l4 + 808, l4 + 2248ull);
-put64(b, l4 + 832, l4 + 2248ull);
-put64(b, l4 + 872, l4 + 2248ull);
-put64(b, l4 + 888, 0ull);
+put64(b, l4 + 848, 0ull);
 put64(b, l4 + 880, 0ull);
-put64(b, l4 + 912, 0ull);
+put64(b, l4 + 872, 0ull);
 put64(b, l4 + 904, 0ull);
-put64(b, l4 + 936, 0ull);
+put64(b, l4 + 896, 0ull);
 put64(b, l4 + 928, 0ull);
-put64(b, l4 + 960, 0ull);
+put64(b, l4 + 920, 0ull);
 put64(b, l4 + 952, 0ull);
-put64(b, l4 + 984, 0ull);
+put64(b, l4 + 944, 0ull);
 put64(b, l4 + 976, 0ull);
+put64(b, l4 + 968, 0ull);
+put64(b, l4 + 864, l4 + 2184ull);
+put64(b, l4 + 888, l4 + 2184ull);
+put64(b, l4 + 912, l4 + 2184ull);
+put64(b, l4 + 936, l4 + 2184ull);
+put64(b, l4 + 960, l4 + 2184ull);
+put64(b, l4 + 984, l4 + 2184ull);
 put64(b, l4 + 1008, 0ull);
 put64(b, l4 + 1000, 0ull);
-put64(b, l4 + 896, l4 + 2248ull);
-put64(b, l4 + 920, l4 + 2248ull);
-put64(b, l4 + 944, l4 + 2248ull);
-put64(b, l4 + 968, l4 + 2248ull);
-put64(b, l4 + 992, l4 + 2248ull);
-put64(b, l4 + 1016, l4 + 2248ull);
+put64(b, l4 + 992, 0ull);
+put64(b, l4 + 1016, 2611923443488327891ull);
+put64(b, l4 + 1024, l4 + 2184ull);
 put64(b, l4 + 1040, 0ull);
 put64(b, l4 + 1032, 0ull);
-put64(b, l4 + 1024, 0ull);
-put64(b, l4 + 1048, 2611923443488327891ull);
-put64(b, l4 + 1056, l4 + 2248ull);
-put64(b, l4 + 1072, 0ull);
+put64(b, l4 + 1048, l4 + 2184ull);
 put64(b, l4 + 1064, 0ull);
-put64(b, l4 + 1080, l4 + 2248ull);
-put64(b, l4 + 1096, 0ull);
+put64(b, l4 + 1056, 0ull);
+put64(b, l4 + 1072, l4 + 2184ull);
 put64(b, l4 + 1088, 0ull);
-put64(b, l4 + 1104, l4 + 2248ull);
-put64(b, l4 + 1120, 0ull);
+put64(b, l4 + 1080, 0ull);
+put64(b, l4 + 1096, l4 + 2184ull);
 put64(b, l4 + 1112, 0ull);
-put64(b, l4 + 1128, l4 + 2248ull);
-put64(b, l4 + 1144, 0ull);
+put64(b, l4 + 1104, 0ull);
+put64(b, l4 + 1120, l4 + 2184ull);
 put64(b, l4 + 1136, 0ull);
-put64(b, l4 + 1152, l4 + 2248ull);
-put64(b, l4 + 1168, 0ull);
+put64(b, l4 + 1128, 0ull);
+put64(b, l4 + 1144, l4 + 2184ull);
 put64(b, l4 + 1160, 0ull);
-put64(b, l4 + 1176, l4 + 2248ull);
-put64(b, l4 + 1192, 0ull);
+put64(b, l4 + 1152, 0ull);
+put64(b, l4 + 1168, l4 + 2184ull);
 put64(b, l4 + 1184, 0ull);
-put64(b, l4 + 1200, l4 + 2248ull);
-put64(b, l4 + 1216, 0ull);
+put64(b, l4 + 1176, 0ull);
+put64(b, l4 + 1192, l4 + 2184ull);
 put64(b, l4 + 1208, 0ull);
-put64(b, l4 + 1224, l4 + 2248ull);
-put64(b, l4 + 1240, 0ull);
+put64(b, l4 + 1200, 0ull);
+put64(b, l4 + 1216, l4 + 2184ull);
 put64(b, l4 + 1232, 0ull);
-put64(b, l4 + 1248, l4 + 2248ull);
-put64(b, l4 + 1264, 0ull);
-put64(b, l4 + 1256, 0ull);
-f24(b, l4 + 472ull, l4 + 584ull, l2);
-copy(b, l4 + 1272ull, l4 + 584ull, 688u);
-f25(b, l4 + 1272ull);
-put16(b, l4 + 120, get16(b, l4 + 481));
-put8(b, l4 + 122, get8(b, l4 + 483));
-l2 = get8(b, l4 + 472);
-l1 = get8(b, l4 + 476);
-l38 = get32(b, l4 + 484);
-l35 = get32(b, l4 + 488);
-l36 = get8(b, l4 + 480);
-copy(b, l4 + 1272ull, l4 + 492ull, 68u);
-if (l34) { goto L31; }
-l13 = get64(b, l4 + 2232);
-l14 = get64(b, l4 + 2224);
-l5 = get64(b, l4 + 2216);
-l3 = get64(b, l4 + 2208);
-l7 = get64(b, l4 + 2192);
-l12 = get64(b, l4 + 2136);
-l8 = get64(b, l4 + 2152);
-put64(b, l4 + 608, get64(b, l4 + 2184));
-put64(b, l4 + 600, get64(b, l4 + 2176));
-put64(b, l4 + 592, get64(b, l4 + 2168));
-put64(b, l4 + 584, get64(b, l4 + 2160));
-if (!l8) { goto L32; }
+put64(b, l4 + 1224, 0ull);
+f24(b, l4 + 440ull, l4 + 552ull, l2);
+copy(b, l4 + 1240ull, l4 + 552ull, 688u);
+f25(b, l4 + 1240ull);
+put16(b, l4 + 120, get16(b, l4 + 449));
+put8(b, l4 + 122, get8(b, l4 + 451));
+l2 = get8(b, l4 + 440);
+l1 = get8(b, l4 + 444);
+l38 = get32(b, l4 + 452);
+l35 = get32(b, l4 + 456);
+l36 = get8(b, l4 + 448);
+copy(b, l4 + 1240ull, l4 + 460ull, 68u);
+if (l34) { goto L32; }
+l13 = get64(b, l4 + 2168);
+l14 = get64(b, l4 + 2160);
+l5 = get64(b, l4 + 2152);
+l3 = get64(b, l4 + 2144);
+l7 = get64(b, l4 + 2128);
+l12 = get64(b, l4 + 2072);
+l8 = get64(b, l4 + 2088);
+put64(b, l4 + 576, get64(b, l4 + 2120));
+put64(b, l4 + 568, get64(b, l4 + 2112));
+put64(b, l4 + 560, get64(b, l4 + 2104));
+put64(b, l4 + 552, get64(b, l4 + 2096));
+if (!l8) { goto L33; }
 rattle_dealloc(b, l12);
-L32:;
-f405(b, l4 + 592ull);
-if (!l3) { goto L33; }
-rattle_dealloc(b, l7);
 L33:;
-if (!l14) { goto L34; }
-l3 = l5;
-L35:;
-put64(b, l4 + 488, get64(b, l3 + 16));
-put64(b, l4 + 480, get64(b, l3 + 8));
-put64(b, l4 + 472, get64(b, l3));
-l3 = l3 + 24ull;
-f405(b, l4 + 472ull);
-l14 = l14 + 18446744073709551615ull;
-if (l14 != 0ull) { goto L35; }
+f403(b, l4 + 560ull);
+if (!l3) { goto L34; }
+rattle_dealloc(b, l7);
 L34:;
-if (!l13) { goto L31; }
+if (!l14) { goto L35; }
+l3 = l5;
+L36:;
+put64(b, l4 + 456, get64(b, l3 + 16));
+put64(b, l4 + 448, get64(b, l3 + 8));
+put64(b, l4 + 440, get64(b, l3));
+l3 = l3 + 24ull;
+f403(b, l4 + 440ull);
+l14 = l14 + 18446744073709551615ull;
+if (l14 != 0ull) { goto L36; }
+L35:;
+if (!l13) { goto L32; }
 rattle_dealloc(b, l5);
-L31:;
-if (l2 & 255u) { goto L36; }
-put8(b, l4 + 200, l36);
-put16(b, l4 + 201, get16(b, l4 + 120));
-put8(b, l4 + 203, get8(b, l4 + 122));
-put32(b, l4 + 208, l35);
-put32(b, l4 + 204, l38);
-copy(b, l4 + 212ull, l4 + 1272ull, 68u);
+L32:;
+if (l2 & 255u) { goto L37; }
+put8(b, l4 + 1960, l36);
+put16(b, l4 + 1961, get16(b, l4 + 120));
+put8(b, l4 + 1963, get8(b, l4 + 122));
+put32(b, l4 + 1968, l35);
+put32(b, l4 + 1964, l38);
+copy(b, l4 + 1972ull, l4 + 1240ull, 68u);
 l5 = 0ull;
+put64(b, l4 + 552, 0ull);
+put64(b, l4 + 560, 0ull);
+put64(b, l4 + 568, 0ull);
+put64(b, l4 + 576, 0ull);
 put64(b, l4 + 584, 0ull);
-put64(b, l4 + 592, 0ull);
-put64(b, l4 + 600, 0ull);
-put64(b, l4 + 608, 0ull);
-put64(b, l4 + 616, 0ull);
-put64(b, l4 + 2024, 0ull);
-put64(b, l4 + 2032, 0ull);
-put64(b, l4 + 2040, 0ull);
-f167(b, l4 + 584ull, l4 + 200ull);
-if (get8(b, l4 + 584)) { goto L40; }
-f419(b, l4 + 2024ull, (l4 + 584ull) + 8ull);
-if (get8(b, l4 + 2024)) { goto L39; }
-l38 = get8(b, l4 + 2032);
-l5 = get64(b, l4 + 2040);
-f417(b, l4 + 600ull);
+put64(b, l4 + 200, 0ull);
+put64(b, l4 + 208, 0ull);
+put64(b, l4 + 216, 0ull);
+f167(b, l4 + 552ull, l4 + 1960ull);
+if (get8(b, l4 + 552)) { goto L41; }
+f417(b, l4 + 200ull, (l4 + 552ull) + 8ull);
+if (get8(b, l4 + 200)) { goto L40; }
+l38 = get8(b, l4 + 208);
+l5 = get64(b, l4 + 216);
+f415(b, l4 + 568ull);
 l2 = 0u;
 l1 = 0u;
-goto L37;
-L40:;
-if (get8(b, l4 + 588)) { goto L38; }
-l2 = get32(b, l4 + 600);
-l1 = get32(b, l4 + 596);
-l3 = (u64)get8(b, l4 + 592);
-put64(b, l4 + 496, 0ull);
-put64(b, l4 + 488, 0ull);
-put64(b, l4 + 480, 0ull);
-put64(b, l4 + 472, 0ull);
+goto L38;
+L41:;
+if (get8(b, l4 + 556)) { goto L39; }
+l2 = get32(b, l4 + 568);
+l1 = get32(b, l4 + 564);
+l3 = (u64)get8(b, l4 + 560);
+put64(b, l4 + 464, 0ull);
+put64(b, l4 + 456, 0ull);
+put64(b, l4 + 448, 0ull);
+put64(b, l4 + 440, 0ull);
 l3 = l3 << 3;
-f19(b, l4 + 472ull, get64(b, l3 + 1063544), get64(b, l3 + 1063456), l1, l2);
-l5 = get64(b, l4 + 496);
-l38 = get8(b, l4 + 488);
-l1 = get8(b, l4 + 480);
-l2 = get8(b, l4 + 472);
-goto L37;
+f19(b, l4 + 440ull, get64(b, l3 + 1063544), get64(b, l3 + 1063456), l1, l2);
+l5 = get64(b, l4 + 464);
+l38 = get8(b, l4 + 456);
+l1 = get8(b, l4 + 448);
+l2 = get8(b, l4 + 440);
+goto L38;
+L40:;
+f415(b, l4 + 568ull);
 L39:;
-f417(b, l4 + 600ull);
-L38:;
 l1 = 0u;
 l2 = 1u;
 l38 = 0u;
-L37:;
+L38:;
 if (l34) { goto L1; }
-l3 = get64(b, l4 + 272);
-l13 = get64(b, l4 + 256);
-l8 = get64(b, l4 + 232);
-l14 = get64(b, l4 + 248);
-f420(b, (l4 + 200ull) + 8ull);
-if (!l14) { goto L41; }
+l3 = get64(b, l4 + 2032);
+l13 = get64(b, l4 + 2016);
+l8 = get64(b, l4 + 1992);
+l14 = get64(b, l4 + 2008);
+f418(b, (l4 + 1960ull) + 8ull);
+if (!l14) { goto L42; }
 rattle_dealloc(b, l8);
-L41:;
+L42:;
 if (!l3) { goto L1; }
 rattle_dealloc(b, l13);
 goto L1;
-L36:;
+L37:;
 if (l1 & 255u) { goto L6; }
-put64(b, l4 + 608, 0ull);
-put64(b, l4 + 600, 0ull);
-put64(b, l4 + 592, 0ull);
-put64(b, l4 + 584, 0ull);
+put64(b, l4 + 576, 0ull);
+put64(b, l4 + 568, 0ull);
+put64(b, l4 + 560, 0ull);
+put64(b, l4 + 552, 0ull);
 l3 = (((u64)l36) & 255ull) << 3;
-f19(b, l4 + 584ull, get64(b, l3 + 1063544), get64(b, l3 + 1063456), l38, l35);
-l5 = get64(b, l4 + 608);
-l38 = get8(b, l4 + 600);
-l1 = get8(b, l4 + 592);
-l2 = get8(b, l4 + 584);
-goto L1;
-L18:;
+f19(b, l4 + 552ull, get64(b, l3 + 1063544), get64(b, l3 + 1063456), l38, l35);
+goto L7;
+L19:;
 l5 = 0ull;
-put64(b, l4 + 472, 0ull);
-put64(b, l4 + 480, 0ull);
-put64(b, l4 + 488, 0ull);
-put64(b, l4 + 496, 0ull);
-copy(b, l4 + 584ull, l3, 112u);
+put64(b, l4 + 464, 0ull);
+put64(b, l4 + 456, 0ull);
+put64(b, l4 + 448, 0ull);
+put64(b, l4 + 440, 0ull);
+copy(b, l4 + 2072ull, l3, 112u);
 l1 = 0u;
-fill(b, l4 + 1272ull, 0u, 128u);
-f32(b, l4 + 1272ull, l4 + 584ull, l2);
-l34 = get8(b, l4 + 1284);
-l35 = get32(b, l4 + 1280);
-if (get8(b, l4 + 1272)) { goto L43; }
-copy(b, (l4 + 2136ull) | 5ull, l4 + 1285ull, 107u);
-put8(b, l4 + 2140, l34);
-put32(b, l4 + 2136, l35);
-f40(b, l4 + 472ull, l4 + 2136ull);
-goto L42;
+fill(b, l4 + 1240ull, 0u, 128u);
+f32(b, l4 + 1240ull, l4 + 2072ull, l2);
+l34 = get8(b, l4 + 1252);
+l35 = get32(b, l4 + 1248);
+if (get8(b, l4 + 1240)) { goto L43; }
+put32(b, l4 + 612, get32(b, l4 + 1308));
+put64(b, l4 + 605, get64(b, l4 + 1301));
+put64(b, l4 + 597, get64(b, l4 + 1293));
+put64(b, l4 + 589, get64(b, l4 + 1285));
+put64(b, l4 + 581, get64(b, l4 + 1277));
+put64(b, l4 + 573, get64(b, l4 + 1269));
+put64(b, l4 + 565, get64(b, l4 + 1261));
+put64(b, l4 + 557, get64(b, l4 + 1253));
+l3 = get64(b, l4 + 1312);
+put64(b, l4 + 624, get64(b, l4 + 1320));
+put64(b, l4 + 632, get64(b, l4 + 1328));
+put64(b, l4 + 640, get64(b, l4 + 1336));
+put64(b, l4 + 648, get64(b, l4 + 1344));
+put64(b, l4 + 656, get64(b, l4 + 1352));
+put8(b, l4 + 556, l34);
+put32(b, l4 + 552, l35);
+put64(b, l4 + 616, l3);
+put64(b, l4 + 1264, 0ull);
+put64(b, l4 + 1256, 0ull);
+put64(b, l4 + 1248, 0ull);
+put64(b, l4 + 1240, 0ull);
+f40(b, l4 + 1240ull, l4 + 552ull, (u32)(l3 > 9999ull));
+goto L15;
 L43:;
 l2 = 1u;
 l38 = 0u;
-if (get8(b, l4 + 1276)) { goto L1; }
-f18(b, l4 + 472ull, l35, l34);
-L42:;
-l5 = get64(b, l4 + 496);
-l38 = get8(b, l4 + 488);
-l1 = get8(b, l4 + 480);
-l2 = get8(b, l4 + 472);
+if (get8(b, l4 + 1244)) { goto L1; }
+f18(b, l4 + 440ull, l35, l34);
+l5 = get64(b, l4 + 464);
+l38 = get8(b, l4 + 456);
+l1 = get8(b, l4 + 448);
+l2 = get8(b, l4 + 440);
 goto L1;
-L17:;
-put64(b, l4 + 1992, 0ull);
-put64(b, l4 + 2000, 0ull);
-put64(b, l4 + 2008, 0ull);
-put64(b, l4 + 2016, 0ull);
-fill(b, l4 + 200ull, 0u, 88u);
-copy(b, l4 + 2136ull, l3, 112u);
-f421(b, l4 + 200ull, l4 + 2136ull, l2);
-if (get8(b, l4 + 2240)) { goto L44; }
-l13 = get64(b, l4 + 2232);
-l14 = get64(b, l4 + 2224);
-l5 = get64(b, l4 + 2216);
-l3 = get64(b, l4 + 2208);
-l7 = get64(b, l4 + 2192);
-l12 = get64(b, l4 + 2136);
-l8 = get64(b, l4 + 2152);
-put64(b, l4 + 1296, get64(b, l4 + 2184));
-put64(b, l4 + 1288, get64(b, l4 + 2176));
-put64(b, l4 + 1280, get64(b, l4 + 2168));
-put64(b, l4 + 1272, get64(b, l4 + 2160));
+L18:;
+put64(b, l4 + 408, 0ull);
+put64(b, l4 + 416, 0ull);
+put64(b, l4 + 424, 0ull);
+put64(b, l4 + 432, 0ull);
+fill(b, l4 + 1960ull, 0u, 88u);
+copy(b, l4 + 2072ull, l3, 112u);
+f419(b, l4 + 1960ull, l4 + 2072ull, l2);
+if (get8(b, l4 + 2176)) { goto L44; }
+l13 = get64(b, l4 + 2168);
+l14 = get64(b, l4 + 2160);
+l5 = get64(b, l4 + 2152);
+l3 = get64(b, l4 + 2144);
+l7 = get64(b, l4 + 2128);
+l12 = get64(b, l4 + 2072);
+l8 = get64(b, l4 + 2088);
+put64(b, l4 + 1264, get64(b, l4 + 2120));
+put64(b, l4 + 1256, get64(b, l4 + 2112));
+put64(b, l4 + 1248, get64(b, l4 + 2104));
+put64(b, l4 + 1240, get64(b, l4 + 2096));
 if (!l8) { goto L45; }
 rattle_dealloc(b, l12);
 L45:;
-f422(b, l4 + 1280ull);
+f420(b, l4 + 1248ull);
 if (!l3) { goto L46; }
 rattle_dealloc(b, l7);
 L46:;
 if (!l14) { goto L47; }
 l3 = l5;
 L48:;
-put64(b, l4 + 600, get64(b, l3 + 16));
-put64(b, l4 + 592, get64(b, l3 + 8));
-put64(b, l4 + 584, get64(b, l3));
+put64(b, l4 + 568, get64(b, l3 + 16));
+put64(b, l4 + 560, get64(b, l3 + 8));
+put64(b, l4 + 552, get64(b, l3));
 l3 = l3 + 24ull;
-f422(b, l4 + 584ull);
+f420(b, l4 + 552ull);
 l14 = l14 + 18446744073709551615ull;
 if (l14 != 0ull) { goto L48; }
 L47:;
 if (!l13) { goto L44; }
 rattle_dealloc(b, l5);
 L44:;
-if (get8(b, l4 + 200)) { goto L50; }
-l3 = (l4 + 200ull) + 8ull;
+if (get8(b, l4 + 1960)) { goto L50; }
+l3 = (l4 + 1960ull) + 8ull;
 copy(b, l4 + 120ull, l3, 80u);
 if (get64(b, l4 + 136) == 0ull) { goto L4; }
 l7 = get64(b, l4 + 128);
 l2 = 0u;
-fill(b, l4 + 1272ull, 0u, 136u);
-put64(b, l4 + 480, 0ull);
-put64(b, l4 + 472, 0ull);
-f169(b, l4 + 472ull, l3, 0u);
+fill(b, l4 + 1240ull, 0u, 136u);
+put64(b, l4 + 448, 0ull);
+put64(b, l4 + 440, 0ull);
+f168(b, l4 + 440ull, l3, 0u);
 l12 = (l4 + 120ull) + 8ull;
-l1 = get8(b, l4 + 472);
+l1 = get8(b, l4 + 440);
 if (l1 != 1u) { goto L49; }
-l14 = (u64)get32(b, l4 + 476);
+l14 = (u64)get32(b, l4 + 444);
 if (get64(b, l7 + 16ull) <= l14) { goto L4; }
-l3 = (u64)get32(b, l4 + 480);
+l3 = (u64)get32(b, l4 + 448);
 l14 = get64(b, l7 + 8ull) + (l14 * 104ull);
 if (get8(b, l14 + 8ull) != 1u) { goto L52; }
 l14 = l14 + 16ull;
@@ -78197,224 +78442,224 @@ l5 = get64(b, l14 + 88ull);
 l14 = get64(b, l14 + 80ull);
 L51:;
 if (l5 <= l3) { goto L4; }
-l5 = (u64)get32(b, l4 + 484);
+l5 = (u64)get32(b, l4 + 452);
 l14 = (u64)get32(b, l14 + (l3 << 6)) << 32;
-goto L11;
+goto L12;
 L50:;
-if (get8(b, l4 + 204)) { goto L6; }
-l2 = get32(b, l4 + 216);
-l1 = get32(b, l4 + 212);
-l3 = (u64)get8(b, l4 + 208);
-put64(b, l4 + 1296, 0ull);
-put64(b, l4 + 1288, 0ull);
-put64(b, l4 + 1280, 0ull);
-put64(b, l4 + 1272, 0ull);
+if (get8(b, l4 + 1964)) { goto L6; }
+l2 = get32(b, l4 + 1976);
+l1 = get32(b, l4 + 1972);
+l3 = (u64)get8(b, l4 + 1968);
+put64(b, l4 + 1264, 0ull);
+put64(b, l4 + 1256, 0ull);
+put64(b, l4 + 1248, 0ull);
+put64(b, l4 + 1240, 0ull);
 l3 = l3 << 3;
-f19(b, l4 + 1272ull, get64(b, l3 + 1063544), get64(b, l3 + 1063456), l1, l2);
-goto L14;
+f19(b, l4 + 1240ull, get64(b, l3 + 1063544), get64(b, l3 + 1063456), l1, l2);
+goto L15;
 L49:;
 l14 = 0ull;
 l5 = 0ull;
-if (!l1) { goto L12; }
-goto L11;
-L16:;
-put64(b, l4 + 2024, 0ull);
-put64(b, l4 + 2032, 0ull);
-put64(b, l4 + 2040, 0ull);
-put64(b, l4 + 2048, 0ull);
-fill(b, l4 + 200ull, 0u, 80u);
+if (!l1) { goto L13; }
+goto L12;
+L17:;
+put64(b, l4 + 200, 0ull);
+put64(b, l4 + 208, 0ull);
+put64(b, l4 + 216, 0ull);
+put64(b, l4 + 224, 0ull);
+fill(b, l4 + 1960ull, 0u, 80u);
 put64(b, l4 + 136, 0ull);
 put64(b, l4 + 128, 0ull);
 put64(b, l4 + 120, 0ull);
-put64(b, l4 + 1992, 0ull);
-put64(b, l4 + 2000, 0ull);
-put64(b, l4 + 2008, 0ull);
-copy(b, l4 + 2136ull, l3, 112u);
-fill(b, l4 + 472ull, 0u, 88u);
+put64(b, l4 + 408, 0ull);
+put64(b, l4 + 416, 0ull);
+put64(b, l4 + 424, 0ull);
+copy(b, l4 + 2072ull, l3, 112u);
+fill(b, l4 + 440ull, 0u, 88u);
+put64(b, l4 + 568, 0ull);
+put64(b, l4 + 576, 0ull);
+put64(b, l4 + 592, 0ull);
 put64(b, l4 + 600, 0ull);
-put64(b, l4 + 608, 0ull);
+put64(b, l4 + 616, 0ull);
 put64(b, l4 + 624, 0ull);
-put64(b, l4 + 632, 0ull);
+put64(b, l4 + 640, 0ull);
 put64(b, l4 + 648, 0ull);
-put64(b, l4 + 656, 0ull);
+put64(b, l4 + 664, 0ull);
 put64(b, l4 + 672, 0ull);
-put64(b, l4 + 680, 0ull);
 put64(b, l4 + 696, 0ull);
-put64(b, l4 + 704, 0ull);
-put64(b, l4 + 728, 0ull);
+put64(b, l4 + 688, 0ull);
+put64(b, l4 + 560, l4 + 2184ull);
+put64(b, l4 + 552, l4 + 2072ull);
+put64(b, l4 + 584, l4 + 2184ull);
+put64(b, l4 + 608, l4 + 2184ull);
+put64(b, l4 + 632, l4 + 2184ull);
+put64(b, l4 + 656, l4 + 2184ull);
+put64(b, l4 + 680, l4 + 2184ull);
+put64(b, l4 + 712, 0ull);
 put64(b, l4 + 720, 0ull);
-put64(b, l4 + 592, l4 + 2248ull);
-put64(b, l4 + 584, l4 + 2136ull);
-put64(b, l4 + 616, l4 + 2248ull);
-put64(b, l4 + 640, l4 + 2248ull);
-put64(b, l4 + 664, l4 + 2248ull);
-put64(b, l4 + 688, l4 + 2248ull);
-put64(b, l4 + 712, l4 + 2248ull);
+put64(b, l4 + 736, 0ull);
 put64(b, l4 + 744, 0ull);
-put64(b, l4 + 752, 0ull);
+put64(b, l4 + 760, 0ull);
 put64(b, l4 + 768, 0ull);
-put64(b, l4 + 776, 0ull);
+put64(b, l4 + 784, 0ull);
 put64(b, l4 + 792, 0ull);
-put64(b, l4 + 800, 0ull);
+put64(b, l4 + 808, 0ull);
 put64(b, l4 + 816, 0ull);
 put64(b, l4 + 824, 0ull);
-put64(b, l4 + 840, 0ull);
-put64(b, l4 + 848, 0ull);
+put64(b, l4 + 832, 2611923443488327891ull);
+put64(b, l4 + 704, l4 + 2184ull);
+put64(b, l4 + 728, l4 + 2184ull);
+put64(b, l4 + 752, l4 + 2184ull);
+put64(b, l4 + 776, l4 + 2184ull);
+put64(b, l4 + 800, l4 + 2184ull);
+put64(b, l4 + 840, l4 + 2184ull);
 put64(b, l4 + 856, 0ull);
-put64(b, l4 + 864, 2611923443488327891ull);
-put64(b, l4 + 736, l4 + 2248ull);
-put64(b, l4 + 760, l4 + 2248ull);
-put64(b, l4 + 784, l4 + 2248ull);
-put64(b, l4 + 808, l4 + 2248ull);
-put64(b, l4 + 832, l4 + 2248ull);
-put64(b, l4 + 872, l4 + 2248ull);
-put64(b, l4 + 888, 0ull);
+put64(b, l4 + 848, 0ull);
 put64(b, l4 + 880, 0ull);
-put64(b, l4 + 912, 0ull);
+put64(b, l4 + 872, 0ull);
 put64(b, l4 + 904, 0ull);
-put64(b, l4 + 936, 0ull);
+put64(b, l4 + 896, 0ull);
 put64(b, l4 + 928, 0ull);
-put64(b, l4 + 960, 0ull);
+put64(b, l4 + 920, 0ull);
 put64(b, l4 + 952, 0ull);
-put64(b, l4 + 984, 0ull);
+put64(b, l4 + 944, 0ull);
 put64(b, l4 + 976, 0ull);
+put64(b, l4 + 968, 0ull);
+put64(b, l4 + 864, l4 + 2184ull);
+put64(b, l4 + 888, l4 + 2184ull);
+put64(b, l4 + 912, l4 + 2184ull);
+put64(b, l4 + 936, l4 + 2184ull);
+put64(b, l4 + 960, l4 + 2184ull);
+put64(b, l4 + 984, l4 + 2184ull);
 put64(b, l4 + 1008, 0ull);
 put64(b, l4 + 1000, 0ull);
-put64(b, l4 + 896, l4 + 2248ull);
-put64(b, l4 + 920, l4 + 2248ull);
-put64(b, l4 + 944, l4 + 2248ull);
-put64(b, l4 + 968, l4 + 2248ull);
-put64(b, l4 + 992, l4 + 2248ull);
-put64(b, l4 + 1016, l4 + 2248ull);
+put64(b, l4 + 992, 0ull);
+put64(b, l4 + 1016, 2611923443488327891ull);
+put64(b, l4 + 1024, l4 + 2184ull);
 put64(b, l4 + 1040, 0ull);
 put64(b, l4 + 1032, 0ull);
-put64(b, l4 + 1024, 0ull);
-put64(b, l4 + 1048, 2611923443488327891ull);
-put64(b, l4 + 1056, l4 + 2248ull);
-put64(b, l4 + 1072, 0ull);
+put64(b, l4 + 1048, l4 + 2184ull);
 put64(b, l4 + 1064, 0ull);
-put64(b, l4 + 1080, l4 + 2248ull);
-put64(b, l4 + 1096, 0ull);
+put64(b, l4 + 1056, 0ull);
+put64(b, l4 + 1072, l4 + 2184ull);
 put64(b, l4 + 1088, 0ull);
-put64(b, l4 + 1104, l4 + 2248ull);
-put64(b, l4 + 1120, 0ull);
+put64(b, l4 + 1080, 0ull);
+put64(b, l4 + 1096, l4 + 2184ull);
 put64(b, l4 + 1112, 0ull);
-put64(b, l4 + 1128, l4 + 2248ull);
-put64(b, l4 + 1144, 0ull);
+put64(b, l4 + 1104, 0ull);
+put64(b, l4 + 1120, l4 + 2184ull);
 put64(b, l4 + 1136, 0ull);
-put64(b, l4 + 1152, l4 + 2248ull);
-put64(b, l4 + 1168, 0ull);
+put64(b, l4 + 1128, 0ull);
+put64(b, l4 + 1144, l4 + 2184ull);
 put64(b, l4 + 1160, 0ull);
-put64(b, l4 + 1176, l4 + 2248ull);
-put64(b, l4 + 1192, 0ull);
+put64(b, l4 + 1152, 0ull);
+put64(b, l4 + 1168, l4 + 2184ull);
 put64(b, l4 + 1184, 0ull);
-put64(b, l4 + 1200, l4 + 2248ull);
-put64(b, l4 + 1216, 0ull);
+put64(b, l4 + 1176, 0ull);
+put64(b, l4 + 1192, l4 + 2184ull);
 put64(b, l4 + 1208, 0ull);
-put64(b, l4 + 1224, l4 + 2248ull);
-put64(b, l4 + 1240, 0ull);
+put64(b, l4 + 1200, 0ull);
+put64(b, l4 + 1216, l4 + 2184ull);
 put64(b, l4 + 1232, 0ull);
-put64(b, l4 + 1248, l4 + 2248ull);
-put64(b, l4 + 1264, 0ull);
-put64(b, l4 + 1256, 0ull);
-f24(b, l4 + 472ull, l4 + 584ull, l2);
-copy(b, l4 + 1272ull, l4 + 584ull, 688u);
-f25(b, l4 + 1272ull);
-put16(b, l4 + 440, get16(b, l4 + 481));
-put8(b, l4 + 442, get8(b, l4 + 483));
-l2 = get8(b, l4 + 472);
-l1 = get8(b, l4 + 476);
-l38 = get32(b, l4 + 484);
-l34 = get32(b, l4 + 488);
-l35 = get8(b, l4 + 480);
-copy(b, l4 + 1272ull, l4 + 492ull, 68u);
+put64(b, l4 + 1224, 0ull);
+f24(b, l4 + 440ull, l4 + 552ull, l2);
+copy(b, l4 + 1240ull, l4 + 552ull, 688u);
+f25(b, l4 + 1240ull);
+put16(b, l4 + 376, get16(b, l4 + 449));
+put8(b, l4 + 378, get8(b, l4 + 451));
+l2 = get8(b, l4 + 440);
+l1 = get8(b, l4 + 444);
+l38 = get32(b, l4 + 452);
+l34 = get32(b, l4 + 456);
+l35 = get8(b, l4 + 448);
+copy(b, l4 + 1240ull, l4 + 460ull, 68u);
 if (l2) { goto L53; }
-put8(b, l4 + 200, l35);
-put16(b, l4 + 201, get16(b, l4 + 440));
-put8(b, l4 + 203, get8(b, l4 + 442));
-put32(b, l4 + 208, l34);
-put32(b, l4 + 204, l38);
-copy(b, l4 + 212ull, l4 + 1272ull, 68u);
-l5 = l4 + 208ull;
-if (get8(b, l4 + 2240)) { goto L54; }
-l8 = get64(b, l4 + 2232);
-l14 = get64(b, l4 + 2224);
-l13 = get64(b, l4 + 2216);
-l3 = get64(b, l4 + 2208);
-l12 = get64(b, l4 + 2192);
-l15 = get64(b, l4 + 2136);
-l7 = get64(b, l4 + 2152);
-put64(b, l4 + 608, get64(b, l4 + 2184));
-put64(b, l4 + 600, get64(b, l4 + 2176));
-put64(b, l4 + 592, get64(b, l4 + 2168));
-put64(b, l4 + 584, get64(b, l4 + 2160));
+put8(b, l4 + 1960, l35);
+put16(b, l4 + 1961, get16(b, l4 + 376));
+put8(b, l4 + 1963, get8(b, l4 + 378));
+put32(b, l4 + 1968, l34);
+put32(b, l4 + 1964, l38);
+copy(b, l4 + 1972ull, l4 + 1240ull, 68u);
+l5 = l4 + 1968ull;
+if (get8(b, l4 + 2176)) { goto L54; }
+l8 = get64(b, l4 + 2168);
+l14 = get64(b, l4 + 2160);
+l13 = get64(b, l4 + 2152);
+l3 = get64(b, l4 + 2144);
+l12 = get64(b, l4 + 2128);
+l15 = get64(b, l4 + 2072);
+l7 = get64(b, l4 + 2088);
+put64(b, l4 + 576, get64(b, l4 + 2120));
+put64(b, l4 + 568, get64(b, l4 + 2112));
+put64(b, l4 + 560, get64(b, l4 + 2104));
+put64(b, l4 + 552, get64(b, l4 + 2096));
 if (!l7) { goto L55; }
 rattle_dealloc(b, l15);
 L55:;
-f423(b, l4 + 592ull);
+f421(b, l4 + 560ull);
 if (!l3) { goto L56; }
 rattle_dealloc(b, l12);
 L56:;
 if (!l14) { goto L57; }
 l3 = l13;
 L58:;
-put64(b, l4 + 488, get64(b, l3 + 16));
-put64(b, l4 + 480, get64(b, l3 + 8));
-put64(b, l4 + 472, get64(b, l3));
+put64(b, l4 + 456, get64(b, l3 + 16));
+put64(b, l4 + 448, get64(b, l3 + 8));
+put64(b, l4 + 440, get64(b, l3));
 l3 = l3 + 24ull;
-f423(b, l4 + 472ull);
+f421(b, l4 + 440ull);
 l14 = l14 + 18446744073709551615ull;
 if (l14 != 0ull) { goto L58; }
 L57:;
 if (!l8) { goto L54; }
 rattle_dealloc(b, l13);
 L54:;
-f29(b, l4 + 2024ull, l4 + 200ull);
-f424(b, l5);
-if (!get64(b, l4 + 248)) { goto L59; }
-rattle_dealloc(b, get64(b, l4 + 232));
+f29(b, l4 + 200ull, l4 + 1960ull);
+f422(b, l5);
+if (!get64(b, l4 + 2008)) { goto L59; }
+rattle_dealloc(b, get64(b, l4 + 1992));
 L59:;
-if (!get64(b, l4 + 272)) { goto L60; }
-rattle_dealloc(b, get64(b, l4 + 256));
+if (!get64(b, l4 + 2032)) { goto L60; }
+rattle_dealloc(b, get64(b, l4 + 2016));
 L60:;
-l5 = get64(b, l4 + 2048);
-l38 = get8(b, l4 + 2040);
-l1 = get8(b, l4 + 2032);
-l2 = get8(b, l4 + 2024);
+l5 = get64(b, l4 + 224);
+l38 = get8(b, l4 + 216);
+l1 = get8(b, l4 + 208);
+l2 = get8(b, l4 + 200);
 goto L1;
 L53:;
 if (l1 & 255u) { goto L61; }
-put64(b, l4 + 608, 0ull);
-put64(b, l4 + 600, 0ull);
-put64(b, l4 + 592, 0ull);
-put64(b, l4 + 584, 0ull);
+put64(b, l4 + 576, 0ull);
+put64(b, l4 + 568, 0ull);
+put64(b, l4 + 560, 0ull);
+put64(b, l4 + 552, 0ull);
 l3 = (((u64)l35) & 255ull) << 3;
-f19(b, l4 + 584ull, get64(b, l3 + 1063544), get64(b, l3 + 1063456), l38, l34);
-l5 = get64(b, l4 + 608);
-l38 = get8(b, l4 + 600);
-l1 = get8(b, l4 + 592);
-l2 = get8(b, l4 + 584);
-if (!get64(b, l4 + 2152)) { goto L62; }
-rattle_dealloc(b, get64(b, l4 + 2136));
+f19(b, l4 + 552ull, get64(b, l3 + 1063544), get64(b, l3 + 1063456), l38, l34);
+l5 = get64(b, l4 + 576);
+l38 = get8(b, l4 + 568);
+l1 = get8(b, l4 + 560);
+l2 = get8(b, l4 + 552);
+if (!get64(b, l4 + 2088)) { goto L62; }
+rattle_dealloc(b, get64(b, l4 + 2072));
 L62:;
-put64(b, l4 + 136, get64(b, l4 + 2184));
-put64(b, l4 + 128, get64(b, l4 + 2176));
-put64(b, l4 + 120, get64(b, l4 + 2168));
-f423(b, l4 + 120ull);
-l8 = get64(b, l4 + 2232);
-l14 = get64(b, l4 + 2224);
-l13 = get64(b, l4 + 2216);
-if (!get64(b, l4 + 2208)) { goto L63; }
-rattle_dealloc(b, get64(b, l4 + 2192));
+put64(b, l4 + 136, get64(b, l4 + 2120));
+put64(b, l4 + 128, get64(b, l4 + 2112));
+put64(b, l4 + 120, get64(b, l4 + 2104));
+f421(b, l4 + 120ull);
+l8 = get64(b, l4 + 2168);
+l14 = get64(b, l4 + 2160);
+l13 = get64(b, l4 + 2152);
+if (!get64(b, l4 + 2144)) { goto L63; }
+rattle_dealloc(b, get64(b, l4 + 2128));
 L63:;
 if (!l14) { goto L64; }
 l3 = l13;
 L65:;
-put64(b, l4 + 600, get64(b, l3 + 16));
-put64(b, l4 + 592, get64(b, l3 + 8));
-put64(b, l4 + 584, get64(b, l3));
+put64(b, l4 + 568, get64(b, l3 + 16));
+put64(b, l4 + 560, get64(b, l3 + 8));
+put64(b, l4 + 552, get64(b, l3));
 l3 = l3 + 24ull;
-f423(b, l4 + 584ull);
+f421(b, l4 + 552ull);
 l14 = l14 + 18446744073709551615ull;
 if (l14 != 0ull) { goto L65; }
 L64:;
@@ -78422,27 +78667,27 @@ if (!l8) { goto L1; }
 rattle_dealloc(b, l13);
 goto L1;
 L61:;
-if (!get64(b, l4 + 2152)) { goto L66; }
-rattle_dealloc(b, get64(b, l4 + 2136));
+if (!get64(b, l4 + 2088)) { goto L66; }
+rattle_dealloc(b, get64(b, l4 + 2072));
 L66:;
-put64(b, l4 + 2008, get64(b, l4 + 2184));
-put64(b, l4 + 2000, get64(b, l4 + 2176));
-put64(b, l4 + 1992, get64(b, l4 + 2168));
-f423(b, l4 + 1992ull);
-l13 = get64(b, l4 + 2232);
-l14 = get64(b, l4 + 2224);
-l5 = get64(b, l4 + 2216);
-if (!get64(b, l4 + 2208)) { goto L67; }
-rattle_dealloc(b, get64(b, l4 + 2192));
+put64(b, l4 + 424, get64(b, l4 + 2120));
+put64(b, l4 + 416, get64(b, l4 + 2112));
+put64(b, l4 + 408, get64(b, l4 + 2104));
+f421(b, l4 + 408ull);
+l13 = get64(b, l4 + 2168);
+l14 = get64(b, l4 + 2160);
+l5 = get64(b, l4 + 2152);
+if (!get64(b, l4 + 2144)) { goto L67; }
+rattle_dealloc(b, get64(b, l4 + 2128));
 L67:;
 if (!l14) { goto L68; }
 l3 = l5;
 L69:;
-put64(b, l4 + 600, get64(b, l3 + 16));
-put64(b, l4 + 592, get64(b, l3 + 8));
-put64(b, l4 + 584, get64(b, l3));
+put64(b, l4 + 568, get64(b, l3 + 16));
+put64(b, l4 + 560, get64(b, l3 + 8));
+put64(b, l4 + 552, get64(b, l3));
 l3 = l3 + 24ull;
-f423(b, l4 + 584ull);
+f421(b, l4 + 552ull);
 l14 = l14 + 18446744073709551615ull;
 if (l14 != 0ull) { goto L69; }
 L68:;
@@ -78450,132 +78695,131 @@ if (!l13) { goto L70; }
 rattle_dealloc(b, l5);
 L70:;
 l2 = 1u;
-l5 = get64(b, l4 + 2048);
-l38 = get8(b, l4 + 2040);
-l1 = get8(b, l4 + 2032);
+l5 = get64(b, l4 + 224);
+l38 = get8(b, l4 + 216);
+l1 = get8(b, l4 + 208);
 goto L1;
-L15:;
-put64(b, l4 + 344, 0ull);
-put64(b, l4 + 352, 0ull);
-put64(b, l4 + 360, 0ull);
-put64(b, l4 + 368, 0ull);
+L16:;
 put64(b, l4 + 312, 0ull);
 put64(b, l4 + 320, 0ull);
 put64(b, l4 + 328, 0ull);
 put64(b, l4 + 336, 0ull);
-fill(b, l4 + 200ull, 0u, 112u);
-copy(b, l4 + 472ull, l3, 112u);
-put64(b, l4 + 400, 0ull);
-put64(b, l4 + 392, 0ull);
-put64(b, l4 + 384, 0ull);
-put64(b, l4 + 376, 0ull);
-put64(b, l4 + 440, 0ull);
-put64(b, l4 + 448, 0ull);
-put64(b, l4 + 456, 0ull);
-put64(b, l4 + 464, 0ull);
+put64(b, l4 + 280, 0ull);
+put64(b, l4 + 288, 0ull);
+put64(b, l4 + 296, 0ull);
+put64(b, l4 + 304, 0ull);
+copy(b, l4 + 440ull, l3, 112u);
+put64(b, l4 + 368, 0ull);
+put64(b, l4 + 360, 0ull);
+put64(b, l4 + 352, 0ull);
+put64(b, l4 + 344, 0ull);
 put64(b, l4 + 408, 0ull);
 put64(b, l4 + 416, 0ull);
 put64(b, l4 + 424, 0ull);
 put64(b, l4 + 432, 0ull);
-fill(b, l4 + 2136ull, 0u, 88u);
+put64(b, l4 + 376, 0ull);
+put64(b, l4 + 384, 0ull);
+put64(b, l4 + 392, 0ull);
+put64(b, l4 + 400, 0ull);
+fill(b, l4 + 2072ull, 0u, 88u);
+put64(b, l4 + 568, 0ull);
+put64(b, l4 + 576, 0ull);
+put64(b, l4 + 592, 0ull);
 put64(b, l4 + 600, 0ull);
-put64(b, l4 + 608, 0ull);
+put64(b, l4 + 616, 0ull);
 put64(b, l4 + 624, 0ull);
-put64(b, l4 + 632, 0ull);
+put64(b, l4 + 640, 0ull);
 put64(b, l4 + 648, 0ull);
-put64(b, l4 + 656, 0ull);
+put64(b, l4 + 664, 0ull);
 put64(b, l4 + 672, 0ull);
-put64(b, l4 + 680, 0ull);
 put64(b, l4 + 696, 0ull);
-put64(b, l4 + 704, 0ull);
-put64(b, l4 + 728, 0ull);
+put64(b, l4 + 688, 0ull);
+put64(b, l4 + 560, l4 + 2184ull);
+put64(b, l4 + 552, l4 + 440ull);
+put64(b, l4 + 584, l4 + 2184ull);
+put64(b, l4 + 608, l4 + 2184ull);
+put64(b, l4 + 632, l4 + 2184ull);
+put64(b, l4 + 656, l4 + 2184ull);
+put64(b, l4 + 680, l4 + 2184ull);
+put64(b, l4 + 712, 0ull);
 put64(b, l4 + 720, 0ull);
-put64(b, l4 + 592, l4 + 2248ull);
-put64(b, l4 + 584, l4 + 472ull);
-put64(b, l4 + 616, l4 + 2248ull);
-put64(b, l4 + 640, l4 + 2248ull);
-put64(b, l4 + 664, l4 + 2248ull);
-put64(b, l4 + 688, l4 + 2248ull);
-put64(b, l4 + 712, l4 + 2248ull);
+put64(b, l4 + 736, 0ull);
 put64(b, l4 + 744, 0ull);
-put64(b, l4 + 752, 0ull);
+put64(b, l4 + 760, 0ull);
 put64(b, l4 + 768, 0ull);
-put64(b, l4 + 776, 0ull);
+put64(b, l4 + 784, 0ull);
 put64(b, l4 + 792, 0ull);
-put64(b, l4 + 800, 0ull);
+put64(b, l4 + 808, 0ull);
 put64(b, l4 + 816, 0ull);
 put64(b, l4 + 824, 0ull);
-put64(b, l4 + 840, 0ull);
-put64(b, l4 + 848, 0ull);
+put64(b, l4 + 832, 2611923443488327891ull);
+put64(b, l4 + 704, l4 + 2184ull);
+put64(b, l4 + 728, l4 + 2184ull);
+put64(b, l4 + 752, l4 + 2184ull);
+put64(b, l4 + 776, l4 + 2184ull);
+put64(b, l4 + 800, l4 + 2184ull);
+put64(b, l4 + 840, l4 + 2184ull);
 put64(b, l4 + 856, 0ull);
-put64(b, l4 + 864, 2611923443488327891ull);
-put64(b, l4 + 736, l4 + 2248ull);
-put64(b, l4 + 760, l4 + 2248ull);
-put64(b, l4 + 784, l4 + 2248ull);
-put64(b, l4 + 808, l4 + 2248ull);
-put64(b, l4 + 832, l4 + 2248ull);
-put64(b, l4 + 872, l4 + 2248ull);
-put64(b, l4 + 888, 0ull);
+put64(b, l4 + 848, 0ull);
 put64(b, l4 + 880, 0ull);
-put64(b, l4 + 912, 0ull);
+put64(b, l4 + 872, 0ull);
 put64(b, l4 + 904, 0ull);
-put64(b, l4 + 936, 0ull);
+put64(b, l4 + 896, 0ull);
 put64(b, l4 + 928, 0ull);
-put64(b, l4 + 960, 0ull);
+put64(b, l4 + 920, 0ull);
 put64(b, l4 + 952, 0ull);
-put64(b, l4 + 984, 0ull);
+put64(b, l4 + 944, 0ull);
 put64(b, l4 + 976, 0ull);
+put64(b, l4 + 968, 0ull);
+put64(b, l4 + 864, l4 + 2184ull);
+put64(b, l4 + 888, l4 + 2184ull);
+put64(b, l4 + 912, l4 + 2184ull);
+put64(b, l4 + 936, l4 + 2184ull);
+put64(b, l4 + 960, l4 + 2184ull);
+put64(b, l4 + 984, l4 + 2184ull);
 put64(b, l4 + 1008, 0ull);
 put64(b, l4 + 1000, 0ull);
-put64(b, l4 + 896, l4 + 2248ull);
-put64(b, l4 + 920, l4 + 2248ull);
-put64(b, l4 + 944, l4 + 2248ull);
-put64(b, l4 + 968, l4 + 2248ull);
-put64(b, l4 + 992, l4 + 2248ull);
-put64(b, l4 + 1016, l4 + 2248ull);
+put64(b, l4 + 992, 0ull);
+put64(b, l4 + 1016, 2611923443488327891ull);
+put64(b, l4 + 1024, l4 + 2184ull);
 put64(b, l4 + 1040, 0ull);
 put64(b, l4 + 1032, 0ull);
-put64(b, l4 + 1024, 0ull);
-put64(b, l4 + 1048, 2611923443488327891ull);
-put64(b, l4 + 1056, l4 + 2248ull);
-put64(b, l4 + 1072, 0ull);
+put64(b, l4 + 1048, l4 + 2184ull);
 put64(b, l4 + 1064, 0ull);
-put64(b, l4 + 1080, l4 + 2248ull);
-put64(b, l4 + 1096, 0ull);
+put64(b, l4 + 1056, 0ull);
+put64(b, l4 + 1072, l4 + 2184ull);
 put64(b, l4 + 1088, 0ull);
-put64(b, l4 + 1104, l4 + 2248ull);
-put64(b, l4 + 1120, 0ull);
+put64(b, l4 + 1080, 0ull);
+put64(b, l4 + 1096, l4 + 2184ull);
 put64(b, l4 + 1112, 0ull);
-put64(b, l4 + 1128, l4 + 2248ull);
-put64(b, l4 + 1144, 0ull);
+put64(b, l4 + 1104, 0ull);
+put64(b, l4 + 1120, l4 + 2184ull);
 put64(b, l4 + 1136, 0ull);
-put64(b, l4 + 1152, l4 + 2248ull);
-put64(b, l4 + 1168, 0ull);
+put64(b, l4 + 1128, 0ull);
+put64(b, l4 + 1144, l4 + 2184ull);
 put64(b, l4 + 1160, 0ull);
-put64(b, l4 + 1176, l4 + 2248ull);
-put64(b, l4 + 1192, 0ull);
+put64(b, l4 + 1152, 0ull);
+put64(b, l4 + 1168, l4 + 2184ull);
 put64(b, l4 + 1184, 0ull);
-put64(b, l4 + 1200, l4 + 2248ull);
-put64(b, l4 + 1216, 0ull);
+put64(b, l4 + 1176, 0ull);
+put64(b, l4 + 1192, l4 + 2184ull);
 put64(b, l4 + 1208, 0ull);
-put64(b, l4 + 1224, l4 + 2248ull);
-put64(b, l4 + 1240, 0ull);
+put64(b, l4 + 1200, 0ull);
+put64(b, l4 + 1216, l4 + 2184ull);
 put64(b, l4 + 1232, 0ull);
-put64(b, l4 + 1248, l4 + 2248ull);
-put64(b, l4 + 1264, 0ull);
-put64(b, l4 + 1256, 0ull);
-f24(b, l4 + 2136ull, l4 + 584ull, l2);
-copy(b, l4 + 1272ull, l4 + 584ull, 688u);
-f25(b, l4 + 1272ull);
-l9 = get64(b, l4 + 2152);
-l34 = get8(b, l4 + 2136);
+put64(b, l4 + 1224, 0ull);
+f24(b, l4 + 2072ull, l4 + 552ull, l2);
+copy(b, l4 + 1240ull, l4 + 552ull, 688u);
+f25(b, l4 + 1240ull);
+l9 = get64(b, l4 + 2088);
+l34 = get8(b, l4 + 2072);
 if (l34) { goto L72; }
-l11 = get64(b, l4 + 2168);
-l16 = get64(b, l4 + 2176);
-l17 = get64(b, l4 + 2192);
-l18 = get64(b, l4 + 2200);
-l19 = get64(b, l4 + 2216);
-l10 = get64(b, l4 + 2160);
+l11 = get64(b, l4 + 2104);
+l16 = get64(b, l4 + 2112);
+l17 = get64(b, l4 + 2128);
+l18 = get64(b, l4 + 2136);
+l19 = get64(b, l4 + 2152);
+l10 = get64(b, l4 + 2096);
 if (!l10) { goto L73; }
 l15 = 0ull;
 L74:;
@@ -78631,77 +78875,77 @@ if (!l19) { goto L71; }
 rattle_dealloc(b, l18);
 goto L71;
 L72:;
-l14 = get64(b, l4 + 2144);
-l35 = (u32)(!(get8(b, l4 + 2140) & 255u));
+l14 = get64(b, l4 + 2080);
+l35 = (u32)(!(get8(b, l4 + 2076) & 255u));
 l1 = (u32)l9;
 L71:;
-fill(b, l4 + 1272ull, 0u, 128u);
-copy(b, l4 + 584ull, l4 + 472ull, 112u);
-f32(b, l4 + 1272ull, l4 + 584ull, l2);
-put64(b, l4 + 440, get64(b, l4 + 1304));
-put64(b, l4 + 448, get64(b, l4 + 1312));
-put64(b, l4 + 456, get64(b, l4 + 1320));
-put64(b, l4 + 464, get64(b, l4 + 1328));
-l2 = get8(b, l4 + 1284);
-l38 = get32(b, l4 + 1280);
-if (get8(b, l4 + 1272)) { goto L92; }
-l20 = get64(b, l4 + 1296);
-l21 = get64(b, l4 + 1336);
-l22 = get64(b, l4 + 1352);
-l23 = get64(b, l4 + 1360);
-l8 = get64(b, l4 + 1368);
-l24 = get64(b, l4 + 1376);
-l36 = get16(b, l4 + 1285) | (get8(b, l4 + 1287ull) << 16);
+fill(b, l4 + 1240ull, 0u, 128u);
+copy(b, l4 + 552ull, l4 + 440ull, 112u);
+f32(b, l4 + 1240ull, l4 + 552ull, l2);
+put64(b, l4 + 408, get64(b, l4 + 1272));
+put64(b, l4 + 416, get64(b, l4 + 1280));
+put64(b, l4 + 424, get64(b, l4 + 1288));
+put64(b, l4 + 432, get64(b, l4 + 1296));
+l2 = get8(b, l4 + 1252);
+l38 = get32(b, l4 + 1248);
+if (get8(b, l4 + 1240)) { goto L90; }
+l20 = get64(b, l4 + 1264);
+l21 = get64(b, l4 + 1304);
+l22 = get64(b, l4 + 1320);
+l23 = get64(b, l4 + 1328);
+l8 = get64(b, l4 + 1336);
+l24 = get64(b, l4 + 1344);
+l36 = get16(b, l4 + 1253) | (get8(b, l4 + 1255ull) << 16);
 l25 = (((((u64)l2) & 255ull) << 32) | ((u64)l38)) | (((u64)l36) << 40);
-if (l34) { goto L91; }
-l26 = get64(b, l4 + 1288);
-l11 = get64(b, l4 + 1344);
-l27 = get64(b, l4 + 1384);
-l1 = get32(b, l4 + 1392);
-fill(b, l4 + 2024ull, 0u, 96u);
+if (l34) { goto L89; }
+l26 = get64(b, l4 + 1256);
+l11 = get64(b, l4 + 1312);
+l27 = get64(b, l4 + 1352);
+l1 = get32(b, l4 + 1360);
+fill(b, l4 + 1960ull, 0u, 96u);
 l5 = 0ull;
-put64(b, l4 + 2016, 0ull);
-put64(b, l4 + 2008, 0ull);
-put64(b, l4 + 2000, 0ull);
-put64(b, l4 + 1992, 0ull);
-put64(b, l4 + 1976, 0ull);
-put64(b, l4 + 1984, 0ull);
-put64(b, l4 + 1960, 0ull);
-put64(b, l4 + 1968, 0ull);
-put64(b, l4 + 120, get64(b, l4 + 440));
-put64(b, l4 + 128, get64(b, l4 + 448));
-put64(b, l4 + 136, get64(b, l4 + 456));
-put64(b, l4 + 144, get64(b, l4 + 464));
+put64(b, l4 + 144, 0ull);
+put64(b, l4 + 136, 0ull);
+put64(b, l4 + 128, 0ull);
+put64(b, l4 + 120, 0ull);
+put64(b, l4 + 1944, 0ull);
+put64(b, l4 + 1952, 0ull);
+put64(b, l4 + 1928, 0ull);
+put64(b, l4 + 1936, 0ull);
+put64(b, l4 + 200, get64(b, l4 + 408));
+put64(b, l4 + 208, get64(b, l4 + 416));
+put64(b, l4 + 216, get64(b, l4 + 424));
+put64(b, l4 + 224, get64(b, l4 + 432));
+put64(b, l4 + 1248, 0ull);
+put64(b, l4 + 1256, 0ull);
+put64(b, l4 + 1272, 0ull);
 put64(b, l4 + 1280, 0ull);
-put64(b, l4 + 1288, 0ull);
+put64(b, l4 + 1296, 0ull);
 put64(b, l4 + 1304, 0ull);
-put64(b, l4 + 1312, 0ull);
+put64(b, l4 + 1320, 0ull);
 put64(b, l4 + 1328, 0ull);
-put64(b, l4 + 1336, 0ull);
-put64(b, l4 + 1352, 0ull);
-put64(b, l4 + 1360, 0ull);
-put64(b, l4 + 1272, l4 + 2248ull);
-put64(b, l4 + 1296, l4 + 2248ull);
-put64(b, l4 + 1320, l4 + 2248ull);
-put64(b, l4 + 1344, l4 + 2248ull);
-if (l11 != 0ull) { goto L94; }
+put64(b, l4 + 1240, l4 + 2184ull);
+put64(b, l4 + 1264, l4 + 2184ull);
+put64(b, l4 + 1288, l4 + 2184ull);
+put64(b, l4 + 1312, l4 + 2184ull);
+if (l11 != 0ull) { goto L92; }
 l28 = 0ull;
-put64(b, l4 + 2144, 0ull);
-put64(b, l4 + 2136, 0ull);
-put64(b, l4 + 2120, 0ull);
-put64(b, l4 + 2128, 0ull);
-l29 = l4 + 2248ull;
+put64(b, l4 + 2080, 0ull);
+put64(b, l4 + 2072, 0ull);
+put64(b, l4 + 2056, 0ull);
+put64(b, l4 + 2064, 0ull);
+l29 = l4 + 2184ull;
 l19 = l29;
 l30 = 0ull;
 l31 = l29;
 l17 = l29;
 l16 = 0ull;
 l32 = 0ull;
-goto L93;
-L94:;
-l10 = l4 + 1328ull;
-l19 = l4 + 1280ull;
-L95:;
+goto L91;
+L92:;
+l10 = l4 + 1296ull;
+l19 = l4 + 1248ull;
+L93:;
 l3 = l5 & 2147483647ull;
 if (l11 <= l3) { goto L4; }
 l7 = l21 + (l3 * 120ull);
@@ -78709,365 +78953,384 @@ l13 = get64(b, l7);
 if (!l13) { goto L4; }
 if (l8 <= l3) { goto L4; }
 l14 = 0ull;
-put64(b, l4 + 600, 0ull);
-put64(b, l4 + 592, 0ull);
-put64(b, l4 + 584, 0ull);
+put64(b, l4 + 568, 0ull);
+put64(b, l4 + 560, 0ull);
+put64(b, l4 + 552, 0ull);
 l12 = l23 + (l3 * 24ull);
-if (l13 != 504ull) { goto L96; }
-f103(b, l4 + 584ull, l12);
-l14 = (get8(b, l4 + 584) == 1u) ? get64(b, l4 + 600) : 0ull;
-L96:;
-l13 = get64(b, l4 + 1280);
-if (l13 > (l14 ^ 18446744073709551615ull)) { goto L100; }
+if (l13 != 504ull) { goto L94; }
+f103(b, l4 + 552ull, l12);
+l14 = (get8(b, l4 + 552) == 1u) ? get64(b, l4 + 568) : 0ull;
+L94:;
+l13 = get64(b, l4 + 1248);
+if (l13 > (l14 ^ 18446744073709551615ull)) { goto L98; }
 l3 = l13;
-if (get64(b, l4 + 1312) != get64(b, l4 + 1304)) { goto L101; }
-t2 = f425(b, l4 + 1296ull);
-if (!t2) { goto L100; }
-l3 = get64(b, l4 + 1280);
-L101:;
+if (get64(b, l4 + 1280) != get64(b, l4 + 1272)) { goto L99; }
+t2 = f423(b, l4 + 1264ull);
+if (!t2) { goto L98; }
+l3 = get64(b, l4 + 1248);
+L99:;
 l14 = l13 + l14;
-if (l14 > l3) { goto L103; }
-if (l14 >= l3) { goto L102; }
-put64(b, l4 + 1280, l14);
-goto L102;
-L103:;
+if (l14 > l3) { goto L101; }
+if (l14 >= l3) { goto L100; }
+put64(b, l4 + 1248, l14);
+goto L100;
+L101:;
 l13 = l14 - l3;
-l15 = get64(b, l4 + 1288);
-if (l13 <= (l15 - l3)) { goto L104; }
-t3 = f426(b, l4 + 1272ull, l13);
-if (!t3) { goto L100; }
-l15 = get64(b, l4 + 1288);
-l3 = get64(b, l4 + 1280);
-L104:;
-l6 = l3 + l13;
-if (l3 >= l6) { goto L105; }
-if (!l13) { goto L105; }
-fill(b, get64(b, l4 + 1272) + l3, 0u, l13);
-L105:;
-put64(b, l4 + 1288, l15);
-put64(b, l4 + 1280, l6);
+l15 = get64(b, l4 + 1256);
+if (l13 <= (l15 - l3)) { goto L102; }
+t3 = f424(b, l4 + 1240ull, l13);
+if (!t3) { goto L98; }
+l15 = get64(b, l4 + 1256);
+l3 = get64(b, l4 + 1248);
 L102:;
-l3 = get64(b, l4 + 1304);
-put64(b, get64(b, l4 + 1296) + (l3 << 3), l14);
-put64(b, l4 + 1304, l3 + 1ull);
+l6 = l3 + l13;
+if (l3 >= l6) { goto L103; }
+if (!l13) { goto L103; }
+fill(b, get64(b, l4 + 1240) + l3, 0u, l13);
+L103:;
+put64(b, l4 + 1256, l15);
+put64(b, l4 + 1248, l6);
+L100:;
+l3 = get64(b, l4 + 1272);
+put64(b, get64(b, l4 + 1264) + (l3 << 3), l14);
+put64(b, l4 + 1272, l3 + 1ull);
 l14 = 0ull;
-if (get64(b, l7) != 502ull) { goto L106; }
+if (get64(b, l7) != 502ull) { goto L104; }
 l7 = get64(b, l12 + 8ull);
-if (!l7) { goto L106; }
+if (!l7) { goto L104; }
 l6 = get64(b, l12);
-if (get8(b, l6) != 1u) { goto L106; }
+if (get8(b, l6) != 1u) { goto L104; }
 l14 = 0ull;
 l13 = 1ull;
 l12 = get64(b, l6 + 8ull);
-if ((s64)l12 < (s64)1ull) { goto L106; }
+if ((s64)l12 < (s64)1ull) { goto L104; }
 l3 = l6 + 72ull;
 l9 = ((s64)l12 > (s64)0ull) ? l12 : 0ull;
 l16 = l9 * 3ull;
 l17 = l16 + 1ull;
 l15 = l9;
-L107:;
+L105:;
 l14 = 0ull;
-if (l7 <= l13) { goto L106; }
+if (l7 <= l13) { goto L104; }
 l12 = l7 - l13;
 l12 = (l12 > l7) ? 0ull : l12;
-if (l12 == 1ull) { goto L106; }
-if ((get8(b, l3 + 18446744073709551568ull) & 255u) == 3u) { goto L106; }
-if (l12 == 2ull) { goto L106; }
-if ((get8(b, l3 + 18446744073709551592ull) & 255u) == 3u) { goto L106; }
-if (get8(b, l3) == 3u) { goto L106; }
+if (l12 == 1ull) { goto L104; }
+if ((get8(b, l3 + 18446744073709551568ull) & 255u) == 3u) { goto L104; }
+if (l12 == 2ull) { goto L104; }
+if ((get8(b, l3 + 18446744073709551592ull) & 255u) == 3u) { goto L104; }
+if (get8(b, l3) == 3u) { goto L104; }
 l13 = l13 + 3ull;
 l3 = l3 + 72ull;
 l15 = l15 + 18446744073709551615ull;
-if (l15 != 0ull) { goto L107; }
-if (l7 > l17) { goto L108; }
+if (l15 != 0ull) { goto L105; }
+if (l7 > l17) { goto L106; }
 l14 = l9;
-goto L106;
-L108:;
+goto L104;
+L106:;
 l14 = (l16 ^ 18446744073709551615ull) + l7;
 l3 = (l6 + (l9 * 72ull)) + 24ull;
-L110:;
-if (get8(b, l3) >= 2u) { goto L109; }
+L108:;
+if (get8(b, l3) >= 2u) { goto L107; }
 l3 = l3 + 24ull;
 l14 = l14 + 18446744073709551615ull;
-if (!(u32)(!l14)) { goto L110; }
+if (!(u32)(!l14)) { goto L108; }
 l14 = l9;
-goto L106;
-L109:;
+goto L104;
+L107:;
 l14 = 0ull;
-L106:;
-l13 = get64(b, l4 + 1328);
-if (l13 > (l14 ^ 18446744073709551615ull)) { goto L99; }
+L104:;
+l13 = get64(b, l4 + 1296);
+if (l13 > (l14 ^ 18446744073709551615ull)) { goto L97; }
 l3 = l13;
-if (get64(b, l4 + 1360) != get64(b, l4 + 1352)) { goto L111; }
-t4 = f425(b, l4 + 1344ull);
-if (!t4) { goto L99; }
-l3 = get64(b, l4 + 1328);
-L111:;
+if (get64(b, l4 + 1328) != get64(b, l4 + 1320)) { goto L109; }
+t4 = f423(b, l4 + 1312ull);
+if (!t4) { goto L97; }
+l3 = get64(b, l4 + 1296);
+L109:;
 l14 = l13 + l14;
-if (l14 > l3) { goto L112; }
-if (l14 >= l3) { goto L97; }
-put64(b, l4 + 1328, l14);
-goto L97;
-L112:;
+if (l14 > l3) { goto L110; }
+if (l14 >= l3) { goto L95; }
+put64(b, l4 + 1296, l14);
+goto L95;
+L110:;
 l13 = l14 - l3;
-l7 = get64(b, l4 + 1336);
-if (l13 <= (l7 - l3)) { goto L113; }
-t5 = f426(b, l4 + 1320ull, l13);
-if (!t5) { goto L99; }
-l7 = get64(b, l4 + 1336);
-l3 = get64(b, l4 + 1328);
-L113:;
+l7 = get64(b, l4 + 1304);
+if (l13 <= (l7 - l3)) { goto L111; }
+t5 = f424(b, l4 + 1288ull, l13);
+if (!t5) { goto L97; }
+l7 = get64(b, l4 + 1304);
+l3 = get64(b, l4 + 1296);
+L111:;
 l12 = l3 + l13;
-if (l3 >= l12) { goto L114; }
-if (!l13) { goto L114; }
-fill(b, get64(b, l4 + 1320) + l3, 0u, l13);
-L114:;
-put64(b, l4 + 1336, l7);
-put64(b, l4 + 1328, l12);
-goto L97;
-L100:;
-l3 = get64(b, l4 + 1312);
-l14 = get64(b, l4 + 1296);
-if (!get64(b, l4 + 1288)) { goto L115; }
-rattle_dealloc(b, get64(b, l4 + 1272));
-L115:;
-if (!l3) { goto L116; }
-rattle_dealloc(b, l14);
-L116:;
-l3 = get64(b, l4 + 1360);
-l14 = get64(b, l4 + 1344);
-if (!get64(b, l4 + 1336)) { goto L117; }
-rattle_dealloc(b, get64(b, l4 + 1320));
-L117:;
-if (!l3) { goto L98; }
-rattle_dealloc(b, l14);
-goto L98;
-L99:;
-l3 = get64(b, l4 + 1312);
-l14 = get64(b, l4 + 1296);
-if (!get64(b, l4 + 1288)) { goto L118; }
-rattle_dealloc(b, get64(b, l4 + 1272));
-L118:;
-if (!l3) { goto L119; }
-rattle_dealloc(b, l14);
-L119:;
-l3 = get64(b, l4 + 1360);
-l14 = get64(b, l4 + 1344);
-if (!get64(b, l4 + 1336)) { goto L120; }
-rattle_dealloc(b, get64(b, l4 + 1320));
-L120:;
-if (!l3) { goto L98; }
-rattle_dealloc(b, l14);
+if (l3 >= l12) { goto L112; }
+if (!l13) { goto L112; }
+fill(b, get64(b, l4 + 1288) + l3, 0u, l13);
+L112:;
+put64(b, l4 + 1304, l7);
+put64(b, l4 + 1296, l12);
+goto L95;
 L98:;
-put64(b, l4 + 1296, get64(b, l4 + 464));
-put64(b, l4 + 1288, get64(b, l4 + 456));
-put64(b, l4 + 1280, get64(b, l4 + 448));
-put64(b, l4 + 1272, get64(b, l4 + 440));
-if (!l20) { goto L121; }
-rattle_dealloc(b, l25);
-L121:;
-f427(b, l4 + 1280ull);
-if (!l22) { goto L122; }
-rattle_dealloc(b, l21);
-L122:;
-l3 = l23;
-L123:;
-put64(b, l4 + 600, get64(b, l3 + 16));
-put64(b, l4 + 592, get64(b, l3 + 8));
-put64(b, l4 + 584, get64(b, l3));
-l3 = l3 + 24ull;
-f427(b, l4 + 584ull);
-l8 = l8 + 18446744073709551615ull;
-if (l8 != 0ull) { goto L123; }
-if (!l24) { goto L89; }
-rattle_dealloc(b, l23);
-goto L89;
+l3 = get64(b, l4 + 1280);
+l14 = get64(b, l4 + 1264);
+if (!get64(b, l4 + 1256)) { goto L113; }
+rattle_dealloc(b, get64(b, l4 + 1240));
+L113:;
+if (!l3) { goto L114; }
+rattle_dealloc(b, l14);
+L114:;
+l3 = get64(b, l4 + 1328);
+l14 = get64(b, l4 + 1312);
+if (!get64(b, l4 + 1304)) { goto L115; }
+rattle_dealloc(b, get64(b, l4 + 1288));
+L115:;
+if (!l3) { goto L96; }
+rattle_dealloc(b, l14);
+goto L96;
 L97:;
-l17 = get64(b, l4 + 1344);
-l3 = get64(b, l4 + 1352);
+l3 = get64(b, l4 + 1280);
+l14 = get64(b, l4 + 1264);
+if (!get64(b, l4 + 1256)) { goto L116; }
+rattle_dealloc(b, get64(b, l4 + 1240));
+L116:;
+if (!l3) { goto L117; }
+rattle_dealloc(b, l14);
+L117:;
+l3 = get64(b, l4 + 1328);
+l14 = get64(b, l4 + 1312);
+if (!get64(b, l4 + 1304)) { goto L118; }
+rattle_dealloc(b, get64(b, l4 + 1288));
+L118:;
+if (!l3) { goto L96; }
+rattle_dealloc(b, l14);
+L96:;
+put64(b, l4 + 1264, get64(b, l4 + 432));
+put64(b, l4 + 1256, get64(b, l4 + 424));
+put64(b, l4 + 1248, get64(b, l4 + 416));
+put64(b, l4 + 1240, get64(b, l4 + 408));
+if (!l20) { goto L119; }
+rattle_dealloc(b, l25);
+L119:;
+f425(b, l4 + 1248ull);
+if (!l22) { goto L120; }
+rattle_dealloc(b, l21);
+L120:;
+l3 = l23;
+L121:;
+put64(b, l4 + 568, get64(b, l3 + 16));
+put64(b, l4 + 560, get64(b, l3 + 8));
+put64(b, l4 + 552, get64(b, l3));
+l3 = l3 + 24ull;
+f425(b, l4 + 552ull);
+l8 = l8 + 18446744073709551615ull;
+if (l8 != 0ull) { goto L121; }
+if (!l24) { goto L87; }
+rattle_dealloc(b, l23);
+goto L87;
+L95:;
+l17 = get64(b, l4 + 1312);
+l3 = get64(b, l4 + 1320);
 put64(b, l17 + (l3 << 3), l14);
 l16 = l3 + 1ull;
-put64(b, l4 + 1352, l16);
+put64(b, l4 + 1320, l16);
 l5 = l5 + 1ull;
-if (l5 != l11) { goto L95; }
-put64(b, l4 + 2136, get64(b, l19));
-put64(b, l4 + 2144, get64(b, l19 + 8));
-put64(b, l4 + 2120, get64(b, l10));
-put64(b, l4 + 2128, get64(b, l10 + 8));
-l32 = get64(b, l4 + 1360);
-l31 = get64(b, l4 + 1320);
-l30 = get64(b, l4 + 1312);
-l28 = get64(b, l4 + 1304);
-l19 = get64(b, l4 + 1296);
-l29 = get64(b, l4 + 1272);
+if (l5 != l11) { goto L93; }
+put64(b, l4 + 2072, get64(b, l19));
+put64(b, l4 + 2080, get64(b, l19 + 8));
+put64(b, l4 + 2056, get64(b, l10));
+put64(b, l4 + 2064, get64(b, l10 + 8));
+l32 = get64(b, l4 + 1328);
+l31 = get64(b, l4 + 1288);
+l30 = get64(b, l4 + 1280);
+l28 = get64(b, l4 + 1272);
+l19 = get64(b, l4 + 1264);
+l29 = get64(b, l4 + 1240);
 l9 = 0ull;
-L124:;
+L122:;
 l3 = l9 & 2147483647ull;
 if (l11 <= l3) { goto L4; }
 l14 = get64(b, l21 + (l3 * 120ull));
 if (!l14) { goto L4; }
 if (l8 <= l3) { goto L4; }
-put64(b, l4 + 1288, 0ull);
-put64(b, l4 + 1280, 0ull);
-put64(b, l4 + 1272, 0ull);
-if (l14 != 508ull) { goto L125; }
-f100(b, l4 + 1272ull, l23 + (l3 * 24ull));
-if (get8(b, l4 + 1272) != 1u) { goto L125; }
-l7 = get64(b, l4 + 1288);
-if (!l7) { goto L125; }
-l15 = get64(b, l4 + 1280);
+put64(b, l4 + 1256, 0ull);
+put64(b, l4 + 1248, 0ull);
+put64(b, l4 + 1240, 0ull);
+if (l14 != 508ull) { goto L123; }
+f100(b, l4 + 1240ull, l23 + (l3 * 24ull));
+if (get8(b, l4 + 1240) != 1u) { goto L123; }
+l7 = get64(b, l4 + 1256);
+if (!l7) { goto L123; }
+l15 = get64(b, l4 + 1248);
 l12 = 1ull;
-L126:;
+L124:;
 l5 = get64(b, l15 + 8ull);
 l3 = l12;
 l12 = l3 + 4ull;
-if (l5 <= l12) { goto L127; }
+if (l5 <= l12) { goto L125; }
 l14 = 0ull;
 l13 = get64(b, l15) + (l12 * 24ull);
-if (get8(b, l13) != 1u) { goto L128; }
+if (get8(b, l13) != 1u) { goto L126; }
 l14 = get64(b, l13 + 8ull);
 l14 = (((s64)l14 > (s64)0ull) ? l14 : 0ull) << 1;
-L128:;
+L126:;
 l12 = (l3 + l14) + 5ull;
-L127:;
+L125:;
 l7 = l7 + 18446744073709551615ull;
-if (l5 <= l3) { goto L130; }
+if (l5 <= l3) { goto L128; }
 l13 = get64(b, l15);
 l14 = l13 + (l3 * 24ull);
-if (get8(b, l14) != 1u) { goto L130; }
-if (get64(b, l14 + 8ull) != 1ull) { goto L130; }
+if (get8(b, l14) != 1u) { goto L128; }
+if (get64(b, l14 + 8ull) != 1ull) { goto L128; }
 l6 = 0ull;
 l14 = 0ull;
 l10 = l3 + 1ull;
-if (l5 <= l10) { goto L131; }
+if (l5 <= l10) { goto L129; }
 l14 = 0ull;
 l10 = l13 + (l10 * 24ull);
-if (get8(b, l10) != 1u) { goto L131; }
+if (get8(b, l10) != 1u) { goto L129; }
 l14 = get64(b, l10 + 8ull);
-L131:;
+L129:;
 l3 = l3 + 2ull;
-if (l5 <= l3) { goto L132; }
+if (l5 <= l3) { goto L130; }
 l3 = l13 + (l3 * 24ull);
-if (get8(b, l3) != 1u) { goto L132; }
+if (get8(b, l3) != 1u) { goto L130; }
 l6 = get64(b, l3 + 8ull);
-L132:;
-if ((s64)(l6 | l14) < (s64)0ull) { goto L129; }
+L130:;
+if ((s64)(l6 | l14) < (s64)0ull) { goto L127; }
 l3 = ((s64)l14 < (s64)0ull) ? 0ull : ((l14 >> 63) ^ l14);
-if (!(l3 & 1ull)) { goto L129; }
+if (!(l3 & 1ull)) { goto L127; }
 l14 = ((s64)l6 < (s64)0ull) ? 0ull : ((l6 >> 63) ^ l6);
-if (!l14) { goto L129; }
+if (!l14) { goto L127; }
 l3 = l3 >> 1;
-if (l16 <= l3) { goto L129; }
+if (l16 <= l3) { goto L127; }
 l14 = l14 + 18446744073709551615ull;
-if (!(u32)(!l3)) { goto L134; }
+if (!(u32)(!l3)) { goto L132; }
 l5 = 0ull;
 l3 = 0ull;
-goto L133;
-L134:;
+goto L131;
+L132:;
 l5 = l3 << 3;
 l3 = get64(b, (l17 + l5) + 18446744073709551608ull);
-L133:;
-if (l14 >= (get64(b, l17 + l5) - l3)) { goto L129; }
+L131:;
+if (l14 >= (get64(b, l17 + l5) - l3)) { goto L127; }
 put8(b, (l31 + l3) + l14, 1u);
-goto L129;
-L130:;
+goto L127;
+L128:;
 l13 = 0ull;
 l14 = 0ull;
 l6 = l3 + 1ull;
-if (l5 <= l6) { goto L135; }
+if (l5 <= l6) { goto L133; }
 l14 = 0ull;
 l6 = get64(b, l15) + (l6 * 24ull);
-if (get8(b, l6) != 1u) { goto L135; }
+if (get8(b, l6) != 1u) { goto L133; }
 l14 = get64(b, l6 + 8ull);
-L135:;
+L133:;
 l3 = l3 + 2ull;
-if (l5 <= l3) { goto L136; }
+if (l5 <= l3) { goto L134; }
 l3 = get64(b, l15) + (l3 * 24ull);
-if (get8(b, l3) != 1u) { goto L136; }
+if (get8(b, l3) != 1u) { goto L134; }
 l13 = get64(b, l3 + 8ull);
-L136:;
-if ((s64)(l13 | l14) < (s64)0ull) { goto L129; }
+L134:;
+if ((s64)(l13 | l14) < (s64)0ull) { goto L127; }
 l3 = ((s64)l14 < (s64)0ull) ? 0ull : ((l14 >> 63) ^ l14);
-if (!(l3 & 1ull)) { goto L129; }
+if (!(l3 & 1ull)) { goto L127; }
 l14 = ((s64)l13 < (s64)0ull) ? 0ull : ((l13 >> 63) ^ l13);
-if (!l14) { goto L129; }
+if (!l14) { goto L127; }
 l3 = l3 >> 1;
-if (l28 <= l3) { goto L129; }
+if (l28 <= l3) { goto L127; }
 l14 = l14 + 18446744073709551615ull;
-if (!(u32)(!l3)) { goto L138; }
+if (!(u32)(!l3)) { goto L136; }
 l5 = 0ull;
 l3 = 0ull;
-goto L137;
-L138:;
+goto L135;
+L136:;
 l5 = l3 << 3;
 l3 = get64(b, (l19 + l5) + 18446744073709551608ull);
-L137:;
-if (l14 >= (get64(b, l19 + l5) - l3)) { goto L129; }
+L135:;
+if (l14 >= (get64(b, l19 + l5) - l3)) { goto L127; }
 put8(b, (l29 + l3) + l14, 1u);
-L129:;
-if (l7 != 0ull) { goto L126; }
-L125:;
+L127:;
+if (l7 != 0ull) { goto L124; }
+L123:;
 l9 = l9 + 1ull;
-if (l9 != l11) { goto L124; }
+if (l9 != l11) { goto L122; }
 l18 = 0ull;
-L139:;
+L137:;
 l3 = l18 & 2147483647ull;
 if (l11 <= l3) { goto L4; }
 l14 = get64(b, l21 + (l3 * 120ull));
 if (!l14) { goto L4; }
 if (l8 <= l3) { goto L4; }
 l5 = 0ull;
-if (!l18) { goto L140; }
+if (!l18) { goto L138; }
 l5 = get64(b, (l19 + (l18 << 3)) + 18446744073709551608ull);
-L140:;
-put64(b, l4 + 1288, 0ull);
-put64(b, l4 + 1280, 0ull);
-put64(b, l4 + 1272, 0ull);
-if (l14 != 504ull) { goto L141; }
-f103(b, l4 + 1272ull, l23 + (l3 * 24ull));
-if (get8(b, l4 + 1272) != 1u) { goto L141; }
-l10 = get64(b, l4 + 1288);
-if (!l10) { goto L141; }
+L138:;
+put64(b, l4 + 1256, 0ull);
+put64(b, l4 + 1248, 0ull);
+put64(b, l4 + 1240, 0ull);
+if (l14 != 504ull) { goto L139; }
+f103(b, l4 + 1240ull, l23 + (l3 * 24ull));
+if (get8(b, l4 + 1240) != 1u) { goto L139; }
+l10 = get64(b, l4 + 1256);
+if (!l10) { goto L139; }
 l7 = l29 + l5;
-l12 = get64(b, l4 + 1280);
+l12 = get64(b, l4 + 1248);
 l14 = 0ull;
 l3 = 5ull;
-L142:;
+L140:;
 l13 = 0ull;
 l5 = get64(b, l12 + 8ull);
-if (l5 <= (l3 + 18446744073709551613ull)) { goto L143; }
+if (l5 <= (l3 + 18446744073709551613ull)) { goto L141; }
 l13 = 0ull;
 l15 = get64(b, l12) + l14;
-if (get8(b, l15 + 48ull) != 1u) { goto L143; }
+if (get8(b, l15 + 48ull) != 1u) { goto L141; }
 l13 = get64(b, l15 + 56ull);
-L143:;
+L141:;
 l6 = 0ull;
 l15 = 0ull;
-if (l5 <= (l3 + 18446744073709551614ull)) { goto L144; }
+if (l5 <= (l3 + 18446744073709551614ull)) { goto L142; }
 l15 = 0ull;
 l9 = get64(b, l12) + l14;
-if (get8(b, l9 + 72ull) != 1u) { goto L144; }
+if (get8(b, l9 + 72ull) != 1u) { goto L142; }
 l15 = get64(b, l9 + 80ull);
-L144:;
-if (l5 <= (l3 + 18446744073709551615ull)) { goto L145; }
+L142:;
+if (l5 <= (l3 + 18446744073709551615ull)) { goto L143; }
 l9 = get64(b, l12) + l14;
-if (get8(b, l9 + 96ull) != 1u) { goto L145; }
+if (get8(b, l9 + 96ull) != 1u) { goto L143; }
 l6 = get64(b, l9 + 104ull);
-L145:;
+L143:;
 l9 = 0ull;
-if (l5 <= l3) { goto L146; }
+if (l5 <= l3) { goto L144; }
 l5 = get64(b, l12) + l14;
-if (get8(b, l5 + 120ull) != 1u) { goto L146; }
+if (get8(b, l5 + 120ull) != 1u) { goto L144; }
 l9 = get64(b, l5 + 128ull);
-L146:;
-if (get8(b, l7) != 1u) { goto L147; }
-if ((s64)(l15 | l13) < (s64)0ull) { goto L148; }
+L144:;
+if (get8(b, l7) != 1u) { goto L145; }
+if ((s64)(l15 | l13) < (s64)0ull) { goto L146; }
 l5 = ((s64)l13 < (s64)0ull) ? 0ull : ((l13 >> 63) ^ l13);
-if (!(l5 & 1ull)) { goto L148; }
+if (!(l5 & 1ull)) { goto L146; }
 l13 = ((s64)l15 < (s64)0ull) ? 0ull : ((l15 >> 63) ^ l15);
-if (!l13) { goto L148; }
+if (!l13) { goto L146; }
 l5 = l5 >> 1;
-if (l16 <= l5) { goto L148; }
+if (l16 <= l5) { goto L146; }
+l13 = l13 + 18446744073709551615ull;
+if (!(u32)(!l5)) { goto L148; }
+l15 = 0ull;
+l5 = 0ull;
+goto L147;
+L148:;
+l15 = l5 << 3;
+l5 = get64(b, (l17 + l15) + 18446744073709551608ull);
+L147:;
+if (l13 >= (get64(b, l17 + l15) - l5)) { goto L146; }
+put8(b, (l31 + l5) + l13, 1u);
+L146:;
+if ((s64)(l9 | l6) < (s64)0ull) { goto L145; }
+l5 = ((s64)l6 < (s64)0ull) ? 0ull : ((l6 >> 63) ^ l6);
+if (!(l5 & 1ull)) { goto L145; }
+l13 = ((s64)l9 < (s64)0ull) ? 0ull : ((l9 >> 63) ^ l9);
+if (!l13) { goto L145; }
+l5 = l5 >> 1;
+if (l16 <= l5) { goto L145; }
 l13 = l13 + 18446744073709551615ull;
 if (!(u32)(!l5)) { goto L150; }
 l15 = 0ull;
@@ -79077,187 +79340,168 @@ L150:;
 l15 = l5 << 3;
 l5 = get64(b, (l17 + l15) + 18446744073709551608ull);
 L149:;
-if (l13 >= (get64(b, l17 + l15) - l5)) { goto L148; }
+if (l13 >= (get64(b, l17 + l15) - l5)) { goto L145; }
 put8(b, (l31 + l5) + l13, 1u);
-L148:;
-if ((s64)(l9 | l6) < (s64)0ull) { goto L147; }
-l5 = ((s64)l6 < (s64)0ull) ? 0ull : ((l6 >> 63) ^ l6);
-if (!(l5 & 1ull)) { goto L147; }
-l13 = ((s64)l9 < (s64)0ull) ? 0ull : ((l9 >> 63) ^ l9);
-if (!l13) { goto L147; }
-l5 = l5 >> 1;
-if (l16 <= l5) { goto L147; }
-l13 = l13 + 18446744073709551615ull;
-if (!(u32)(!l5)) { goto L152; }
-l15 = 0ull;
-l5 = 0ull;
-goto L151;
-L152:;
-l15 = l5 << 3;
-l5 = get64(b, (l17 + l15) + 18446744073709551608ull);
-L151:;
-if (l13 >= (get64(b, l17 + l15) - l5)) { goto L147; }
-put8(b, (l31 + l5) + l13, 1u);
-L147:;
+L145:;
 l3 = l3 + 5ull;
 l14 = l14 + 120ull;
 l7 = l7 + 1ull;
 l10 = l10 + 18446744073709551615ull;
-if (l10 != 0ull) { goto L142; }
-L141:;
+if (l10 != 0ull) { goto L140; }
+L139:;
 l18 = l18 + 1ull;
-if (l18 != l11) { goto L139; }
-L93:;
-l3 = get64(b, l4 + 2144);
-put64(b, l4 + 1984, l3);
-l14 = get64(b, l4 + 2136);
-put64(b, l4 + 1976, l14);
-l5 = get64(b, l4 + 2120);
-put64(b, l4 + 1960, l5);
-l13 = get64(b, l4 + 2128);
-put64(b, l4 + 1968, l13);
-put64(b, l4 + 2024, l29);
-put64(b, l4 + 2032, l14);
-put64(b, l4 + 2040, l3);
-put64(b, l4 + 2072, l31);
-put64(b, l4 + 2064, l30);
-put64(b, l4 + 2048, l19);
-put64(b, l4 + 2056, l28);
-put64(b, l4 + 2088, l13);
-put64(b, l4 + 2080, l5);
-put64(b, l4 + 2112, l32);
-put64(b, l4 + 2104, l16);
-put64(b, l4 + 2096, l17);
-fill(b, l4 + 584ull, 0u, 120u);
-if (!l28) { goto L154; }
+if (l18 != l11) { goto L137; }
+L91:;
+l3 = get64(b, l4 + 2080);
+put64(b, l4 + 1952, l3);
+l14 = get64(b, l4 + 2072);
+put64(b, l4 + 1944, l14);
+l5 = get64(b, l4 + 2056);
+put64(b, l4 + 1928, l5);
+l13 = get64(b, l4 + 2064);
+put64(b, l4 + 1936, l13);
+put64(b, l4 + 1960, l29);
+put64(b, l4 + 1968, l14);
+put64(b, l4 + 1976, l3);
+put64(b, l4 + 2008, l31);
+put64(b, l4 + 2000, l30);
+put64(b, l4 + 1984, l19);
+put64(b, l4 + 1992, l28);
+put64(b, l4 + 2024, l13);
+put64(b, l4 + 2016, l5);
+put64(b, l4 + 2048, l32);
+put64(b, l4 + 2040, l16);
+put64(b, l4 + 2032, l17);
+fill(b, l4 + 552ull, 0u, 120u);
+if (!l28) { goto L152; }
 l6 = 0ull;
-L155:;
+L153:;
 l3 = 0ull;
 l15 = 0ull;
-if (!l6) { goto L156; }
+if (!l6) { goto L154; }
 l3 = l6 << 3;
 l15 = get64(b, (l19 + l3) + 18446744073709551608ull);
-L156:;
+L154:;
 l14 = get64(b, l19 + l3);
-if (l14 == l15) { goto L157; }
+if (l14 == l15) { goto L155; }
 l9 = l14 - l15;
 l5 = l9 & 3ull;
 l3 = 0ull;
 l13 = 0ull;
-if ((l15 - l14) > 18446744073709551612ull) { goto L159; }
+if ((l15 - l14) > 18446744073709551612ull) { goto L157; }
 l7 = l29 + l15;
 l12 = l9 & 18446744073709551612ull;
 l3 = 0ull;
 l13 = 0ull;
-L160:;
+L158:;
 l14 = l7 + l13;
 l3 = (((l3 + (u64)get8(b, l14)) + (u64)get8(b, l14 + 1ull)) + (u64)get8(b, l14 + 2ull)) + (u64)get8(b, l14 + 3ull);
 l13 = l13 + 4ull;
-if (l12 != l13) { goto L160; }
-if (!l5) { goto L158; }
-L159:;
+if (l12 != l13) { goto L158; }
+if (!l5) { goto L156; }
+L157:;
 l14 = l29 + (l15 + l13);
-L161:;
+L159:;
 l3 = l3 + (u64)get8(b, l14);
 l14 = l14 + 1ull;
 l5 = l5 + 18446744073709551615ull;
-if (l5 != 0ull) { goto L161; }
-L158:;
-if (l3 != l9) { goto L153; }
-L157:;
+if (l5 != 0ull) { goto L159; }
+L156:;
+if (l3 != l9) { goto L151; }
+L155:;
 l6 = l6 + 1ull;
-if (l6 != l28) { goto L155; }
-L154:;
-if (!l16) { goto L162; }
+if (l6 != l28) { goto L153; }
+L152:;
+if (!l16) { goto L160; }
 l6 = 0ull;
-L163:;
+L161:;
 l3 = 0ull;
 l15 = 0ull;
-if (!l6) { goto L164; }
+if (!l6) { goto L162; }
 l3 = l6 << 3;
 l15 = get64(b, (l17 + l3) + 18446744073709551608ull);
-L164:;
+L162:;
 l14 = get64(b, l17 + l3);
-if (l14 == l15) { goto L165; }
+if (l14 == l15) { goto L163; }
 l9 = l14 - l15;
 l5 = l9 & 3ull;
 l3 = 0ull;
 l13 = 0ull;
-if ((l15 - l14) > 18446744073709551612ull) { goto L167; }
+if ((l15 - l14) > 18446744073709551612ull) { goto L165; }
 l7 = l31 + l15;
 l12 = l9 & 18446744073709551612ull;
 l3 = 0ull;
 l13 = 0ull;
-L168:;
+L166:;
 l14 = l7 + l13;
 l3 = (((l3 + (u64)get8(b, l14)) + (u64)get8(b, l14 + 1ull)) + (u64)get8(b, l14 + 2ull)) + (u64)get8(b, l14 + 3ull);
 l13 = l13 + 4ull;
-if (l12 != l13) { goto L168; }
-if (!l5) { goto L166; }
-L167:;
+if (l12 != l13) { goto L166; }
+if (!l5) { goto L164; }
+L165:;
 l14 = l31 + (l15 + l13);
-L169:;
+L167:;
 l3 = l3 + (u64)get8(b, l14);
 l14 = l14 + 1ull;
 l5 = l5 + 18446744073709551615ull;
-if (l5 != 0ull) { goto L169; }
-L166:;
-if (l3 != l9) { goto L153; }
-L165:;
+if (l5 != 0ull) { goto L167; }
+L164:;
+if (l3 != l9) { goto L151; }
+L163:;
 l6 = l6 + 1ull;
-if (l6 != l16) { goto L163; }
-L162:;
-put64(b, l4 + 2016, get64(b, l4 + 144));
-put64(b, l4 + 2008, get64(b, l4 + 136));
-put64(b, l4 + 2000, get64(b, l4 + 128));
-put64(b, l4 + 1992, get64(b, l4 + 120));
+if (l6 != l16) { goto L161; }
+L160:;
+put64(b, l4 + 144, get64(b, l4 + 224));
+put64(b, l4 + 136, get64(b, l4 + 216));
+put64(b, l4 + 128, get64(b, l4 + 208));
+put64(b, l4 + 120, get64(b, l4 + 200));
 l1 = 1u;
-goto L90;
-L153:;
-put64(b, l4 + 2152, l20);
-put64(b, l4 + 2144, l26);
-put64(b, l4 + 2136, l25);
-put64(b, l4 + 2160, get64(b, l4 + 120));
-put64(b, l4 + 2168, get64(b, l4 + 128));
-put64(b, l4 + 2176, get64(b, l4 + 136));
-put64(b, l4 + 2184, get64(b, l4 + 144));
-put64(b, l4 + 2240, l27);
-put64(b, l4 + 2232, l24);
-put64(b, l4 + 2224, l8);
-put64(b, l4 + 2216, l23);
-put64(b, l4 + 2208, l22);
-put64(b, l4 + 2200, l11);
-put64(b, l4 + 2192, l21);
-f428(b, l4 + 584ull, l4 + 2136ull, l4 + 2024ull);
-if (get8(b, l4 + 584)) { goto L170; }
+goto L88;
+L151:;
+put64(b, l4 + 2088, l20);
+put64(b, l4 + 2080, l26);
+put64(b, l4 + 2072, l25);
+put64(b, l4 + 2096, get64(b, l4 + 200));
+put64(b, l4 + 2104, get64(b, l4 + 208));
+put64(b, l4 + 2112, get64(b, l4 + 216));
+put64(b, l4 + 2120, get64(b, l4 + 224));
+put64(b, l4 + 2176, l27);
+put64(b, l4 + 2168, l24);
+put64(b, l4 + 2160, l8);
+put64(b, l4 + 2152, l23);
+put64(b, l4 + 2144, l22);
+put64(b, l4 + 2136, l11);
+put64(b, l4 + 2128, l21);
+f426(b, l4 + 552ull, l4 + 2072ull, l4 + 1960ull);
+if (get8(b, l4 + 552)) { goto L168; }
 l2 = 0u;
-fill(b, l4 + 1272ull, 0u, 128u);
-f32(b, l4 + 1272ull, l4 + 592ull, l1);
-if (get8(b, l4 + 1272)) { goto L171; }
-put64(b, l4 + 1992, get64(b, l4 + 1304));
-put64(b, l4 + 2000, get64(b, l4 + 1312));
-put64(b, l4 + 2008, get64(b, l4 + 1320));
-put64(b, l4 + 2016, get64(b, l4 + 1328));
-l36 = get16(b, l4 + 1285) | (get8(b, l4 + 1287ull) << 16);
-l20 = get64(b, l4 + 1296);
-l26 = get64(b, l4 + 1288);
-l38 = get32(b, l4 + 1280);
-l2 = get8(b, l4 + 1284);
-l21 = get64(b, l4 + 1336);
-l11 = get64(b, l4 + 1344);
-l22 = get64(b, l4 + 1352);
-l23 = get64(b, l4 + 1360);
-l8 = get64(b, l4 + 1368);
-l24 = get64(b, l4 + 1376);
-l27 = get64(b, l4 + 1384);
+fill(b, l4 + 1240ull, 0u, 128u);
+f32(b, l4 + 1240ull, l4 + 560ull, l1);
+if (get8(b, l4 + 1240)) { goto L169; }
+put64(b, l4 + 120, get64(b, l4 + 1272));
+put64(b, l4 + 128, get64(b, l4 + 1280));
+put64(b, l4 + 136, get64(b, l4 + 1288));
+put64(b, l4 + 144, get64(b, l4 + 1296));
+l36 = get16(b, l4 + 1253) | (get8(b, l4 + 1255ull) << 16);
+l20 = get64(b, l4 + 1264);
+l26 = get64(b, l4 + 1256);
+l38 = get32(b, l4 + 1248);
+l2 = get8(b, l4 + 1252);
+l21 = get64(b, l4 + 1304);
+l11 = get64(b, l4 + 1312);
+l22 = get64(b, l4 + 1320);
+l23 = get64(b, l4 + 1328);
+l8 = get64(b, l4 + 1336);
+l24 = get64(b, l4 + 1344);
+l27 = get64(b, l4 + 1352);
 l1 = 1u;
-goto L90;
-L171:;
+goto L88;
+L169:;
 l23 = 0ull;
-put64(b, l4 + 1992, 0ull);
-put64(b, l4 + 2000, 0ull);
-put64(b, l4 + 2008, 0ull);
-put64(b, l4 + 2016, 0ull);
+put64(b, l4 + 120, 0ull);
+put64(b, l4 + 128, 0ull);
+put64(b, l4 + 136, 0ull);
+put64(b, l4 + 144, 0ull);
 l36 = 0u;
 l26 = 0ull;
 l20 = 0ull;
@@ -79269,13 +79513,13 @@ l24 = 0ull;
 l27 = 0ull;
 l1 = 0u;
 l38 = 0u;
-goto L90;
-L170:;
+goto L88;
+L168:;
 l26 = 0ull;
-put64(b, l4 + 2016, 0ull);
-put64(b, l4 + 2008, 0ull);
-put64(b, l4 + 2000, 0ull);
-put64(b, l4 + 1992, 0ull);
+put64(b, l4 + 144, 0ull);
+put64(b, l4 + 136, 0ull);
+put64(b, l4 + 128, 0ull);
+put64(b, l4 + 120, 0ull);
 l36 = 0u;
 l20 = 0ull;
 l21 = 0ull;
@@ -79288,625 +79532,628 @@ l27 = 0ull;
 l1 = 0u;
 l38 = 0u;
 l2 = 0u;
-goto L90;
-L92:;
-l1 = get8(b, l4 + 1276) & 255u;
+goto L88;
+L90:;
+l1 = get8(b, l4 + 1244) & 255u;
 l34 = l1 ? 2u : 0u;
 l35 = l1 ? 0u : l2;
 l2 = l1 ? 0u : l38;
-goto L88;
-L91:;
-put64(b, l4 + 1296, get64(b, l4 + 464));
-put64(b, l4 + 1288, get64(b, l4 + 456));
-put64(b, l4 + 1280, get64(b, l4 + 448));
-put64(b, l4 + 1272, get64(b, l4 + 440));
-if (!l20) { goto L172; }
+goto L86;
+L89:;
+put64(b, l4 + 1264, get64(b, l4 + 432));
+put64(b, l4 + 1256, get64(b, l4 + 424));
+put64(b, l4 + 1248, get64(b, l4 + 416));
+put64(b, l4 + 1240, get64(b, l4 + 408));
+if (!l20) { goto L170; }
 rattle_dealloc(b, l25);
-L172:;
-f427(b, l4 + 1280ull);
-if (!l22) { goto L173; }
+L170:;
+f425(b, l4 + 1248ull);
+if (!l22) { goto L171; }
 rattle_dealloc(b, l21);
-L173:;
-if (!l8) { goto L174; }
+L171:;
+if (!l8) { goto L172; }
 l3 = l23;
-L175:;
-put64(b, l4 + 600, get64(b, l3 + 16));
-put64(b, l4 + 592, get64(b, l3 + 8));
-put64(b, l4 + 584, get64(b, l3));
+L173:;
+put64(b, l4 + 568, get64(b, l3 + 16));
+put64(b, l4 + 560, get64(b, l3 + 8));
+put64(b, l4 + 552, get64(b, l3));
 l3 = l3 + 24ull;
-f427(b, l4 + 584ull);
+f425(b, l4 + 552ull);
 l8 = l8 + 18446744073709551615ull;
-if (l8 != 0ull) { goto L175; }
-L174:;
-if (!l24) { goto L176; }
+if (l8 != 0ull) { goto L173; }
+L172:;
+if (!l24) { goto L174; }
 rattle_dealloc(b, l23);
-L176:;
-if (l35) { goto L177; }
+L174:;
+if (l35) { goto L175; }
 l34 = 2u;
 l38 = 0u;
 l1 = 0u;
 l2 = 0u;
 l35 = 0u;
-goto L87;
-L177:;
+goto L85;
+L175:;
 l35 = (u32)(l14 >> 32);
 l38 = l35 & 4294967040u;
 l2 = (u32)l14;
 l34 = 1u;
-goto L87;
-L90:;
-l3 = get64(b, l4 + 2088);
-if (!get64(b, l4 + 2040)) { goto L178; }
+goto L85;
+L88:;
+l3 = get64(b, l4 + 2024);
+if (!get64(b, l4 + 1976)) { goto L176; }
 rattle_dealloc(b, l29);
-L178:;
-if (!l30) { goto L179; }
+L176:;
+if (!l30) { goto L177; }
 rattle_dealloc(b, l19);
-L179:;
-if (!l3) { goto L180; }
+L177:;
+if (!l3) { goto L178; }
 rattle_dealloc(b, l31);
-L180:;
-if (!l32) { goto L181; }
+L178:;
+if (!l32) { goto L179; }
 rattle_dealloc(b, l17);
-L181:;
-put64(b, l4 + 432, get64(b, l4 + 2016));
-put64(b, l4 + 424, get64(b, l4 + 2008));
-put64(b, l4 + 416, get64(b, l4 + 2000));
-put64(b, l4 + 408, get64(b, l4 + 1992));
-if (!l1) { goto L89; }
-put64(b, l4 + 312, get64(b, l4 + 408));
-put64(b, l4 + 320, get64(b, l4 + 416));
-put64(b, l4 + 328, get64(b, l4 + 424));
-put64(b, l4 + 336, get64(b, l4 + 432));
-put32(b, l4 + 200, l38);
-put64(b, l4 + 208, l26);
-put64(b, l4 + 216, l20);
-put8(b, l4 + 204, l2);
-put16(b, l4 + 205, l36);
-put8(b, l4 + 207, l36 >> 16);
-put64(b, l4 + 248, get64(b, l4 + 336));
-put64(b, l4 + 240, get64(b, l4 + 328));
-put64(b, l4 + 232, get64(b, l4 + 320));
-put64(b, l4 + 224, get64(b, l4 + 312));
-put64(b, l4 + 304, l27);
-put64(b, l4 + 296, l24);
-put64(b, l4 + 288, l8);
-put64(b, l4 + 280, l23);
-put64(b, l4 + 272, l22);
-put64(b, l4 + 264, l11);
-put64(b, l4 + 256, l21);
-f40(b, l4 + 344ull, l4 + 200ull);
-goto L86;
-L89:;
+L179:;
+put64(b, l4 + 400, get64(b, l4 + 144));
+put64(b, l4 + 392, get64(b, l4 + 136));
+put64(b, l4 + 384, get64(b, l4 + 128));
+put64(b, l4 + 376, get64(b, l4 + 120));
+if (!l1) { goto L87; }
+put64(b, l4 + 280, get64(b, l4 + 376));
+put64(b, l4 + 288, get64(b, l4 + 384));
+put64(b, l4 + 296, get64(b, l4 + 392));
+put64(b, l4 + 304, get64(b, l4 + 400));
+put64(b, l4 + 552, 0ull);
+put64(b, l4 + 560, 0ull);
+put64(b, l4 + 568, 0ull);
+put64(b, l4 + 576, 0ull);
+put64(b, l4 + 1256, l20);
+put64(b, l4 + 1248, l26);
+put8(b, l4 + 1244, l2);
+put32(b, l4 + 1240, l38);
+put16(b, l4 + 1245, l36);
+put8(b, l4 + 1247, l36 >> 16);
+put64(b, l4 + 1344, l27);
+put64(b, l4 + 1336, l24);
+put64(b, l4 + 1328, l8);
+put64(b, l4 + 1320, l23);
+put64(b, l4 + 1312, l22);
+put64(b, l4 + 1296, l21);
+put64(b, l4 + 1264, get64(b, l4 + 280));
+put64(b, l4 + 1272, get64(b, l4 + 288));
+put64(b, l4 + 1280, get64(b, l4 + 296));
+put64(b, l4 + 1288, get64(b, l4 + 304));
+put64(b, l4 + 1304, l11);
+f40(b, l4 + 552ull, l4 + 1240ull, (u32)(l11 > 9999ull));
+goto L7;
+L87:;
 l2 = 0u;
 l34 = 2u;
 l35 = 0u;
-L88:;
+L86:;
 l1 = 0u;
 l38 = 0u;
-L87:;
-switch (l34) {
-case 1: goto L85;
-case 2: goto L13;
-default: goto L182;
-}
-L182:;
-f18(b, l4 + 344ull, l2, l35);
-L86:;
-l5 = get64(b, l4 + 368);
-l38 = get8(b, l4 + 360);
-l1 = get8(b, l4 + 352);
-l2 = get8(b, l4 + 344);
-goto L1;
 L85:;
-put64(b, l4 + 1296, 0ull);
-put64(b, l4 + 1288, 0ull);
-put64(b, l4 + 1280, 0ull);
-put64(b, l4 + 1272, 0ull);
+switch (l34) {
+case 1: goto L180;
+case 2: goto L14;
+default: goto L181;
+}
+L181:;
+f18(b, l4 + 312ull, l2, l35);
+l5 = get64(b, l4 + 336);
+l38 = get8(b, l4 + 328);
+l1 = get8(b, l4 + 320);
+l2 = get8(b, l4 + 312);
+goto L1;
+L180:;
+put64(b, l4 + 1264, 0ull);
+put64(b, l4 + 1256, 0ull);
+put64(b, l4 + 1248, 0ull);
+put64(b, l4 + 1240, 0ull);
 l3 = ((u64)(l2 & 255u)) << 3;
-f19(b, l4 + 1272ull, get64(b, l3 + 1063544), get64(b, l3 + 1063456), l38 | (l35 & 255u), l1);
+f19(b, l4 + 1240ull, get64(b, l3 + 1063544), get64(b, l3 + 1063456), l38 | (l35 & 255u), l1);
+L15:;
+l5 = get64(b, l4 + 1264);
+l38 = get8(b, l4 + 1256);
+l1 = get8(b, l4 + 1248);
+l2 = get8(b, l4 + 1240);
+goto L1;
 L14:;
-l5 = get64(b, l4 + 1296);
-l38 = get8(b, l4 + 1288);
-l1 = get8(b, l4 + 1280);
-l2 = get8(b, l4 + 1272);
+l2 = 1u;
+l5 = get64(b, l4 + 336);
+l38 = get8(b, l4 + 328);
+l1 = get8(b, l4 + 320);
 goto L1;
 L13:;
-l2 = 1u;
-l5 = get64(b, l4 + 368);
-l38 = get8(b, l4 + 360);
-l1 = get8(b, l4 + 352);
-goto L1;
-L12:;
-f124(b, l4 + 1272ull, l3, 0u);
-if (!get8(b, l4 + 1272)) { goto L183; }
+f124(b, l4 + 1240ull, l3, 0u);
+if (!get8(b, l4 + 1240)) { goto L182; }
 l14 = 0ull;
 l2 = 1u;
 l5 = 0ull;
-goto L11;
-L183:;
-l3 = l4 + 1280ull;
-copy(b, l4 + 584ull, l3, 128u);
+goto L12;
+L182:;
+l3 = l4 + 1248ull;
+copy(b, l4 + 552ull, l3, 128u);
 l39 = get32(b, l4 + 120);
-fill(b, l4 + 472ull, 0u, 88u);
-f179(b, l4 + 472ull, l3);
-if (get8(b, l4 + 472)) { goto L203; }
-l18 = get64(b, l4 + 552);
-l17 = get64(b, l4 + 536);
-l40 = get32(b, l4 + 528);
-l37 = get32(b, l4 + 524);
-l41 = get32(b, l4 + 520);
-l42 = get32(b, l4 + 516);
-l36 = get8(b, l4 + 512);
-l43 = get32(b, l4 + 496);
-l10 = get64(b, l4 + 488);
-l5 = get64(b, l4 + 480);
-l9 = get64(b, l4 + 648);
-if (!l9) { goto L213; }
-l15 = get64(b, l4 + 640);
-if (l36 & 1u) { goto L216; }
+fill(b, l4 + 440ull, 0u, 88u);
+f178(b, l4 + 440ull, l3);
+if (get8(b, l4 + 440)) { goto L202; }
+l18 = get64(b, l4 + 520);
+l17 = get64(b, l4 + 504);
+l40 = get32(b, l4 + 496);
+l37 = get32(b, l4 + 492);
+l41 = get32(b, l4 + 488);
+l42 = get32(b, l4 + 484);
+l36 = get8(b, l4 + 480);
+l43 = get32(b, l4 + 464);
+l10 = get64(b, l4 + 456);
+l5 = get64(b, l4 + 448);
+l9 = get64(b, l4 + 616);
+if (!l9) { goto L212; }
+l15 = get64(b, l4 + 608);
+if (l36 & 1u) { goto L215; }
 l3 = l9;
-goto L215;
-L216:;
+goto L214;
+L215:;
 l6 = 0ull;
-L217:;
+L216:;
 l2 = get32(b, l15 + (l6 << 2));
-if (l10 > 1ull) { goto L220; }
+if (l10 > 1ull) { goto L219; }
 l3 = 0ull;
 l38 = l37;
 l1 = l42;
 switch ((u32)l10) {
-case 1: goto L219;
-default: goto L218;
+case 1: goto L218;
+default: goto L217;
 }
-L220:;
+L219:;
 l3 = 0ull;
 l14 = l10;
-L221:;
+L220:;
 l13 = l14 >> 1;
 l8 = l13 + l3;
 l3 = (get32(b, l5 + (l8 << 2)) > l2) ? l3 : l8;
 l14 = l14 - l13;
-if (l14 > 1ull) { goto L221; }
-L219:;
+if (l14 > 1ull) { goto L220; }
+L218:;
 l38 = l37;
 l1 = l42;
-if (get32(b, l5 + (l3 << 2)) != l2) { goto L218; }
+if (get32(b, l5 + (l3 << 2)) != l2) { goto L217; }
 l3 = l17 + (l3 << 4);
 l1 = get32(b, l3);
 l38 = get32(b, l3 + 8);
-L218:;
-if (l1 > 1u) { goto L214; }
-if (l38 > 1u) { goto L214; }
-if (!(l1 | l38)) { goto L214; }
+L217:;
+if (l1 > 1u) { goto L213; }
+if (l38 > 1u) { goto L213; }
+if (!(l1 | l38)) { goto L213; }
 l6 = l6 + 1ull;
-if (l6 != l9) { goto L217; }
-goto L212;
-L215:;
-L222:;
+if (l6 != l9) { goto L216; }
+goto L211;
+L214:;
+L221:;
 l2 = get32(b, l15);
 l14 = l17 + (((u64)(l2 - l43)) << 4);
 l1 = get32(b, l14);
-if (l1 > 1u) { goto L214; }
+if (l1 > 1u) { goto L213; }
 l38 = get32(b, l14 + 8);
-if (l38 > 1u) { goto L214; }
-if (!(l38 | l1)) { goto L214; }
+if (l38 > 1u) { goto L213; }
+if (!(l38 | l1)) { goto L213; }
 l15 = l15 + 4ull;
 l3 = l3 + 18446744073709551615ull;
-if (!l3) { goto L212; }
-goto L222;
-L214:;
+if (!l3) { goto L211; }
+goto L221;
+L213:;
 l29 = (u64)l2;
 l8 = 0ull;
 l44 = 0u;
 l1 = 1u;
 l2 = 1u;
-goto L205;
-L213:;
-l29 = l4 + 2248ull;
+goto L204;
+L212:;
+l29 = l4 + 2184ull;
 l6 = 0ull;
 l45 = 1u;
-goto L211;
-L212:;
+goto L210;
+L211:;
 l6 = 0ull;
-put64(b, l4 + 2032, 0ull);
-put64(b, l4 + 2040, 0ull);
-put64(b, l4 + 2024, l4 + 2248ull);
-l11 = l4 + 2248ull;
+put64(b, l4 + 208, 0ull);
+put64(b, l4 + 216, 0ull);
+put64(b, l4 + 200, l4 + 2184ull);
+l11 = l4 + 2184ull;
 l15 = 0ull;
-L223:;
-if (l15 >= get64(b, l4 + 648)) { goto L4; }
-l2 = get32(b, get64(b, l4 + 640) + (l15 << 2));
-if (l36 & 1u) { goto L225; }
+L222:;
+if (l15 >= get64(b, l4 + 616)) { goto L4; }
+l2 = get32(b, get64(b, l4 + 608) + (l15 << 2));
+if (l36 & 1u) { goto L224; }
 l3 = l17 + (((u64)(l2 - l43)) << 4);
 l1 = get32(b, l3);
 l34 = get32(b, l3 + 4);
 l35 = get32(b, l3 + 8);
 l38 = get32(b, l3 + 12);
-goto L224;
-L225:;
+goto L223;
+L224:;
 l3 = 0ull;
-if (l10 > 1ull) { goto L227; }
+if (l10 > 1ull) { goto L226; }
 l38 = l40;
 l35 = l37;
 l34 = l41;
 l1 = l42;
 switch ((u32)l10) {
-case 1: goto L226;
-default: goto L224;
+case 1: goto L225;
+default: goto L223;
 }
-L227:;
+L226:;
 l14 = l10;
-L228:;
+L227:;
 l13 = l14 >> 1;
 l8 = l13 + l3;
 l3 = (get32(b, l5 + (l8 << 2)) > l2) ? l3 : l8;
 l14 = l14 - l13;
-if (l14 > 1ull) { goto L228; }
-L226:;
+if (l14 > 1ull) { goto L227; }
+L225:;
 l38 = l40;
 l35 = l37;
 l34 = l41;
 l1 = l42;
-if (get32(b, l5 + (l3 << 2)) != l2) { goto L224; }
+if (get32(b, l5 + (l3 << 2)) != l2) { goto L223; }
 l3 = l17 + (l3 << 4);
 l1 = get32(b, l3);
 l34 = get32(b, l3 + 4);
 l35 = get32(b, l3 + 8);
 l38 = get32(b, l3 + 12);
-L224:;
-if (get64(b, l4 + 2040) != l6) { goto L229; }
-t6 = f429(b, l4 + 2024ull);
-if (!t6) { goto L210; }
-l11 = get64(b, l4 + 2024);
-l6 = get64(b, l4 + 2032);
-L229:;
+L223:;
+if (get64(b, l4 + 216) != l6) { goto L228; }
+t6 = f427(b, l4 + 200ull);
+if (!t6) { goto L209; }
+l11 = get64(b, l4 + 200);
+l6 = get64(b, l4 + 208);
+L228:;
 l3 = l11 + (l6 * 12ull);
 l2 = (u32)(l1 != 0u) & (u32)(l35 != 0u);
 put32(b, l3, l2);
 put32(b, l3 + 8ull, l2 ? l38 : 0u);
 put32(b, l3 + 4ull, l1 ? l34 : l38);
 l6 = l6 + 1ull;
-put64(b, l4 + 2032, l6);
+put64(b, l4 + 208, l6);
 l15 = l15 + 1ull;
-if (l15 != l9) { goto L223; }
-l45 = (u32)(!get64(b, l4 + 2040));
-l29 = get64(b, l4 + 2024);
-L211:;
-l15 = 0ull;
-put64(b, l4 + 2032, 0ull);
-put64(b, l4 + 2040, 0ull);
-put64(b, l4 + 2024, l4 + 2248ull);
-l44 = 1u;
-l16 = get64(b, l4 + 592);
-if (!(u32)(!l16)) { goto L209; }
-l8 = l4 + 2248ull;
-l1 = 1u;
-goto L208;
+if (l15 != l9) { goto L222; }
+l45 = (u32)(!get64(b, l4 + 216));
+l29 = get64(b, l4 + 200);
 L210:;
-if (!get64(b, l4 + 2040)) { goto L230; }
-rattle_dealloc(b, get64(b, l4 + 2024));
-L230:;
+l15 = 0ull;
+put64(b, l4 + 208, 0ull);
+put64(b, l4 + 216, 0ull);
+put64(b, l4 + 200, l4 + 2184ull);
+l44 = 1u;
+l16 = get64(b, l4 + 560);
+if (!(u32)(!l16)) { goto L208; }
+l8 = l4 + 2184ull;
+l1 = 1u;
+goto L207;
+L209:;
+if (!get64(b, l4 + 216)) { goto L229; }
+rattle_dealloc(b, get64(b, l4 + 200));
+L229:;
 l8 = 0ull;
 l44 = 0u;
 l1 = 1u;
-goto L206;
-L209:;
-l19 = l4 + 2248ull;
+goto L205;
+L208:;
+l19 = l4 + 2184ull;
 l9 = 0ull;
-L231:;
+L230:;
 l3 = l9 & 4294967295ull;
-if (get64(b, l4 + 592) <= l3) { goto L4; }
-l11 = get64(b, l4 + 584) + (l3 * 24ull);
+if (get64(b, l4 + 560) <= l3) { goto L4; }
+l11 = get64(b, l4 + 552) + (l3 * 24ull);
 l2 = get32(b, l11 + 8);
-if (l36 & 1u) { goto L233; }
+if (l36 & 1u) { goto L232; }
 l3 = l17 + (((u64)(l2 - l43)) << 4);
 l1 = get32(b, l3);
 l34 = get32(b, l3 + 4);
 l38 = get32(b, l3 + 8);
 l35 = get32(b, l3 + 12);
-goto L232;
-L233:;
+goto L231;
+L232:;
 l3 = 0ull;
-if (l10 > 1ull) { goto L235; }
+if (l10 > 1ull) { goto L234; }
 l35 = l40;
 l38 = l37;
 l34 = l41;
 l1 = l42;
 switch ((u32)l10) {
-case 1: goto L234;
-default: goto L232;
+case 1: goto L233;
+default: goto L231;
 }
-L235:;
+L234:;
 l14 = l10;
-L236:;
+L235:;
 l13 = l14 >> 1;
 l8 = l13 + l3;
 l3 = (get32(b, l5 + (l8 << 2)) > l2) ? l3 : l8;
 l14 = l14 - l13;
-if (l14 > 1ull) { goto L236; }
-L234:;
+if (l14 > 1ull) { goto L235; }
+L233:;
 l35 = l40;
 l38 = l37;
 l34 = l41;
 l1 = l42;
-if (get32(b, l5 + (l3 << 2)) != l2) { goto L232; }
+if (get32(b, l5 + (l3 << 2)) != l2) { goto L231; }
 l3 = l17 + (l3 << 4);
 l1 = get32(b, l3);
 l34 = get32(b, l3 + 4);
 l38 = get32(b, l3 + 8);
 l35 = get32(b, l3 + 12);
-L232:;
+L231:;
 l2 = get8(b, l11 + 12);
-if (get64(b, l4 + 2040) != l15) { goto L237; }
-t7 = f430(b, l4 + 2024ull);
-if (!t7) { goto L207; }
-l19 = get64(b, l4 + 2024);
-l15 = get64(b, l4 + 2032);
-L237:;
+if (get64(b, l4 + 216) != l15) { goto L236; }
+t7 = f428(b, l4 + 200ull);
+if (!t7) { goto L206; }
+l19 = get64(b, l4 + 200);
+l15 = get64(b, l4 + 208);
+L236:;
 l3 = l19 + (l15 << 3);
 l2 = l2 & 1u;
 put32(b, l3, l2 ? (u32)(l38 != 0u) : (u32)(l1 != 0u));
 put32(b, l3 + 4ull, l2 ? (l38 ? l35 : 0u) : (l1 ? l34 : 0u));
 l15 = l15 + 1ull;
-put64(b, l4 + 2032, l15);
+put64(b, l4 + 208, l15);
 l9 = l9 + 1ull;
-if (l9 != l16) { goto L231; }
-l1 = (u32)(!get64(b, l4 + 2040));
-l8 = get64(b, l4 + 2024);
-L208:;
-l3 = l4 + 584ull;
-l2 = 1u;
-goto L204;
+if (l9 != l16) { goto L230; }
+l1 = (u32)(!get64(b, l4 + 216));
+l8 = get64(b, l4 + 200);
 L207:;
-if (!get64(b, l4 + 2040)) { goto L238; }
-rattle_dealloc(b, get64(b, l4 + 2024));
-L238:;
+l3 = l4 + 552ull;
+l2 = 1u;
+goto L203;
+L206:;
+if (!get64(b, l4 + 216)) { goto L237; }
+rattle_dealloc(b, get64(b, l4 + 200));
+L237:;
 l8 = 0ull;
 l44 = 0u;
 l1 = 1u;
-if (l45) { goto L206; }
+if (l45) { goto L205; }
 rattle_dealloc(b, l29);
 l8 = 0ull;
-L206:;
+L205:;
 l2 = 0u;
 l29 = 0ull;
-L205:;
+L204:;
 l6 = 0ull;
 l45 = 1u;
 l3 = 0ull;
-L204:;
-if (!l18) { goto L239; }
-rattle_dealloc(b, l17);
-L239:;
-if (l44) { goto L201; }
-if (l2) { goto L202; }
 L203:;
+if (!l18) { goto L238; }
+rattle_dealloc(b, l17);
+L238:;
+if (l44) { goto L200; }
+if (l2) { goto L201; }
+L202:;
 l2 = 1u;
 l5 = 0ull;
 l3 = 0ull;
-goto L199;
-L202:;
+goto L198;
+L201:;
 l2 = 0u;
 l3 = l29 & 4294967295ull;
-if (get64(b, l4 + 160) > l3) { goto L200; }
+if (get64(b, l4 + 160) > l3) { goto L199; }
 l3 = 1ull;
 l5 = 0ull;
-goto L199;
-L201:;
+goto L198;
+L200:;
 l10 = 0ull;
-put64(b, l4 + 2072, 0ull);
-put64(b, l4 + 2064, 0ull);
-put64(b, l4 + 2056, 0ull);
-put64(b, l4 + 2048, 0ull);
-put64(b, l4 + 2040, 0ull);
-put64(b, l4 + 2032, 0ull);
-put64(b, l4 + 2024, 0ull);
+put64(b, l4 + 248, 0ull);
+put64(b, l4 + 240, 0ull);
+put64(b, l4 + 232, 0ull);
+put64(b, l4 + 224, 0ull);
+put64(b, l4 + 216, 0ull);
+put64(b, l4 + 208, 0ull);
+put64(b, l4 + 200, 0ull);
 l2 = get32(b, l3 + 48);
-if (l2) { goto L245; }
-l16 = l4 + 2248ull;
+if (l2) { goto L244; }
+l16 = l4 + 2184ull;
 l35 = 0u;
 l36 = 0u;
-goto L244;
-L245:;
-f171(b, l4 + 2024ull, l3);
-if (get8(b, l4 + 2024)) { goto L188; }
-l21 = get64(b, l4 + 2072);
-l9 = get64(b, l4 + 2064);
-l15 = get64(b, l4 + 2056);
-l28 = get64(b, l4 + 2048);
-l18 = get64(b, l4 + 2032);
+goto L243;
+L244:;
+f170(b, l4 + 200ull, l3);
+if (get8(b, l4 + 200)) { goto L187; }
+l21 = get64(b, l4 + 248);
+l9 = get64(b, l4 + 240);
+l15 = get64(b, l4 + 232);
+l28 = get64(b, l4 + 224);
+l18 = get64(b, l4 + 208);
 l19 = (u64)l2;
 rattle_alloc(b, l4 + 104ull, l19, 1ull);
-if (!(get32(b, l4 + 104) & 1u)) { goto L242; }
+if (!(get32(b, l4 + 104) & 1u)) { goto L241; }
 l11 = get64(b, l4 + 112);
 l14 = 0ull;
-if (l2 == 1u) { goto L246; }
+if (l2 == 1u) { goto L245; }
 l14 = l19 + 18446744073709551615ull;
-if (!l14) { goto L246; }
+if (!l14) { goto L245; }
 fill(b, l11, 0u, l14);
-L246:;
+L245:;
 l35 = 0u;
 put8(b, l11 + l14, 0u);
 put8(b, l11, 1u);
-put64(b, l4 + 448, 0ull);
-put64(b, l4 + 456, 0ull);
-put64(b, l4 + 440, l4 + 2248ull);
-t8 = f172(b, l4 + 440ull);
-if (!t8) { goto L243; }
-l5 = get64(b, l4 + 440);
-l13 = get64(b, l4 + 448);
+put64(b, l4 + 384, 0ull);
+put64(b, l4 + 392, 0ull);
+put64(b, l4 + 376, l4 + 2184ull);
+t8 = f171(b, l4 + 376ull);
+if (!t8) { goto L242; }
+l5 = get64(b, l4 + 376);
+l13 = get64(b, l4 + 384);
 put32(b, l5 + (l13 << 2), 0u);
-put64(b, l4 + 496, l5);
-put64(b, l4 + 512, get64(b, l4 + 456));
-put64(b, l4 + 504, l13 + 1ull);
+put64(b, l4 + 464, l5);
+put64(b, l4 + 480, get64(b, l4 + 392));
+put64(b, l4 + 472, l13 + 1ull);
 l5 = 0ull;
-l13 = l4 + 528ull;
+l13 = l4 + 496ull;
 put64(b, l13, 0ull);
 put64(b, l13 + 8, 0ull);
-put64(b, l4 + 488, l19);
-put64(b, l4 + 472, l11);
-put64(b, l4 + 480, l14 + 1ull);
-put64(b, l4 + 520, l4 + 2248ull);
-l16 = l4 + 2248ull;
+put64(b, l4 + 456, l19);
+put64(b, l4 + 440, l11);
+put64(b, l4 + 448, l14 + 1ull);
+put64(b, l4 + 488, l4 + 2184ull);
+l16 = l4 + 2184ull;
 l36 = 0u;
 l17 = 0ull;
-L247:;
-if (get64(b, l4 + 504) <= l17) { goto L248; }
-l14 = (u64)get32(b, l18 + ((u64)get32(b, get64(b, l4 + 496) + (l17 << 2)) << 2));
-if (l9 <= l14) { goto L248; }
-L249:;
+L246:;
+if (get64(b, l4 + 472) <= l17) { goto L247; }
+l14 = (u64)get32(b, l18 + ((u64)get32(b, get64(b, l4 + 464) + (l17 << 2)) << 2));
+if (l9 <= l14) { goto L247; }
+L248:;
 l13 = l8 + (l14 << 3);
-if (get8(b, l13) != 1u) { goto L250; }
+if (get8(b, l13) != 1u) { goto L249; }
 l38 = get32(b, l13 + 4ull);
 l13 = (u64)l38;
 if (get64(b, l3 + 8) <= l13) { goto L4; }
 l2 = get32(b, get64(b, l3) + (l13 * 24ull));
 l10 = (u64)l2;
-if (get8(b, l11 + l10)) { goto L250; }
-l13 = get64(b, l4 + 504);
-if (get64(b, l4 + 512) != l13) { goto L251; }
-t9 = f172(b, l4 + 496ull);
-if (!t9) { goto L241; }
-l5 = get64(b, l4 + 528);
-l13 = get64(b, l4 + 504);
+if (get8(b, l11 + l10)) { goto L249; }
+l13 = get64(b, l4 + 472);
+if (get64(b, l4 + 480) != l13) { goto L250; }
+t9 = f171(b, l4 + 464ull);
+if (!t9) { goto L240; }
+l5 = get64(b, l4 + 496);
+l13 = get64(b, l4 + 472);
+L250:;
+put32(b, get64(b, l4 + 464) + (l13 << 2), l2);
+put64(b, l4 + 472, l13 + 1ull);
+if (get64(b, l4 + 504) != l5) { goto L251; }
+t10 = f123(b, l4 + 488ull);
+if (!t10) { goto L240; }
+l5 = get64(b, l4 + 496);
 L251:;
-put32(b, get64(b, l4 + 496) + (l13 << 2), l2);
-put64(b, l4 + 504, l13 + 1ull);
-if (get64(b, l4 + 536) != l5) { goto L252; }
-t10 = f123(b, l4 + 520ull);
-if (!t10) { goto L241; }
-l5 = get64(b, l4 + 528);
-L252:;
-l16 = get64(b, l4 + 520);
+l16 = get64(b, l4 + 488);
 put32(b, l16 + (l5 << 2), l38);
-l11 = get64(b, l4 + 472);
+l11 = get64(b, l4 + 440);
 put8(b, l11 + l10, 1u);
 l5 = l5 + 1ull;
-put64(b, l4 + 528, l5);
+put64(b, l4 + 496, l5);
 l36 = (u32)l5;
 l35 = (u32)(l5 >> 32);
-L250:;
+L249:;
 l14 = (u64)get32(b, l15 + (l14 << 2));
-if (l9 > l14) { goto L249; }
-L248:;
+if (l9 > l14) { goto L248; }
+L247:;
 l17 = l17 + 1ull;
-if (l17 != l19) { goto L247; }
+if (l17 != l19) { goto L246; }
 l14 = 0ull;
-L253:;
-if (get8(b, l11 + l14) != 1u) { goto L240; }
+L252:;
+if (get8(b, l11 + l14) != 1u) { goto L239; }
 l14 = l14 + 1ull;
-if (l19 != l14) { goto L253; }
-l10 = get64(b, l4 + 536);
-if (!get64(b, l4 + 488)) { goto L254; }
+if (l19 != l14) { goto L252; }
+l10 = get64(b, l4 + 504);
+if (!get64(b, l4 + 456)) { goto L253; }
 rattle_dealloc(b, l11);
+L253:;
+if (!get64(b, l4 + 480)) { goto L254; }
+rattle_dealloc(b, get64(b, l4 + 464));
 L254:;
-if (!get64(b, l4 + 512)) { goto L255; }
-rattle_dealloc(b, get64(b, l4 + 496));
-L255:;
-if (!l28) { goto L256; }
+if (!l28) { goto L255; }
 rattle_dealloc(b, l18);
-L256:;
-if (!l21) { goto L244; }
+L255:;
+if (!l21) { goto L243; }
 rattle_dealloc(b, l15);
-L244:;
-fill(b, l4 + 472ull, 0u, 80u);
-fill(b, l4 + 2024ull, 0u, 80u);
-f173(b, l4 + 472ull, l3);
-if (get8(b, l4 + 472)) { goto L193; }
-l21 = get64(b, l4 + 544);
-l23 = get64(b, l4 + 528);
-l20 = get64(b, l4 + 516);
-l37 = get8(b, l4 + 512);
-l43 = get32(b, l4 + 496);
-l31 = get64(b, l4 + 488);
-l19 = get64(b, l4 + 480);
-f174(b, l4 + 2024ull, l3);
-if (get8(b, l4 + 2024)) { goto L196; }
+L243:;
+fill(b, l4 + 440ull, 0u, 80u);
+fill(b, l4 + 200ull, 0u, 80u);
+f172(b, l4 + 440ull, l3);
+if (get8(b, l4 + 440)) { goto L192; }
+l21 = get64(b, l4 + 512);
+l23 = get64(b, l4 + 496);
+l20 = get64(b, l4 + 484);
+l37 = get8(b, l4 + 480);
+l43 = get32(b, l4 + 464);
+l31 = get64(b, l4 + 456);
+l19 = get64(b, l4 + 448);
+f173(b, l4 + 200ull, l3);
+if (get8(b, l4 + 200)) { goto L195; }
 l15 = get64(b, l3 + 80);
 l17 = get64(b, l3 + 88);
-if (!(u32)(!l17)) { goto L198; }
+if (!(u32)(!l17)) { goto L197; }
 l2 = 0u;
 l14 = 0ull;
-goto L197;
-L243:;
-if (!get64(b, l4 + 456)) { goto L257; }
-rattle_dealloc(b, get64(b, l4 + 440));
-L257:;
-rattle_dealloc(b, l11);
+goto L196;
 L242:;
-if (!l28) { goto L258; }
-rattle_dealloc(b, l18);
-L258:;
-if (!l21) { goto L188; }
-goto L189;
+if (!get64(b, l4 + 392)) { goto L256; }
+rattle_dealloc(b, get64(b, l4 + 376));
+L256:;
+rattle_dealloc(b, l11);
 L241:;
-if (!get64(b, l4 + 488)) { goto L259; }
-rattle_dealloc(b, get64(b, l4 + 472));
-L259:;
-if (!get64(b, l4 + 512)) { goto L260; }
-rattle_dealloc(b, get64(b, l4 + 496));
-L260:;
-if (!get64(b, l4 + 536)) { goto L261; }
-rattle_dealloc(b, get64(b, l4 + 520));
-L261:;
-if (!l28) { goto L262; }
+if (!l28) { goto L257; }
 rattle_dealloc(b, l18);
-L262:;
-if (!(u32)(!l21)) { goto L189; }
+L257:;
+if (!l21) { goto L187; }
 goto L188;
 L240:;
-if (!get64(b, l4 + 488)) { goto L263; }
-rattle_dealloc(b, l11);
-L263:;
-if (!get64(b, l4 + 512)) { goto L264; }
-rattle_dealloc(b, get64(b, l4 + 496));
-L264:;
-if (!get64(b, l4 + 536)) { goto L265; }
-rattle_dealloc(b, get64(b, l4 + 520));
-L265:;
-if (!l28) { goto L266; }
+if (!get64(b, l4 + 456)) { goto L258; }
+rattle_dealloc(b, get64(b, l4 + 440));
+L258:;
+if (!get64(b, l4 + 480)) { goto L259; }
+rattle_dealloc(b, get64(b, l4 + 464));
+L259:;
+if (!get64(b, l4 + 504)) { goto L260; }
+rattle_dealloc(b, get64(b, l4 + 488));
+L260:;
+if (!l28) { goto L261; }
 rattle_dealloc(b, l18);
-L266:;
-if (!l21) { goto L267; }
+L261:;
+if (!(u32)(!l21)) { goto L188; }
+goto L187;
+L239:;
+if (!get64(b, l4 + 456)) { goto L262; }
+rattle_dealloc(b, l11);
+L262:;
+if (!get64(b, l4 + 480)) { goto L263; }
+rattle_dealloc(b, get64(b, l4 + 464));
+L263:;
+if (!get64(b, l4 + 504)) { goto L264; }
+rattle_dealloc(b, get64(b, l4 + 488));
+L264:;
+if (!l28) { goto L265; }
+rattle_dealloc(b, l18);
+L265:;
+if (!l21) { goto L266; }
 rattle_dealloc(b, l15);
-L267:;
+L266:;
 l3 = l14 & 4294967295ull;
 if (get64(b, l7 + 16ull) <= l3) { goto L4; }
 l3 = ((u64)get32(b, get64(b, l7 + 8ull) + (l3 * 104ull)) << 32) | 2ull;
 l2 = 0u;
-goto L187;
-L200:;
+goto L186;
+L199:;
 l14 = get64(b, l4 + 152) + (l3 << 4);
 l3 = ((u64)get32(b, l14) << 32) | 1ull;
 l5 = (u64)get32(b, l14 + 4);
-L199:;
+L198:;
 l9 = l3 >> 32;
 l39 = (u32)l3;
-goto L190;
-L198:;
+goto L189;
+L197:;
 l38 = get32(b, l15);
 l5 = l17 + 18446744073709551615ull;
-if (!(u32)(!l5)) { goto L269; }
+if (!(u32)(!l5)) { goto L268; }
 l2 = l38;
-goto L268;
-L269:;
+goto L267;
+L268:;
 l9 = l17 + 18446744073709551614ull;
 l2 = l38;
 l13 = l5;
 l14 = l15;
 l7 = l5 & 3ull;
-if (!l7) { goto L270; }
-L271:;
+if (!l7) { goto L269; }
+L270:;
 l14 = l14 + 4ull;
 l34 = get32(b, l14);
 l2 = (l2 < l34) ? l2 : l34;
 l13 = l13 + 18446744073709551615ull;
 l7 = l7 + 18446744073709551615ull;
-if (l7 != 0ull) { goto L271; }
-L270:;
-if (l9 < 3ull) { goto L272; }
+if (l7 != 0ull) { goto L270; }
+L269:;
+if (l9 < 3ull) { goto L271; }
 l14 = l14 + 16ull;
-L273:;
+L272:;
 l34 = get32(b, l14 + 18446744073709551604ull);
 l2 = (l2 < l34) ? l2 : l34;
 l34 = get32(b, l14 + 18446744073709551608ull);
@@ -79917,22 +80164,22 @@ l34 = get32(b, l14);
 l2 = (l2 < l34) ? l2 : l34;
 l14 = l14 + 16ull;
 l13 = l13 + 18446744073709551612ull;
-if (l13 != 0ull) { goto L273; }
-L272:;
+if (l13 != 0ull) { goto L272; }
+L271:;
 l14 = l15;
 l13 = l5 & 3ull;
-if (!l13) { goto L274; }
-L275:;
+if (!l13) { goto L273; }
+L274:;
 l14 = l14 + 4ull;
 l34 = get32(b, l14);
 l38 = (l38 > l34) ? l38 : l34;
 l5 = l5 + 18446744073709551615ull;
 l13 = l13 + 18446744073709551615ull;
-if (l13 != 0ull) { goto L275; }
-L274:;
-if (l9 < 3ull) { goto L268; }
+if (l13 != 0ull) { goto L274; }
+L273:;
+if (l9 < 3ull) { goto L267; }
 l14 = l14 + 16ull;
-L276:;
+L275:;
 l34 = get32(b, l14 + 18446744073709551604ull);
 l38 = (l38 > l34) ? l38 : l34;
 l34 = get32(b, l14 + 18446744073709551608ull);
@@ -79943,416 +80190,416 @@ l34 = get32(b, l14);
 l38 = (l38 > l34) ? l38 : l34;
 l14 = l14 + 16ull;
 l5 = l5 + 18446744073709551612ull;
-if (l5 != 0ull) { goto L276; }
-L268:;
+if (l5 != 0ull) { goto L275; }
+L267:;
 l14 = ((u64)(l38 - l2)) + 1ull;
-L197:;
-l32 = get64(b, l4 + 2096);
-l22 = get64(b, l4 + 2080);
-l26 = get64(b, l4 + 2072);
-l46 = get32(b, l4 + 2068);
-l47 = get8(b, l4 + 2064);
-l48 = get32(b, l4 + 2048);
-l30 = get64(b, l4 + 2040);
-l18 = get64(b, l4 + 2032);
+L196:;
+l32 = get64(b, l4 + 272);
+l22 = get64(b, l4 + 256);
+l26 = get64(b, l4 + 248);
+l46 = get32(b, l4 + 244);
+l47 = get8(b, l4 + 240);
+l48 = get32(b, l4 + 224);
+l30 = get64(b, l4 + 216);
+l18 = get64(b, l4 + 208);
 l41 = (u32)(l17 < (l14 >> 3));
 l14 = l41 ? l17 : l14;
 l49 = (u32)(!l14);
-if (!l49) { goto L278; }
-l28 = l4 + 2248ull;
-goto L277;
-L278:;
-if (l14 > 1152921504606846975ull) { goto L195; }
+if (!l49) { goto L277; }
+l28 = l4 + 2184ull;
+goto L276;
+L277:;
+if (l14 > 1152921504606846975ull) { goto L194; }
 l13 = l14 << 3;
 rattle_alloc(b, l4 + 88ull, l13, 4ull);
-if (!(((u32)get64(b, l4 + 88)) & 1u)) { goto L195; }
+if (!(((u32)get64(b, l4 + 88)) & 1u)) { goto L194; }
 l28 = get64(b, l4 + 96);
 l5 = 0ull;
-if (l14 == 1ull) { goto L279; }
+if (l14 == 1ull) { goto L278; }
 l5 = l13 + 18446744073709551608ull;
-if (!l5) { goto L279; }
+if (!l5) { goto L278; }
 fill(b, l28, 0u, l5);
-L279:;
+L278:;
 put64(b, l28 + l5, 0ull);
-L277:;
+L276:;
 l9 = get64(b, l3 + 8);
-if (!l9) { goto L192; }
-if (l41) { goto L280; }
+if (!l9) { goto L191; }
+if (l41) { goto L279; }
 l5 = 0ull;
-L281:;
+L280:;
 l14 = l5 & 4294967295ull;
 if (l9 <= l14) { goto L4; }
-if (get8(b, l8 + (l14 << 3)) == 1u) { goto L282; }
+if (get8(b, l8 + (l14 << 3)) == 1u) { goto L281; }
 if (get64(b, l3 + 32) <= l14) { goto L4; }
 l38 = get32(b, get64(b, l3 + 24) + (l14 << 2));
 l14 = l28 + (((u64)(get32(b, (get64(b, l3) + (l14 * 24ull)) + 20) - l2)) << 3);
 put32(b, l14, 1u);
 put32(b, l14 + 4ull, l38);
-L282:;
+L281:;
 l5 = l5 + 1ull;
-if (l9 != l5) { goto L281; }
-goto L192;
-L280:;
+if (l9 != l5) { goto L280; }
+goto L191;
+L279:;
 l11 = 0ull;
-L283:;
+L282:;
 l14 = l11 & 4294967295ull;
 if (l9 <= l14) { goto L4; }
-if (get8(b, l8 + (l14 << 3)) == 1u) { goto L284; }
+if (get8(b, l8 + (l14 << 3)) == 1u) { goto L283; }
 if (get64(b, l3 + 32) <= l14) { goto L4; }
 l38 = get32(b, (get64(b, l3) + (l14 * 24ull)) + 20);
 l34 = get32(b, get64(b, l3 + 24) + (l14 << 2));
 l14 = 0ull;
-if (l17 > 1ull) { goto L286; }
+if (l17 > 1ull) { goto L285; }
 switch ((u32)l17) {
-case 1: goto L285;
-default: goto L284;
+case 1: goto L284;
+default: goto L283;
 }
-L286:;
+L285:;
 l5 = l17;
-L287:;
+L286:;
 l13 = l5 >> 1;
 l7 = l13 + l14;
 l14 = (get32(b, l15 + (l7 << 2)) > l38) ? l14 : l7;
 l5 = l5 - l13;
-if (l5 > 1ull) { goto L287; }
-L285:;
-if (get32(b, l15 + (l14 << 2)) != l38) { goto L284; }
+if (l5 > 1ull) { goto L286; }
+L284:;
+if (get32(b, l15 + (l14 << 2)) != l38) { goto L283; }
 l14 = l28 + (l14 << 3);
 put32(b, l14, 1u);
 put32(b, l14 + 4ull, l34);
-L284:;
+L283:;
 l11 = l11 + 1ull;
-if (l11 == l9) { goto L192; }
-goto L283;
-L196:;
-if (!(u32)(!l21)) { goto L194; }
-goto L193;
+if (l11 == l9) { goto L191; }
+goto L282;
 L195:;
-if (!l32) { goto L288; }
-rattle_dealloc(b, l22);
-L288:;
-if (!l21) { goto L193; }
+if (!(u32)(!l21)) { goto L193; }
+goto L192;
 L194:;
-rattle_dealloc(b, l23);
+if (!l32) { goto L287; }
+rattle_dealloc(b, l22);
+L287:;
+if (!l21) { goto L192; }
 L193:;
+rattle_dealloc(b, l23);
+L192:;
 l2 = 1u;
 l3 = 0ull;
 l5 = 0ull;
-goto L191;
-L192:;
+goto L190;
+L191:;
 l14 = 0ull;
-put64(b, l4 + 416, 0ull);
-put64(b, l4 + 424, 0ull);
-put64(b, l4 + 408, l4 + 2248ull);
+put64(b, l4 + 352, 0ull);
+put64(b, l4 + 360, 0ull);
+put64(b, l4 + 344, l4 + 2184ull);
 l50 = 1u;
 l27 = get64(b, l3 + 88);
-if (!(u32)(!l27)) { goto L291; }
-l25 = l4 + 2248ull;
+if (!(u32)(!l27)) { goto L290; }
+l25 = l4 + 2184ull;
 l38 = 1u;
-goto L290;
-L291:;
-l33 = l4 + 448ull;
-l25 = l4 + 2248ull;
+goto L289;
+L290:;
+l33 = l4 + 384ull;
+l25 = l4 + 2184ull;
 l14 = 0ull;
 l11 = 0ull;
-L292:;
+L291:;
 if (l11 >= get64(b, l3 + 88)) { goto L4; }
 l34 = get32(b, get64(b, l3 + 80) + (l11 << 2));
-if (l37 & 1u) { goto L294; }
+if (l37 & 1u) { goto L293; }
 l5 = l23 + (((u64)(l34 - l43)) << 3);
 l51 = get32(b, l5 + 4);
 l42 = get32(b, l5);
-goto L293;
-L294:;
+goto L292;
+L293:;
 l5 = 0ull;
-if (l31 > 1ull) { goto L297; }
+if (l31 > 1ull) { goto L296; }
 l13 = l20;
 switch ((u32)l31) {
-case 1: goto L296;
-default: goto L295;
+case 1: goto L295;
+default: goto L294;
 }
-L297:;
+L296:;
 l13 = l31;
-L298:;
+L297:;
 l7 = l13 >> 1;
 l9 = l7 + l5;
 l5 = (get32(b, l19 + (l9 << 2)) > l34) ? l5 : l9;
 l13 = l13 - l7;
-if (l13 > 1ull) { goto L298; }
-L296:;
-l13 = l20;
-if (get32(b, l19 + (l5 << 2)) != l34) { goto L295; }
-l13 = get64(b, l23 + (l5 << 3));
+if (l13 > 1ull) { goto L297; }
 L295:;
+l13 = l20;
+if (get32(b, l19 + (l5 << 2)) != l34) { goto L294; }
+l13 = get64(b, l23 + (l5 << 3));
+L294:;
 l51 = (u32)(l13 >> 32);
 l42 = (u32)l13;
-L293:;
-if (l47 & 1u) { goto L300; }
+L292:;
+if (l47 & 1u) { goto L299; }
 l5 = l22 + (((u64)(l34 - l48)) * 12ull);
 l38 = get32(b, l5);
 l24 = get64(b, l5 + 4);
-goto L299;
-L300:;
+goto L298;
+L299:;
 l5 = 0ull;
-if (l30 > 1ull) { goto L302; }
+if (l30 > 1ull) { goto L301; }
 l24 = l26;
 l38 = l46;
 switch ((u32)l30) {
-case 1: goto L301;
-default: goto L299;
+case 1: goto L300;
+default: goto L298;
 }
-L302:;
+L301:;
 l13 = l30;
-L303:;
+L302:;
 l7 = l13 >> 1;
 l9 = l7 + l5;
 l5 = (get32(b, l18 + (l9 << 2)) > l34) ? l5 : l9;
 l13 = l13 - l7;
-if (l13 > 1ull) { goto L303; }
-L301:;
+if (l13 > 1ull) { goto L302; }
+L300:;
 l24 = l26;
 l38 = l46;
-if (get32(b, l18 + (l5 << 2)) != l34) { goto L299; }
+if (get32(b, l18 + (l5 << 2)) != l34) { goto L298; }
 l5 = l22 + (l5 * 12ull);
 l38 = get32(b, l5);
 l24 = get64(b, l5 + 4);
-L299:;
-if (l41) { goto L305; }
+L298:;
+if (l41) { goto L304; }
 l5 = l28 + (((u64)(l34 - l2)) << 3);
 l40 = get8(b, l5);
 l44 = get32(b, l5 + 4ull);
-goto L304;
-L305:;
+goto L303;
+L304:;
 l5 = 0ull;
-if (l17 > 1ull) { goto L307; }
+if (l17 > 1ull) { goto L306; }
 l44 = 0u;
 l40 = 0u;
 switch ((u32)l17) {
-case 1: goto L306;
-default: goto L304;
+case 1: goto L305;
+default: goto L303;
 }
-L307:;
+L306:;
 l13 = l17;
-L308:;
+L307:;
 l7 = l13 >> 1;
 l9 = l7 + l5;
 l5 = (get32(b, l15 + (l9 << 2)) > l34) ? l5 : l9;
 l13 = l13 - l7;
-if (l13 > 1ull) { goto L308; }
-L306:;
+if (l13 > 1ull) { goto L307; }
+L305:;
 l44 = 0u;
 l40 = 0u;
-if (get32(b, l15 + (l5 << 2)) != l34) { goto L304; }
+if (get32(b, l15 + (l5 << 2)) != l34) { goto L303; }
 l5 = l28 + (l5 << 3);
 l40 = get8(b, l5);
 l44 = get32(b, l5 + 4ull);
-L304:;
-if (l42) { goto L315; }
-if (l38 != 1u) { goto L314; }
+L303:;
+if (l42) { goto L314; }
+if (l38 != 1u) { goto L313; }
 l9 = l24 >> 32;
 l34 = (u32)l24;
 l7 = 0ull;
 l38 = 2u;
 l5 = 0ull;
-goto L312;
-L315:;
-if (l38) { goto L314; }
+goto L311;
+L314:;
+if (l38) { goto L313; }
 put64(b, l33, 0ull);
 put64(b, l33 + 8, 0ull);
-put64(b, l4 + 440, l4 + 2248ull);
-t11 = f123(b, l4 + 440ull);
-if (!t11) { goto L320; }
+put64(b, l4 + 376, l4 + 2184ull);
+t11 = f123(b, l4 + 376ull);
+if (!t11) { goto L319; }
 l38 = 1u;
-l13 = get64(b, l4 + 440);
-l14 = get64(b, l4 + 448);
+l13 = get64(b, l4 + 376);
+l14 = get64(b, l4 + 384);
 l44 = ((l40 & 255u) == 1u) ? l44 : l51;
 put32(b, l13 + (l14 << 2), l44);
 l5 = l14 + 1ull;
-put64(b, l4 + 448, l5);
+put64(b, l4 + 384, l5);
 l14 = l8 + (((u64)l44) << 3);
-if (get8(b, l14) != 1u) { goto L317; }
+if (get8(b, l14) != 1u) { goto L316; }
 l14 = (u64)get32(b, l14 + 4ull);
 if (get64(b, l3 + 32) <= l14) { goto L4; }
 l40 = 1u;
 l38 = get32(b, get64(b, l3 + 24) + (l14 << 2));
-if (l42 == 1u) { goto L321; }
+if (l42 == 1u) { goto L320; }
+L321:;
+l14 = get64(b, l4 + 392);
+if (l38 != l44) { goto L322; }
+if (!l14) { goto L315; }
+rattle_dealloc(b, get64(b, l4 + 376));
+goto L315;
 L322:;
-l14 = get64(b, l4 + 456);
-if (l38 != l44) { goto L323; }
-if (!l14) { goto L316; }
-rattle_dealloc(b, get64(b, l4 + 440));
-goto L316;
+if (l14 != l5) { goto L323; }
+t12 = f123(b, l4 + 376ull);
+if (!t12) { goto L319; }
+l13 = get64(b, l4 + 376);
+l5 = get64(b, l4 + 384);
 L323:;
-if (l14 != l5) { goto L324; }
-t12 = f123(b, l4 + 440ull);
-if (!t12) { goto L320; }
-l13 = get64(b, l4 + 440);
-l5 = get64(b, l4 + 448);
-L324:;
 put32(b, l13 + (l5 << 2), l38);
 l5 = l5 + 1ull;
-put64(b, l4 + 448, l5);
+put64(b, l4 + 384, l5);
 l14 = l8 + (((u64)l38) << 3);
-if (get8(b, l14) != 1u) { goto L318; }
+if (get8(b, l14) != 1u) { goto L317; }
 l14 = (u64)get32(b, l14 + 4ull);
 if (get64(b, l3 + 32) <= l14) { goto L4; }
 l38 = get32(b, get64(b, l3 + 24) + (l14 << 2));
 l40 = l40 + 1u;
-if (l42 != l40) { goto L322; }
-L321:;
-if (l38 == l44) { goto L319; }
-if (!get64(b, l4 + 456)) { goto L316; }
-rattle_dealloc(b, get64(b, l4 + 440));
-goto L316;
+if (l42 != l40) { goto L321; }
 L320:;
-if (!get64(b, l4 + 456)) { goto L325; }
-rattle_dealloc(b, get64(b, l4 + 440));
-L325:;
-l9 = get64(b, l4 + 424);
-l15 = get64(b, l4 + 408);
-l5 = get64(b, l4 + 416);
-if (!l5) { goto L326; }
+if (l38 == l44) { goto L318; }
+if (!get64(b, l4 + 392)) { goto L315; }
+rattle_dealloc(b, get64(b, l4 + 376));
+goto L315;
+L319:;
+if (!get64(b, l4 + 392)) { goto L324; }
+rattle_dealloc(b, get64(b, l4 + 376));
+L324:;
+l9 = get64(b, l4 + 360);
+l15 = get64(b, l4 + 344);
+l5 = get64(b, l4 + 352);
+if (!l5) { goto L325; }
 l14 = l15;
-L327:;
+L326:;
 l13 = get64(b, l14 + 24ull);
 l7 = get64(b, l14 + 8ull);
 switch ((u32)(u64)get8(b, l14)) {
-case 1: goto L330;
-case 2: goto L328;
-default: goto L331;
+case 1: goto L329;
+case 2: goto L327;
+default: goto L330;
 }
-L331:;
-if (!(u32)(!l13)) { goto L329; }
-goto L328;
 L330:;
-if (!l13) { goto L328; }
+if (!(u32)(!l13)) { goto L328; }
+goto L327;
 L329:;
-rattle_dealloc(b, l7);
+if (!l13) { goto L327; }
 L328:;
+rattle_dealloc(b, l7);
+L327:;
 l14 = l14 + 32ull;
 l5 = l5 + 18446744073709551615ull;
-if (l5 != 0ull) { goto L327; }
-L326:;
+if (l5 != 0ull) { goto L326; }
+L325:;
 l14 = 0ull;
 l38 = 1u;
-if (!l9) { goto L311; }
+if (!l9) { goto L310; }
 rattle_dealloc(b, l15);
-goto L311;
-L319:;
-l38 = 0u;
-goto L313;
+goto L310;
 L318:;
-l38 = l40 + 1u;
+l38 = 0u;
+goto L312;
 L317:;
-if (l38 != l42) { goto L332; }
-l38 = 1u;
-goto L313;
-L332:;
-if (!get64(b, l4 + 456)) { goto L316; }
-rattle_dealloc(b, get64(b, l4 + 440));
+l38 = l40 + 1u;
 L316:;
-l14 = get64(b, l4 + 416);
-l25 = get64(b, l4 + 408);
-L314:;
-l15 = get64(b, l4 + 424);
-if (!l14) { goto L333; }
+if (l38 != l42) { goto L331; }
+l38 = 1u;
+goto L312;
+L331:;
+if (!get64(b, l4 + 392)) { goto L315; }
+rattle_dealloc(b, get64(b, l4 + 376));
+L315:;
+l14 = get64(b, l4 + 352);
+l25 = get64(b, l4 + 344);
+L313:;
+l15 = get64(b, l4 + 360);
+if (!l14) { goto L332; }
 l5 = l25;
-L334:;
+L333:;
 l13 = get64(b, l5 + 24ull);
 l7 = get64(b, l5 + 8ull);
 switch ((u32)(u64)get8(b, l5)) {
-case 1: goto L337;
-case 2: goto L335;
-default: goto L338;
+case 1: goto L336;
+case 2: goto L334;
+default: goto L337;
 }
-L338:;
-if (!(u32)(!l13)) { goto L336; }
-goto L335;
 L337:;
-if (!l13) { goto L335; }
+if (!(u32)(!l13)) { goto L335; }
+goto L334;
 L336:;
-rattle_dealloc(b, l7);
+if (!l13) { goto L334; }
 L335:;
+rattle_dealloc(b, l7);
+L334:;
 l5 = l5 + 32ull;
 l14 = l14 + 18446744073709551615ull;
-if (l14 != 0ull) { goto L334; }
-L333:;
+if (l14 != 0ull) { goto L333; }
+L332:;
 l50 = 0u;
 l14 = 0ull;
 l38 = 1u;
-if (!l15) { goto L339; }
+if (!l15) { goto L338; }
 rattle_dealloc(b, l25);
-L339:;
+L338:;
 l11 = 0ull;
 l2 = 1u;
-goto L289;
-L313:;
-l7 = get64(b, l4 + 456);
-l9 = (((u64)get32(b, l4 + 444)) << 32) | (u64)get32(b, l4 + 440);
-l34 = 0u;
-l14 = get64(b, l4 + 416);
+goto L288;
 L312:;
-if (get64(b, l4 + 424) != l14) { goto L309; }
-t13 = f431(b, l4 + 408ull);
-if (!t13) { goto L340; }
-l14 = get64(b, l4 + 416);
-goto L309;
-L340:;
+l7 = get64(b, l4 + 392);
+l9 = (((u64)get32(b, l4 + 380)) << 32) | (u64)get32(b, l4 + 376);
+l34 = 0u;
+l14 = get64(b, l4 + 352);
+L311:;
+if (get64(b, l4 + 360) != l14) { goto L308; }
+t13 = f429(b, l4 + 344ull);
+if (!t13) { goto L339; }
+l14 = get64(b, l4 + 352);
+goto L308;
+L339:;
 switch (l38) {
-case 1: goto L343;
-case 2: goto L341;
-default: goto L344;
+case 1: goto L342;
+case 2: goto L340;
+default: goto L343;
 }
-L344:;
-if (!(u32)(!l7)) { goto L342; }
-goto L341;
 L343:;
-if (!l7) { goto L341; }
+if (!(u32)(!l7)) { goto L341; }
+goto L340;
 L342:;
-rattle_dealloc(b, l9);
+if (!l7) { goto L340; }
 L341:;
-l9 = get64(b, l4 + 424);
-l15 = get64(b, l4 + 408);
-l5 = get64(b, l4 + 416);
-if (!l5) { goto L345; }
+rattle_dealloc(b, l9);
+L340:;
+l9 = get64(b, l4 + 360);
+l15 = get64(b, l4 + 344);
+l5 = get64(b, l4 + 352);
+if (!l5) { goto L344; }
 l14 = l15;
-L346:;
+L345:;
 l13 = get64(b, l14 + 24ull);
 l7 = get64(b, l14 + 8ull);
 switch ((u32)(u64)get8(b, l14)) {
-case 1: goto L349;
-case 2: goto L347;
-default: goto L350;
+case 1: goto L348;
+case 2: goto L346;
+default: goto L349;
 }
-L350:;
-if (!(u32)(!l13)) { goto L348; }
-goto L347;
 L349:;
-if (!l13) { goto L347; }
+if (!(u32)(!l13)) { goto L347; }
+goto L346;
 L348:;
-rattle_dealloc(b, l7);
+if (!l13) { goto L346; }
 L347:;
+rattle_dealloc(b, l7);
+L346:;
 l14 = l14 + 32ull;
 l5 = l5 + 18446744073709551615ull;
-if (l5 != 0ull) { goto L346; }
-L345:;
+if (l5 != 0ull) { goto L345; }
+L344:;
 l14 = 0ull;
 l38 = 1u;
-if (!l9) { goto L311; }
+if (!l9) { goto L310; }
 rattle_dealloc(b, l15);
 l2 = 0u;
 l11 = 0ull;
 l50 = 0u;
-goto L310;
-L311:;
+goto L309;
+L310:;
 l50 = 0u;
 l11 = 0ull;
 l2 = 0u;
-L310:;
-l34 = 0u;
-goto L289;
 L309:;
-l25 = get64(b, l4 + 408);
+l34 = 0u;
+goto L288;
+L308:;
+l25 = get64(b, l4 + 344);
 l13 = l25 + (l14 << 5);
 put32(b, l13, l38);
 put64(b, l13 + 24ull, l7);
@@ -80360,74 +80607,74 @@ put64(b, l13 + 16ull, l5);
 put64(b, l13 + 8ull, l9);
 put32(b, l13 + 4ull, l34);
 l14 = l14 + 1ull;
-put64(b, l4 + 416, l14);
+put64(b, l4 + 352, l14);
 l11 = l11 + 1ull;
-if (l11 != l27) { goto L292; }
-l38 = (u32)(!get64(b, l4 + 424));
-L290:;
+if (l11 != l27) { goto L291; }
+l38 = (u32)(!get64(b, l4 + 360));
+L289:;
 l11 = l25 & 18446744069414584320ull;
 l34 = (u32)l25;
 l2 = 1u;
-L289:;
-if (l49) { goto L351; }
+L288:;
+if (l49) { goto L350; }
 rattle_dealloc(b, l28);
-L351:;
-if (!l32) { goto L352; }
+L350:;
+if (!l32) { goto L351; }
 rattle_dealloc(b, l22);
-L352:;
-if (!l21) { goto L353; }
+L351:;
+if (!l21) { goto L352; }
 rattle_dealloc(b, l23);
-L353:;
-if (l50) { goto L354; }
-if (l2) { goto L355; }
+L352:;
+if (l50) { goto L353; }
+if (l2) { goto L354; }
 l2 = 1u;
 l5 = 0ull;
 l3 = 0ull;
-goto L191;
-L355:;
+goto L190;
+L354:;
 l3 = 0ull;
 l5 = get64(b, l4 + 184);
 l14 = (u64)l34;
-if (l5 <= l14) { goto L356; }
+if (l5 <= l14) { goto L355; }
 l3 = get64(b, get64(b, l4 + 176) + (l14 << 3));
-L356:;
+L355:;
 l2 = (u32)(l5 > l14);
 l5 = l2 ? (l3 >> 32) : 0ull;
 l3 = l2 ? ((l3 << 32) | 3ull) : 3ull;
 l2 = 0u;
-goto L191;
-L354:;
+goto L190;
+L353:;
 l17 = (u64)l34;
 l9 = get64(b, l3 + 80);
 l19 = get64(b, l3 + 88);
-if (!(u32)(!l19)) { goto L358; }
+if (!(u32)(!l19)) { goto L357; }
 l2 = 0u;
 l5 = 0ull;
-goto L357;
-L358:;
+goto L356;
+L357:;
 l34 = get32(b, l9);
 l13 = l19 + 18446744073709551615ull;
-if (!(u32)(!l13)) { goto L360; }
+if (!(u32)(!l13)) { goto L359; }
 l2 = l34;
-goto L359;
-L360:;
+goto L358;
+L359:;
 l18 = l19 + 18446744073709551614ull;
 l2 = l34;
 l7 = l13;
 l5 = l9;
 l15 = l13 & 3ull;
-if (!l15) { goto L361; }
-L362:;
+if (!l15) { goto L360; }
+L361:;
 l5 = l5 + 4ull;
 l37 = get32(b, l5);
 l2 = (l2 < l37) ? l2 : l37;
 l7 = l7 + 18446744073709551615ull;
 l15 = l15 + 18446744073709551615ull;
-if (l15 != 0ull) { goto L362; }
-L361:;
-if (l18 < 3ull) { goto L363; }
+if (l15 != 0ull) { goto L361; }
+L360:;
+if (l18 < 3ull) { goto L362; }
 l5 = l5 + 16ull;
-L364:;
+L363:;
 l37 = get32(b, l5 + 18446744073709551604ull);
 l2 = (l2 < l37) ? l2 : l37;
 l37 = get32(b, l5 + 18446744073709551608ull);
@@ -80438,22 +80685,22 @@ l37 = get32(b, l5);
 l2 = (l2 < l37) ? l2 : l37;
 l5 = l5 + 16ull;
 l7 = l7 + 18446744073709551612ull;
-if (l7 != 0ull) { goto L364; }
-L363:;
+if (l7 != 0ull) { goto L363; }
+L362:;
 l5 = l9;
 l7 = l13 & 3ull;
-if (!l7) { goto L365; }
-L366:;
+if (!l7) { goto L364; }
+L365:;
 l5 = l5 + 4ull;
 l37 = get32(b, l5);
 l34 = (l34 > l37) ? l34 : l37;
 l13 = l13 + 18446744073709551615ull;
 l7 = l7 + 18446744073709551615ull;
-if (l7 != 0ull) { goto L366; }
-L365:;
-if (l18 < 3ull) { goto L359; }
+if (l7 != 0ull) { goto L365; }
+L364:;
+if (l18 < 3ull) { goto L358; }
 l5 = l5 + 16ull;
-L367:;
+L366:;
 l37 = get32(b, l5 + 18446744073709551604ull);
 l34 = (l34 > l37) ? l34 : l37;
 l37 = get32(b, l5 + 18446744073709551608ull);
@@ -80464,385 +80711,385 @@ l37 = get32(b, l5);
 l34 = (l34 > l37) ? l34 : l37;
 l5 = l5 + 16ull;
 l13 = l13 + 18446744073709551612ull;
-if (l13 != 0ull) { goto L367; }
-L359:;
+if (l13 != 0ull) { goto L366; }
+L358:;
 l5 = ((u64)(l34 - l2)) + 1ull;
-L357:;
+L356:;
 l21 = l11 | l17;
 l23 = (u64)get32(b, l3 + 48);
 l30 = get64(b, l3 + 8);
 l37 = (u32)(l19 < (l5 >> 3));
 l5 = l37 ? l19 : l5;
 l43 = (u32)(!l5);
-if (!l43) { goto L370; }
-l31 = l4 + 2248ull;
+if (!l43) { goto L369; }
+l31 = l4 + 2184ull;
 l11 = l30;
-goto L369;
-L370:;
-if (l5 > 1152921504606846975ull) { goto L368; }
+goto L368;
+L369:;
+if (l5 > 1152921504606846975ull) { goto L367; }
 l7 = l5 << 3;
 rattle_alloc(b, l4 + 72ull, l7, 4ull);
-if (!(((u32)get64(b, l4 + 72)) & 1u)) { goto L368; }
+if (!(((u32)get64(b, l4 + 72)) & 1u)) { goto L367; }
 l31 = get64(b, l4 + 80);
 l13 = 0ull;
-if (l5 == 1ull) { goto L371; }
+if (l5 == 1ull) { goto L370; }
 l13 = l7 + 18446744073709551608ull;
-if (!l13) { goto L371; }
+if (!l13) { goto L370; }
 fill(b, l31, 0u, l13);
-L371:;
+L370:;
 put64(b, l31 + l13, 0ull);
 l11 = get64(b, l3 + 8);
-L369:;
-if (!l11) { goto L374; }
-if (l37) { goto L376; }
+L368:;
+if (!l11) { goto L373; }
+if (l37) { goto L375; }
 l5 = 0ull;
 l34 = 0u;
-L377:;
+L376:;
 l13 = l5 & 4294967295ull;
 if (l11 <= l13) { goto L4; }
-if (get8(b, l8 + (l13 << 3)) == 1u) { goto L378; }
+if (get8(b, l8 + (l13 << 3)) == 1u) { goto L377; }
 l13 = l31 + (((u64)(get32(b, (get64(b, l3) + (l13 * 24ull)) + 16) - l2)) << 3);
 put32(b, l13, 1u);
 put32(b, l13 + 4ull, l34);
-L378:;
+L377:;
 l34 = l34 + 1u;
 l5 = l5 + 1ull;
-if (l11 != l5) { goto L377; }
-goto L375;
-L376:;
+if (l11 != l5) { goto L376; }
+goto L374;
+L375:;
 l17 = 0ull;
-L379:;
+L378:;
 l5 = l17 & 4294967295ull;
 if (l11 <= l5) { goto L4; }
-if (get8(b, l8 + (l5 << 3)) == 1u) { goto L380; }
+if (get8(b, l8 + (l5 << 3)) == 1u) { goto L379; }
 l34 = get32(b, (get64(b, l3) + (l5 * 24ull)) + 16);
 l5 = 0ull;
-if (l19 > 1ull) { goto L382; }
+if (l19 > 1ull) { goto L381; }
 switch ((u32)l19) {
-case 1: goto L381;
-default: goto L380;
+case 1: goto L380;
+default: goto L379;
 }
-L382:;
+L381:;
 l13 = l19;
-L383:;
+L382:;
 l7 = l13 >> 1;
 l15 = l7 + l5;
 l5 = (get32(b, l9 + (l15 << 2)) > l34) ? l5 : l15;
 l13 = l13 - l7;
-if (l13 > 1ull) { goto L383; }
-L381:;
-if (get32(b, l9 + (l5 << 2)) != l34) { goto L380; }
+if (l13 > 1ull) { goto L382; }
+L380:;
+if (get32(b, l9 + (l5 << 2)) != l34) { goto L379; }
 l5 = l31 + (l5 << 3);
 put32(b, l5, 1u);
 put32(b, l5 + 4ull, (u32)l17);
-L380:;
+L379:;
 l17 = l17 + 1ull;
-if (l17 != l11) { goto L379; }
-L375:;
+if (l17 != l11) { goto L378; }
+L374:;
 l28 = 0ull;
-put64(b, l4 + 472, 0ull);
-put64(b, l4 + 480, 0ull);
-put64(b, l4 + 488, 0ull);
-put64(b, l4 + 495, 0ull);
+put64(b, l4 + 440, 0ull);
+put64(b, l4 + 448, 0ull);
+put64(b, l4 + 456, 0ull);
+put64(b, l4 + 463, 0ull);
 l42 = 0u;
-if ((s64)l11 >= (s64)0ull) { goto L385; }
+if ((s64)l11 >= (s64)0ull) { goto L384; }
 l34 = 1u;
-goto L384;
-L385:;
+goto L383;
+L384:;
 rattle_alloc(b, l4 + 56ull, l11, 1ull);
 l34 = 1u;
 l28 = 0ull;
 l13 = 0ull;
-if (!(((u32)get64(b, l4 + 56)) & 1u)) { goto L372; }
+if (!(((u32)get64(b, l4 + 56)) & 1u)) { goto L371; }
 l17 = get64(b, l4 + 64);
 l5 = 0ull;
-if (l11 == 1ull) { goto L386; }
+if (l11 == 1ull) { goto L385; }
 l5 = l11 + 18446744073709551615ull;
-if (!l5) { goto L386; }
+if (!l5) { goto L385; }
 fill(b, l17, 0u, l5);
-L386:;
+L385:;
 put8(b, l17 + l5, 0u);
-put64(b, l4 + 448, 0ull);
-put64(b, l4 + 456, 0ull);
+put64(b, l4 + 384, 0ull);
+put64(b, l4 + 392, 0ull);
 l25 = get64(b, l3 + 8);
-put64(b, l4 + 440, l4 + 2248ull);
-if (l25 != 0ull) { goto L390; }
-put64(b, l4 + 495, get64(b, l4 + 456));
-put64(b, l4 + 487, get64(b, l4 + 448));
-put64(b, l4 + 479, get64(b, l4 + 440));
-l3 = (l4 + 472ull) | 7ull;
-goto L389;
-L390:;
-l32 = l4 + 2032ull;
+put64(b, l4 + 376, l4 + 2184ull);
+if (l25 != 0ull) { goto L389; }
+put64(b, l4 + 463, get64(b, l4 + 392));
+put64(b, l4 + 455, get64(b, l4 + 384));
+put64(b, l4 + 447, get64(b, l4 + 376));
+l3 = (l4 + 440ull) | 7ull;
+goto L388;
+L389:;
+l32 = l4 + 208ull;
 l20 = 0ull;
-L391:;
+L390:;
 l5 = l20 & 4294967295ull;
-if (get8(b, l17 + l5)) { goto L392; }
+if (get8(b, l17 + l5)) { goto L391; }
 l42 = (u32)(get8(b, l8 + (l5 << 3)) == 1u);
-if (l42) { goto L392; }
+if (l42) { goto L391; }
 l11 = 0ull;
 put64(b, l32, 0ull);
 put64(b, l32 + 8, 0ull);
-put64(b, l4 + 2024, l4 + 2248ull);
+put64(b, l4 + 200, l4 + 2184ull);
 l24 = get64(b, l3 + 8);
-if (!l24) { goto L395; }
+if (!l24) { goto L394; }
 l34 = (u32)l20;
 l42 = l42 ? 0u : l34;
-l22 = l4 + 2248ull;
+l22 = l4 + 2184ull;
 l28 = 0ull;
-goto L394;
-L395:;
-l22 = 0ull;
-l28 = l4 + 2248ull;
-l11 = 0ull;
 goto L393;
 L394:;
+l22 = 0ull;
+l28 = l4 + 2184ull;
+l11 = 0ull;
+goto L392;
+L393:;
+L397:;
+if (get64(b, l4 + 216) != l11) { goto L398; }
+t14 = f123(b, l4 + 200ull);
+if (!t14) { goto L396; }
+l22 = get64(b, l4 + 200);
+l11 = get64(b, l4 + 208);
 L398:;
-if (get64(b, l4 + 2040) != l11) { goto L399; }
-t14 = f123(b, l4 + 2024ull);
-if (!t14) { goto L397; }
-l22 = get64(b, l4 + 2024);
-l11 = get64(b, l4 + 2032);
-L399:;
 l18 = l11;
 put32(b, l22 + (l18 << 2), l34);
 l11 = l18 + 1ull;
-put64(b, l4 + 2032, l11);
+put64(b, l4 + 208, l11);
 l5 = (u64)l34;
 if (get64(b, l3 + 8) <= l5) { goto L4; }
 l34 = get32(b, (get64(b, l3) + (l5 * 24ull)) + 20);
-if (l37) { goto L401; }
+if (l37) { goto L400; }
 l5 = (u64)(l34 - l2);
-goto L400;
-L401:;
+goto L399;
+L400:;
 l5 = 0ull;
-if (l19 > 1ull) { goto L403; }
+if (l19 > 1ull) { goto L402; }
 switch ((u32)l19) {
-case 1: goto L402;
+case 1: goto L401;
 default: goto L4;
 }
-L403:;
+L402:;
 l13 = l19;
-L404:;
+L403:;
 l7 = l13 >> 1;
 l15 = l7 + l5;
 l5 = (get32(b, l9 + (l15 << 2)) > l34) ? l5 : l15;
 l13 = l13 - l7;
-if (l13 > 1ull) { goto L404; }
-L402:;
+if (l13 > 1ull) { goto L403; }
+L401:;
 if (get32(b, l9 + (l5 << 2)) != l34) { goto L4; }
-L400:;
+L399:;
 l5 = l31 + (l5 << 3);
 if (get8(b, l5) != 1u) { goto L4; }
 l34 = get32(b, l5 + 4ull);
-if (l34 == l42) { goto L405; }
+if (l34 == l42) { goto L404; }
 l28 = l28 + 1ull;
-if (l28 != l24) { goto L398; }
-L405:;
-l22 = get64(b, l4 + 2040);
-l28 = get64(b, l4 + 2024);
-if (!(u32)(!l11)) { goto L396; }
+if (l28 != l24) { goto L397; }
+L404:;
+l22 = get64(b, l4 + 216);
+l28 = get64(b, l4 + 200);
+if (!(u32)(!l11)) { goto L395; }
 l11 = 0ull;
-goto L393;
-L397:;
-if (!get64(b, l4 + 2040)) { goto L387; }
-rattle_dealloc(b, get64(b, l4 + 2024));
-goto L387;
+goto L392;
 L396:;
+if (!get64(b, l4 + 216)) { goto L386; }
+rattle_dealloc(b, get64(b, l4 + 200));
+goto L386;
+L395:;
 l5 = l18 + 1ull;
 l13 = l5 & 3ull;
 l7 = 0ull;
-if (l18 < 3ull) { goto L406; }
+if (l18 < 3ull) { goto L405; }
 l15 = l5 & 18446744073709551612ull;
 l7 = 0ull;
 l5 = l28;
-L407:;
+L406:;
 put8(b, l17 + (u64)get32(b, l5), 1u);
 put8(b, l17 + (u64)get32(b, l5 + 4ull), 1u);
 put8(b, l17 + (u64)get32(b, l5 + 8ull), 1u);
 put8(b, l17 + (u64)get32(b, l5 + 12ull), 1u);
 l5 = l5 + 16ull;
 l7 = l7 + 4ull;
-if (l15 != l7) { goto L407; }
-if (!l13) { goto L393; }
-L406:;
+if (l15 != l7) { goto L406; }
+if (!l13) { goto L392; }
+L405:;
 l5 = l28 + (l7 << 2);
-L408:;
+L407:;
 put8(b, l17 + (u64)get32(b, l5), 1u);
 l5 = l5 + 4ull;
 l13 = l13 + 18446744073709551615ull;
-if (l13 != 0ull) { goto L408; }
-L393:;
-l5 = get64(b, l4 + 448);
-if (get64(b, l4 + 456) != l5) { goto L409; }
-t15 = f432(b, l4 + 440ull);
-if (!t15) { goto L388; }
-l5 = get64(b, l4 + 448);
-L409:;
-l13 = get64(b, l4 + 440) + (l5 * 24ull);
+if (l13 != 0ull) { goto L407; }
+L392:;
+l5 = get64(b, l4 + 384);
+if (get64(b, l4 + 392) != l5) { goto L408; }
+t15 = f430(b, l4 + 376ull);
+if (!t15) { goto L387; }
+l5 = get64(b, l4 + 384);
+L408:;
+l13 = get64(b, l4 + 376) + (l5 * 24ull);
 put64(b, l13 + 16, l22);
 put64(b, l13 + 8, l11);
 put64(b, l13, l28);
-put64(b, l4 + 448, l5 + 1ull);
-L392:;
+put64(b, l4 + 384, l5 + 1ull);
+L391:;
 l20 = l20 + 1ull;
-if (l20 != l25) { goto L391; }
-put64(b, l4 + 495, get64(b, l4 + 456));
-put64(b, l4 + 487, get64(b, l4 + 448));
-put64(b, l4 + 479, get64(b, l4 + 440));
-l3 = (l4 + 472ull) | 7ull;
-L389:;
-rattle_dealloc(b, l17);
-goto L373;
+if (l20 != l25) { goto L390; }
+put64(b, l4 + 463, get64(b, l4 + 392));
+put64(b, l4 + 455, get64(b, l4 + 384));
+put64(b, l4 + 447, get64(b, l4 + 376));
+l3 = (l4 + 440ull) | 7ull;
 L388:;
-if (!l22) { goto L387; }
-rattle_dealloc(b, l28);
+rattle_dealloc(b, l17);
+goto L372;
 L387:;
-l7 = get64(b, l4 + 456);
-l13 = get64(b, l4 + 440);
-l5 = get64(b, l4 + 448);
-if (!l5) { goto L410; }
+if (!l22) { goto L386; }
+rattle_dealloc(b, l28);
+L386:;
+l7 = get64(b, l4 + 392);
+l13 = get64(b, l4 + 376);
+l5 = get64(b, l4 + 384);
+if (!l5) { goto L409; }
 l3 = l13;
-L411:;
-if (!get64(b, l3 + 16ull)) { goto L412; }
+L410:;
+if (!get64(b, l3 + 16ull)) { goto L411; }
 rattle_dealloc(b, get64(b, l3));
-L412:;
+L411:;
 l3 = l3 + 24ull;
 l5 = l5 + 18446744073709551615ull;
-if (l5 != 0ull) { goto L411; }
-L410:;
-if (!l7) { goto L413; }
+if (l5 != 0ull) { goto L410; }
+L409:;
+if (!l7) { goto L412; }
 rattle_dealloc(b, l13);
-L413:;
+L412:;
 rattle_dealloc(b, l17);
 l42 = 0u;
 l34 = 1u;
 l28 = 0ull;
-L384:;
+L383:;
 l13 = 0ull;
-goto L372;
-L374:;
-put32(b, l4 + 472, 0u);
-put32(b, l4 + 475, 0u);
-put64(b, l4 + 487, 0ull);
-put64(b, l4 + 495, 0ull);
-put64(b, l4 + 448, 0ull);
-put64(b, l4 + 456, 0ull);
-put64(b, l4 + 479, l4 + 2248ull);
-put64(b, l4 + 440, l4 + 2248ull);
-l3 = (l4 + 472ull) | 7ull;
+goto L371;
 L373:;
+put32(b, l4 + 440, 0u);
+put32(b, l4 + 443, 0u);
+put64(b, l4 + 455, 0ull);
+put64(b, l4 + 463, 0ull);
+put64(b, l4 + 384, 0ull);
+put64(b, l4 + 392, 0ull);
+put64(b, l4 + 447, l4 + 2184ull);
+put64(b, l4 + 376, l4 + 2184ull);
+l3 = (l4 + 440ull) | 7ull;
+L372:;
 l13 = get64(b, l3 + 8);
 l34 = (u32)(!get64(b, l3 + 16));
 l42 = 1u;
-l28 = get64(b, l4 + 479);
-L372:;
-if (l43) { goto L414; }
+l28 = get64(b, l4 + 447);
+L371:;
+if (l43) { goto L413; }
 rattle_dealloc(b, l31);
-L414:;
-if (!l42) { goto L368; }
+L413:;
+if (!l42) { goto L367; }
 l3 = ((u64)l35) << 32;
 l5 = (u64)l36;
-if (l1) { goto L415; }
+if (l1) { goto L414; }
 rattle_dealloc(b, l8);
-L415:;
+L414:;
 l18 = l3 | l5;
 l9 = l30 & 4294967295ull;
 l35 = (u32)(!l10);
 l2 = 0u;
 l1 = 1u;
 l5 = l29;
-goto L184;
-L368:;
-if (!l14) { goto L416; }
+goto L183;
+L367:;
+if (!l14) { goto L415; }
 l3 = l21;
-L417:;
+L416:;
 l5 = get64(b, l3 + 24ull);
 l13 = get64(b, l3 + 8ull);
 switch ((u32)(u64)get8(b, l3)) {
-case 1: goto L420;
-case 2: goto L418;
-default: goto L421;
+case 1: goto L419;
+case 2: goto L417;
+default: goto L420;
 }
-L421:;
-if (!(u32)(!l5)) { goto L419; }
-goto L418;
 L420:;
-if (!l5) { goto L418; }
+if (!(u32)(!l5)) { goto L418; }
+goto L417;
 L419:;
-rattle_dealloc(b, l13);
+if (!l5) { goto L417; }
 L418:;
+rattle_dealloc(b, l13);
+L417:;
 l3 = l3 + 32ull;
 l14 = l14 + 18446744073709551615ull;
-if (l14 != 0ull) { goto L417; }
-L416:;
-if (l38) { goto L422; }
+if (l14 != 0ull) { goto L416; }
+L415:;
+if (l38) { goto L421; }
 rattle_dealloc(b, l21);
+L421:;
+if (!l10) { goto L422; }
+rattle_dealloc(b, l16);
 L422:;
-if (!l10) { goto L423; }
-rattle_dealloc(b, l16);
+if (l1) { goto L423; }
+rattle_dealloc(b, l8);
 L423:;
-if (l1) { goto L424; }
-rattle_dealloc(b, l8);
-L424:;
-if (!l45) { goto L426; }
+if (!l45) { goto L425; }
 l1 = 0u;
 l34 = 1u;
 l28 = 0ull;
 l13 = 0ull;
 l2 = 1u;
 l39 = 0u;
-goto L425;
-L426:;
-rattle_dealloc(b, l29);
-l39 = 0u;
-l2 = 1u;
-l28 = 0ull;
-l13 = 0ull;
-l34 = 1u;
-l1 = 0u;
+goto L424;
 L425:;
-l9 = 0ull;
-goto L186;
-L191:;
-if (!l10) { goto L427; }
-rattle_dealloc(b, l16);
-L427:;
-if (l1) { goto L428; }
-rattle_dealloc(b, l8);
-L428:;
-if (l45) { goto L429; }
 rattle_dealloc(b, l29);
-L429:;
+l39 = 0u;
+l2 = 1u;
+l28 = 0ull;
+l13 = 0ull;
+l34 = 1u;
+l1 = 0u;
+L424:;
+l9 = 0ull;
+goto L185;
+L190:;
+if (!l10) { goto L426; }
+rattle_dealloc(b, l16);
+L426:;
+if (l1) { goto L427; }
+rattle_dealloc(b, l8);
+L427:;
+if (l45) { goto L428; }
+rattle_dealloc(b, l29);
+L428:;
 l9 = l3 >> 32;
 l39 = (u32)l3;
-L190:;
+L189:;
 l1 = 0u;
 l34 = 1u;
 l28 = 0ull;
 l13 = 0ull;
-goto L185;
-L189:;
-rattle_dealloc(b, l15);
+goto L184;
 L188:;
+rattle_dealloc(b, l15);
+L187:;
 l2 = 1u;
 l3 = 0ull;
-L187:;
-if (l1) { goto L430; }
+L186:;
+if (l1) { goto L429; }
 rattle_dealloc(b, l8);
-L430:;
-if (l45) { goto L431; }
+L429:;
+if (l45) { goto L430; }
 rattle_dealloc(b, l29);
-L431:;
+L430:;
 l9 = l3 >> 32;
 l39 = (u32)l3;
 l1 = 0u;
 l34 = 1u;
 l28 = 0ull;
 l13 = 0ull;
-L186:;
-l5 = 0ull;
 L185:;
+l5 = 0ull;
+L184:;
 l6 = 0ull;
 l45 = 1u;
 l21 = 0ull;
@@ -80852,381 +81099,387 @@ l23 = 0ull;
 l16 = 0ull;
 l18 = 0ull;
 l35 = 1u;
-L184:;
-l3 = get64(b, l4 + 704);
-l10 = get64(b, l4 + 688);
-l8 = get64(b, l4 + 680);
-l11 = get64(b, l4 + 664);
-l7 = get64(b, l4 + 656);
-l17 = get64(b, l4 + 640);
-l15 = get64(b, l4 + 624);
-l19 = get64(b, l4 + 608);
-if (!get64(b, l4 + 600)) { goto L432; }
-rattle_dealloc(b, get64(b, l4 + 584));
-L432:;
-if (!l15) { goto L433; }
+L183:;
+l3 = get64(b, l4 + 672);
+l10 = get64(b, l4 + 656);
+l8 = get64(b, l4 + 648);
+l11 = get64(b, l4 + 632);
+l7 = get64(b, l4 + 624);
+l17 = get64(b, l4 + 608);
+l15 = get64(b, l4 + 592);
+l19 = get64(b, l4 + 576);
+if (!get64(b, l4 + 568)) { goto L431; }
+rattle_dealloc(b, get64(b, l4 + 552));
+L431:;
+if (!l15) { goto L432; }
 rattle_dealloc(b, l19);
-L433:;
-if (!l7) { goto L434; }
+L432:;
+if (!l7) { goto L433; }
 rattle_dealloc(b, l17);
-L434:;
-if (!l8) { goto L435; }
+L433:;
+if (!l8) { goto L434; }
 rattle_dealloc(b, l11);
-L435:;
-if (!l3) { goto L436; }
+L434:;
+if (!l3) { goto L435; }
 rattle_dealloc(b, l10);
-L436:;
+L435:;
 l3 = (u64)l39;
-if (l1) { goto L437; }
+if (l1) { goto L436; }
 l14 = (l9 << 32) | l3;
-goto L11;
-L437:;
-put64(b, l4 + 592, 0ull);
-put64(b, l4 + 600, 0ull);
-put64(b, l4 + 608, 0ull);
-put64(b, l4 + 616, 0ull);
-put64(b, l4 + 504, 0ull);
-put64(b, l4 + 496, 0ull);
-put64(b, l4 + 488, 0ull);
-put64(b, l4 + 480, 0ull);
+goto L12;
+L436:;
+put64(b, l4 + 560, 0ull);
+put64(b, l4 + 568, 0ull);
+put64(b, l4 + 576, 0ull);
+put64(b, l4 + 584, 0ull);
 put64(b, l4 + 472, 0ull);
-put64(b, l4 + 584, l4 + 2248ull);
-t16 = f46(b, l4 + 584ull, 1054650ull, 11ull);
-if (t16 & 255u) { goto L439; }
-put64(b, l4 + 1312, l13);
-put64(b, l4 + 1304, l23);
-put64(b, l4 + 1296, l14);
-put64(b, l4 + 1288, l6);
-put64(b, l4 + 1280, l9);
-put64(b, l4 + 1272, l3);
-t17 = f415(b, l4 + 584ull, 1054586ull, 5ull, l4 + 1272ull, 6ull);
-if (t17 & 255u) { goto L10; }
+put64(b, l4 + 464, 0ull);
+put64(b, l4 + 456, 0ull);
+put64(b, l4 + 448, 0ull);
+put64(b, l4 + 440, 0ull);
+put64(b, l4 + 552, l4 + 2184ull);
+t16 = f46(b, l4 + 552ull, 1054650ull, 11ull);
+if (t16 & 255u) { goto L438; }
+put64(b, l4 + 1280, l13);
+put64(b, l4 + 1272, l23);
+put64(b, l4 + 1264, l14);
+put64(b, l4 + 1256, l6);
+put64(b, l4 + 1248, l9);
+put64(b, l4 + 1240, l3);
+t17 = f413(b, l4 + 552ull, 1054586ull, 5ull, l4 + 1240ull, 6ull);
+if (t17 & 255u) { goto L11; }
 l3 = l5;
-if (!(u32)(!l6)) { goto L438; }
-goto L9;
+if (!(u32)(!l6)) { goto L437; }
+goto L10;
+L438:;
+if (!get64(b, l4 + 568)) { goto L439; }
+rattle_dealloc(b, get64(b, l4 + 552));
 L439:;
-if (!get64(b, l4 + 600)) { goto L440; }
-rattle_dealloc(b, get64(b, l4 + 584));
-L440:;
-if (get8(b, l4 + 608) != 1u) { goto L8; }
-l3 = get64(b, l4 + 616);
+if (get8(b, l4 + 576) != 1u) { goto L9; }
+l3 = get64(b, l4 + 584);
 l7 = get64(b, l3);
 l8 = get64(b, l3 + 16);
 rattle_dealloc(b, l3);
-if (!l8) { goto L8; }
+if (!l8) { goto L9; }
 rattle_dealloc(b, l7);
-goto L8;
-L438:;
-L442:;
+goto L9;
+L437:;
+L441:;
 l8 = (u64)get32(b, l3 + 4ull) + 1ull;
-if (get8(b, l3)) { goto L444; }
-put64(b, l4 + 2024, l8);
-t18 = f415(b, l4 + 584ull, 1054591ull, 1ull, l4 + 2024ull, 1ull);
-if (!(t18 & 255u)) { goto L443; }
-goto L441;
-L444:;
-l7 = (u64)get32(b, l3 + 8ull);
-put64(b, l4 + 1272, l8);
-put64(b, l4 + 1280, l7 + 1ull);
-t19 = f415(b, l4 + 584ull, 1054591ull, 1ull, l4 + 1272ull, 2ull);
-if (t19 & 255u) { goto L441; }
+if (get8(b, l3)) { goto L443; }
+put64(b, l4 + 200, l8);
+t18 = f413(b, l4 + 552ull, 1054591ull, 1ull, l4 + 200ull, 1ull);
+if (!(t18 & 255u)) { goto L442; }
+goto L440;
 L443:;
+l7 = (u64)get32(b, l3 + 8ull);
+put64(b, l4 + 1240, l8);
+put64(b, l4 + 1248, l7 + 1ull);
+t19 = f413(b, l4 + 552ull, 1054591ull, 1ull, l4 + 1240ull, 2ull);
+if (t19 & 255u) { goto L440; }
+L442:;
 l3 = l3 + 12ull;
 l6 = l6 + 18446744073709551615ull;
-if (!l6) { goto L9; }
-goto L442;
-L441:;
-if (!get64(b, l4 + 600)) { goto L445; }
-rattle_dealloc(b, get64(b, l4 + 584));
-L445:;
-if (get8(b, l4 + 608) != 1u) { goto L8; }
-l3 = get64(b, l4 + 616);
+if (!l6) { goto L10; }
+goto L441;
+L440:;
+if (!get64(b, l4 + 568)) { goto L444; }
+rattle_dealloc(b, get64(b, l4 + 552));
+L444:;
+if (get8(b, l4 + 576) != 1u) { goto L9; }
+l3 = get64(b, l4 + 584);
 l7 = get64(b, l3);
 l8 = get64(b, l3 + 16);
 rattle_dealloc(b, l3);
-if (!l8) { goto L8; }
+if (!l8) { goto L9; }
 rattle_dealloc(b, l7);
-goto L8;
-L11:;
-if (l2) { goto L446; }
+goto L9;
+L12:;
+if (l2) { goto L445; }
 l3 = (l14 << 3) & 2040ull;
-f19(b, l4 + 1992ull, get64(b, l3 + 1063088), get64(b, l3 + 1063056), (u32)(l14 >> 32), (u32)l5);
-f433(b, l12);
+f19(b, l4 + 408ull, get64(b, l3 + 1063088), get64(b, l3 + 1063056), (u32)(l14 >> 32), (u32)l5);
+f431(b, l12);
+if (!get64(b, l4 + 168)) { goto L446; }
+rattle_dealloc(b, get64(b, l4 + 152));
+L446:;
+if (!get64(b, l4 + 192)) { goto L8; }
+rattle_dealloc(b, get64(b, l4 + 176));
+goto L8;
+L445:;
+f431(b, l12);
 if (!get64(b, l4 + 168)) { goto L447; }
 rattle_dealloc(b, get64(b, l4 + 152));
 L447:;
-if (!get64(b, l4 + 192)) { goto L7; }
+if (!get64(b, l4 + 192)) { goto L448; }
 rattle_dealloc(b, get64(b, l4 + 176));
-goto L7;
-L446:;
-f433(b, l12);
-if (!get64(b, l4 + 168)) { goto L448; }
-rattle_dealloc(b, get64(b, l4 + 152));
 L448:;
-if (!get64(b, l4 + 192)) { goto L449; }
-rattle_dealloc(b, get64(b, l4 + 176));
-L449:;
 l2 = 1u;
-l5 = get64(b, l4 + 2016);
-l38 = get8(b, l4 + 2008);
-l1 = get8(b, l4 + 2000);
+l5 = get64(b, l4 + 432);
+l38 = get8(b, l4 + 424);
+l1 = get8(b, l4 + 416);
 goto L1;
-L10:;
-if (!get64(b, l4 + 600)) { goto L450; }
-rattle_dealloc(b, get64(b, l4 + 584));
-L450:;
-if (get8(b, l4 + 608) != 1u) { goto L8; }
-l3 = get64(b, l4 + 616);
+L11:;
+if (!get64(b, l4 + 568)) { goto L449; }
+rattle_dealloc(b, get64(b, l4 + 552));
+L449:;
+if (get8(b, l4 + 576) != 1u) { goto L9; }
+l3 = get64(b, l4 + 584);
 l7 = get64(b, l3);
 l8 = get64(b, l3 + 16);
 rattle_dealloc(b, l3);
-if (!l8) { goto L8; }
+if (!l8) { goto L9; }
 rattle_dealloc(b, l7);
-goto L8;
-L9:;
+goto L9;
+L10:;
 l2 = (u32)(!l14);
-if (l2) { goto L451; }
+if (l2) { goto L450; }
 l3 = l21;
 l8 = l14;
-L452:;
+L451:;
 switch ((u32)(u64)get8(b, l3)) {
-case 1: goto L458;
-case 2: goto L455;
-default: goto L459;
+case 1: goto L457;
+case 2: goto L454;
+default: goto L458;
 }
-L459:;
-l15 = get64(b, l3 + 16ull);
-l6 = get64(b, l3 + 8ull);
-l7 = get64(b, l4 + 592);
-if (get64(b, l4 + 600) == l7) { goto L461; }
-put8(b, get64(b, l4 + 584) + l7, 67u);
-put64(b, l4 + 592, l7 + 1ull);
-goto L460;
-L461:;
-t20 = f46(b, l4 + 584ull, 1054592ull, 1ull);
-if (t20 & 255u) { goto L454; }
-L460:;
-t21 = f416(b, l4 + 584ull, l6, l15);
-if (t21 & 255u) { goto L454; }
-l15 = get64(b, l4 + 600);
-l7 = get64(b, l4 + 592);
-if (l15 == l7) { goto L456; }
-l6 = get64(b, l4 + 584);
-put8(b, l6 + l7, 10u);
-goto L457;
 L458:;
 l15 = get64(b, l3 + 16ull);
 l6 = get64(b, l3 + 8ull);
-l7 = get64(b, l4 + 592);
-if (get64(b, l4 + 600) == l7) { goto L463; }
-put8(b, get64(b, l4 + 584) + l7, 80u);
-put64(b, l4 + 592, l7 + 1ull);
-goto L462;
-L463:;
-t22 = f46(b, l4 + 584ull, 1054661ull, 1ull);
-if (t22 & 255u) { goto L454; }
-L462:;
-t23 = f416(b, l4 + 584ull, l6, l15);
-if (t23 & 255u) { goto L454; }
-l15 = get64(b, l4 + 600);
-l7 = get64(b, l4 + 592);
-if (l15 != l7) { goto L464; }
-t24 = f46(b, l4 + 584ull, 1048715ull, 1ull);
-if (!(t24 & 255u)) { goto L453; }
-goto L454;
-L464:;
-l6 = get64(b, l4 + 584);
+l7 = get64(b, l4 + 560);
+if (get64(b, l4 + 568) == l7) { goto L460; }
+put8(b, get64(b, l4 + 552) + l7, 67u);
+put64(b, l4 + 560, l7 + 1ull);
+goto L459;
+L460:;
+t20 = f46(b, l4 + 552ull, 1054592ull, 1ull);
+if (t20 & 255u) { goto L453; }
+L459:;
+t21 = f414(b, l4 + 552ull, l6, l15);
+if (t21 & 255u) { goto L453; }
+l15 = get64(b, l4 + 568);
+l7 = get64(b, l4 + 560);
+if (l15 == l7) { goto L455; }
+l6 = get64(b, l4 + 552);
 put8(b, l6 + l7, 10u);
+goto L456;
 L457:;
-put64(b, l4 + 600, l15);
-put64(b, l4 + 584, l6);
-put64(b, l4 + 592, l7 + 1ull);
+l15 = get64(b, l3 + 16ull);
+l6 = get64(b, l3 + 8ull);
+l7 = get64(b, l4 + 560);
+if (get64(b, l4 + 568) == l7) { goto L462; }
+put8(b, get64(b, l4 + 552) + l7, 80u);
+put64(b, l4 + 560, l7 + 1ull);
+goto L461;
+L462:;
+t22 = f46(b, l4 + 552ull, 1054661ull, 1ull);
+if (t22 & 255u) { goto L453; }
+L461:;
+t23 = f414(b, l4 + 552ull, l6, l15);
+if (t23 & 255u) { goto L453; }
+l15 = get64(b, l4 + 568);
+l7 = get64(b, l4 + 560);
+if (l15 != l7) { goto L463; }
+t24 = f46(b, l4 + 552ull, 1048715ull, 1ull);
+if (!(t24 & 255u)) { goto L452; }
 goto L453;
+L463:;
+l6 = get64(b, l4 + 552);
+put8(b, l6 + l7, 10u);
 L456:;
-t25 = f46(b, l4 + 584ull, 1048715ull, 1ull);
-if (t25 & 255u) { goto L454; }
-goto L453;
+put64(b, l4 + 568, l15);
+put64(b, l4 + 552, l6);
+put64(b, l4 + 560, l7 + 1ull);
+goto L452;
 L455:;
-put64(b, l4 + 1280, (u64)get32(b, l3 + 8ull) + 1ull);
-put64(b, l4 + 1272, (u64)get32(b, l3 + 4ull) + 1ull);
-t26 = f415(b, l4 + 584ull, 1054593ull, 1ull, l4 + 1272ull, 2ull);
-if (!(t26 & 255u)) { goto L453; }
+t25 = f46(b, l4 + 552ull, 1048715ull, 1ull);
+if (t25 & 255u) { goto L453; }
+goto L452;
 L454:;
-if (!get64(b, l4 + 600)) { goto L465; }
-rattle_dealloc(b, get64(b, l4 + 584));
-L465:;
-if (get8(b, l4 + 608) != 1u) { goto L8; }
-f434(b, get64(b, l4 + 616));
-goto L8;
+put64(b, l4 + 1248, (u64)get32(b, l3 + 8ull) + 1ull);
+put64(b, l4 + 1240, (u64)get32(b, l3 + 4ull) + 1ull);
+t26 = f413(b, l4 + 552ull, 1054593ull, 1ull, l4 + 1240ull, 2ull);
+if (!(t26 & 255u)) { goto L452; }
 L453:;
+if (!get64(b, l4 + 568)) { goto L464; }
+rattle_dealloc(b, get64(b, l4 + 552));
+L464:;
+if (get8(b, l4 + 576) != 1u) { goto L9; }
+f432(b, get64(b, l4 + 584));
+goto L9;
+L452:;
 l3 = l3 + 32ull;
 l8 = l8 + 18446744073709551615ull;
-if (!(u32)(!l8)) { goto L452; }
-L451:;
+if (!(u32)(!l8)) { goto L451; }
+L450:;
 l3 = l16;
-if (!l18) { goto L466; }
-L468:;
-put64(b, l4 + 1272, (u64)get32(b, l3) + 1ull);
-t27 = f415(b, l4 + 584ull, 1054594ull, 1ull, l4 + 1272ull, 1ull);
-if (t27 & 255u) { goto L467; }
+if (!l18) { goto L465; }
+L467:;
+put64(b, l4 + 1240, (u64)get32(b, l3) + 1ull);
+t27 = f413(b, l4 + 552ull, 1054594ull, 1ull, l4 + 1240ull, 1ull);
+if (t27 & 255u) { goto L466; }
 l3 = l3 + 4ull;
 l18 = l18 + 18446744073709551615ull;
-if (!l18) { goto L466; }
-goto L468;
-L467:;
-if (!get64(b, l4 + 600)) { goto L469; }
-rattle_dealloc(b, get64(b, l4 + 584));
-L469:;
-if (get8(b, l4 + 608) != 1u) { goto L8; }
-f434(b, get64(b, l4 + 616));
-goto L8;
+if (!l18) { goto L465; }
+goto L467;
 L466:;
-t28 = f435(b, l4 + 584ull, l28, l13);
+if (!get64(b, l4 + 568)) { goto L468; }
+rattle_dealloc(b, get64(b, l4 + 552));
+L468:;
+if (get8(b, l4 + 576) != 1u) { goto L9; }
+f432(b, get64(b, l4 + 584));
+goto L9;
+L465:;
+t28 = f433(b, l4 + 552ull, l28, l13);
 l1 = t28;
-l3 = get64(b, l4 + 600);
-if (!(l1 & 255u)) { goto L470; }
-if (!l3) { goto L471; }
-rattle_dealloc(b, get64(b, l4 + 584));
-L471:;
-if (get8(b, l4 + 608) != 1u) { goto L8; }
-f434(b, get64(b, l4 + 616));
-goto L8;
+l3 = get64(b, l4 + 568);
+if (!(l1 & 255u)) { goto L469; }
+if (!l3) { goto L470; }
+rattle_dealloc(b, get64(b, l4 + 552));
 L470:;
-if ((l3 - get64(b, l4 + 592)) < 4ull) { goto L474; }
-t29 = f54(b, l4 + 584ull, 1049315ull, 4ull);
-if (!(t29 & 255u)) { goto L473; }
-goto L472;
-L474:;
-t30 = f46(b, l4 + 584ull, 1049315ull, 4ull);
-if (t30 & 255u) { goto L472; }
+if (get8(b, l4 + 576) != 1u) { goto L9; }
+f432(b, get64(b, l4 + 584));
+goto L9;
+L469:;
+if ((l3 - get64(b, l4 + 560)) < 4ull) { goto L473; }
+t29 = f54(b, l4 + 552ull, 1049315ull, 4ull);
+if (!(t29 & 255u)) { goto L472; }
+goto L471;
 L473:;
-put64(b, l4 + 488, get64(b, l4 + 600));
-put64(b, l4 + 480, get64(b, l4 + 592));
-put64(b, l4 + 472, get64(b, l4 + 584));
-put64(b, l4 + 496, (u64)get8(b, l4 + 608));
-put64(b, l4 + 504, get64(b, l4 + 616));
-f57(b, l4 + 40ull, l4 + 472ull);
-put8(b, l4 + 2000, 0u);
-put8(b, l4 + 1992, 0u);
-put64(b, l4 + 2016, get64(b, l4 + 48));
-put64(b, l4 + 2008, (u64)get8(b, l4 + 40));
-if (l45) { goto L475; }
-rattle_dealloc(b, l5);
-L475:;
-if (l2) { goto L476; }
-l3 = l21;
-L477:;
-l5 = get64(b, l3 + 24ull);
-l8 = get64(b, l3 + 8ull);
-switch ((u32)(u64)get8(b, l3)) {
-case 1: goto L480;
-case 2: goto L478;
-default: goto L481;
-}
-L481:;
-if (!(u32)(!l5)) { goto L479; }
-goto L478;
-L480:;
-if (!l5) { goto L478; }
-L479:;
-rattle_dealloc(b, l8);
-L478:;
-l3 = l3 + 32ull;
-l14 = l14 + 18446744073709551615ull;
-if (l14 != 0ull) { goto L477; }
-L476:;
-if (l38) { goto L482; }
-rattle_dealloc(b, l21);
-L482:;
-if (l35) { goto L483; }
-rattle_dealloc(b, l16);
-L483:;
-if (!l13) { goto L484; }
-l3 = l28;
-L485:;
-if (!get64(b, l3 + 16ull)) { goto L486; }
-rattle_dealloc(b, get64(b, l3));
-L486:;
-l3 = l3 + 24ull;
-l13 = l13 + 18446744073709551615ull;
-if (l13 != 0ull) { goto L485; }
-L484:;
-if (l34) { goto L487; }
-rattle_dealloc(b, l28);
-L487:;
-f433(b, l12);
-if (!get64(b, l4 + 168)) { goto L488; }
-rattle_dealloc(b, get64(b, l4 + 152));
-L488:;
-if (!get64(b, l4 + 192)) { goto L7; }
-rattle_dealloc(b, get64(b, l4 + 176));
-goto L7;
+t30 = f46(b, l4 + 552ull, 1049315ull, 4ull);
+if (t30 & 255u) { goto L471; }
 L472:;
-if (!get64(b, l4 + 600)) { goto L489; }
-rattle_dealloc(b, get64(b, l4 + 584));
-L489:;
-if (get8(b, l4 + 608) != 1u) { goto L8; }
-f434(b, get64(b, l4 + 616));
-L8:;
-put64(b, l4 + 2008, 0ull);
-put8(b, l4 + 2000, 0u);
-put8(b, l4 + 1992, 1u);
-put64(b, l4 + 2016, 0ull);
-if (l45) { goto L490; }
+put64(b, l4 + 456, get64(b, l4 + 568));
+put64(b, l4 + 448, get64(b, l4 + 560));
+put64(b, l4 + 440, get64(b, l4 + 552));
+put64(b, l4 + 464, (u64)get8(b, l4 + 576));
+put64(b, l4 + 472, get64(b, l4 + 584));
+f57(b, l4 + 40ull, l4 + 440ull);
+put8(b, l4 + 416, 0u);
+put8(b, l4 + 408, 0u);
+put64(b, l4 + 432, get64(b, l4 + 48));
+put64(b, l4 + 424, (u64)get8(b, l4 + 40));
+if (l45) { goto L474; }
 rattle_dealloc(b, l5);
-L490:;
-if (!l14) { goto L491; }
+L474:;
+if (l2) { goto L475; }
 l3 = l21;
-L492:;
+L476:;
 l5 = get64(b, l3 + 24ull);
 l8 = get64(b, l3 + 8ull);
 switch ((u32)(u64)get8(b, l3)) {
-case 1: goto L495;
-case 2: goto L493;
-default: goto L496;
+case 1: goto L479;
+case 2: goto L477;
+default: goto L480;
 }
-L496:;
-if (!(u32)(!l5)) { goto L494; }
-goto L493;
-L495:;
-if (!l5) { goto L493; }
-L494:;
+L480:;
+if (!(u32)(!l5)) { goto L478; }
+goto L477;
+L479:;
+if (!l5) { goto L477; }
+L478:;
 rattle_dealloc(b, l8);
-L493:;
+L477:;
 l3 = l3 + 32ull;
 l14 = l14 + 18446744073709551615ull;
-if (l14 != 0ull) { goto L492; }
-L491:;
-if (l38) { goto L497; }
+if (l14 != 0ull) { goto L476; }
+L475:;
+if (l38) { goto L481; }
 rattle_dealloc(b, l21);
-L497:;
-if (l35) { goto L498; }
+L481:;
+if (l35) { goto L482; }
 rattle_dealloc(b, l16);
-L498:;
-if (!l13) { goto L499; }
+L482:;
+if (!l13) { goto L483; }
 l3 = l28;
-L500:;
-if (!get64(b, l3 + 16ull)) { goto L501; }
+L484:;
+if (!get64(b, l3 + 16ull)) { goto L485; }
 rattle_dealloc(b, get64(b, l3));
-L501:;
+L485:;
 l3 = l3 + 24ull;
 l13 = l13 + 18446744073709551615ull;
-if (l13 != 0ull) { goto L500; }
-L499:;
-if (l34) { goto L502; }
+if (l13 != 0ull) { goto L484; }
+L483:;
+if (l34) { goto L486; }
 rattle_dealloc(b, l28);
-L502:;
-f433(b, l12);
-if (!get64(b, l4 + 168)) { goto L503; }
+L486:;
+f431(b, l12);
+if (!get64(b, l4 + 168)) { goto L487; }
 rattle_dealloc(b, get64(b, l4 + 152));
-L503:;
-if (!get64(b, l4 + 192)) { goto L7; }
+L487:;
+if (!get64(b, l4 + 192)) { goto L8; }
 rattle_dealloc(b, get64(b, l4 + 176));
+goto L8;
+L471:;
+if (!get64(b, l4 + 568)) { goto L488; }
+rattle_dealloc(b, get64(b, l4 + 552));
+L488:;
+if (get8(b, l4 + 576) != 1u) { goto L9; }
+f432(b, get64(b, l4 + 584));
+L9:;
+put64(b, l4 + 424, 0ull);
+put8(b, l4 + 416, 0u);
+put8(b, l4 + 408, 1u);
+put64(b, l4 + 432, 0ull);
+if (l45) { goto L489; }
+rattle_dealloc(b, l5);
+L489:;
+if (!l14) { goto L490; }
+l3 = l21;
+L491:;
+l5 = get64(b, l3 + 24ull);
+l8 = get64(b, l3 + 8ull);
+switch ((u32)(u64)get8(b, l3)) {
+case 1: goto L494;
+case 2: goto L492;
+default: goto L495;
+}
+L495:;
+if (!(u32)(!l5)) { goto L493; }
+goto L492;
+L494:;
+if (!l5) { goto L492; }
+L493:;
+rattle_dealloc(b, l8);
+L492:;
+l3 = l3 + 32ull;
+l14 = l14 + 18446744073709551615ull;
+if (l14 != 0ull) { goto L491; }
+L490:;
+if (l38) { goto L496; }
+rattle_dealloc(b, l21);
+L496:;
+if (l35) { goto L497; }
+rattle_dealloc(b, l16);
+L497:;
+if (!l13) { goto L498; }
+l3 = l28;
+L499:;
+if (!get64(b, l3 + 16ull)) { goto L500; }
+rattle_dealloc(b, get64(b, l3));
+L500:;
+l3 = l3 + 24ull;
+l13 = l13 + 18446744073709551615ull;
+if (l13 != 0ull) { goto L499; }
+L498:;
+if (l34) { goto L501; }
+rattle_dealloc(b, l28);
+L501:;
+f431(b, l12);
+if (!get64(b, l4 + 168)) { goto L502; }
+rattle_dealloc(b, get64(b, l4 + 152));
+L502:;
+if (!get64(b, l4 + 192)) { goto L8; }
+rattle_dealloc(b, get64(b, l4 + 176));
+L8:;
+l5 = get64(b, l4 + 432);
+l38 = get8(b, l4 + 424);
+l1 = get8(b, l4 + 416);
+l2 = get8(b, l4 + 408);
+goto L1;
 L7:;
-l5 = get64(b, l4 + 2016);
-l38 = get8(b, l4 + 2008);
-l1 = get8(b, l4 + 2000);
-l2 = get8(b, l4 + 1992);
+l5 = get64(b, l4 + 576);
+l38 = get8(b, l4 + 568);
+l1 = get8(b, l4 + 560);
+l2 = get8(b, l4 + 552);
 goto L1;
 L6:;
 l5 = 0ull;
@@ -81235,42 +81488,42 @@ l2 = 1u;
 l38 = 0u;
 goto L1;
 L5:;
-l3 = get64(b, l4 + 480);
-if (l7 == l3) { goto L508; }
-put8(b, get64(b, l4 + 472) + l3, 10u);
-put64(b, l4 + 488, l7);
-put64(b, l4 + 480, l3 + 1ull);
-goto L507;
-L508:;
-t31 = f46(b, l4 + 472ull, 1048715ull, 1ull);
-if (t31 & 255u) { goto L506; }
+l3 = get64(b, l4 + 448);
+if (l7 == l3) { goto L507; }
+put8(b, get64(b, l4 + 440) + l3, 10u);
+put64(b, l4 + 456, l7);
+put64(b, l4 + 448, l3 + 1ull);
+goto L506;
 L507:;
-l19 = get64(b, l4 + 216);
-l21 = l19 & 4294967295ull;
-if (!l21) { goto L504; }
-l10 = l4 + 616ull;
-l11 = l4 + 592ull;
-l16 = get64(b, l4 + 208);
-l12 = 0ull;
-goto L505;
+t31 = f46(b, l4 + 440ull, 1048715ull, 1ull);
+if (t31 & 255u) { goto L505; }
 L506:;
-if (!get64(b, l4 + 488)) { goto L509; }
-rattle_dealloc(b, get64(b, l4 + 472));
-L509:;
-if (get8(b, l4 + 496) != 1u) { goto L3; }
-l3 = get64(b, l4 + 504);
+l19 = get64(b, l4 + 1976);
+l21 = l19 & 4294967295ull;
+if (!l21) { goto L503; }
+l10 = l4 + 584ull;
+l11 = l4 + 560ull;
+l16 = get64(b, l4 + 1968);
+l12 = 0ull;
+goto L504;
+L505:;
+if (!get64(b, l4 + 456)) { goto L508; }
+rattle_dealloc(b, get64(b, l4 + 440));
+L508:;
+if (get8(b, l4 + 464) != 1u) { goto L3; }
+l3 = get64(b, l4 + 472);
 l5 = get64(b, l3);
 l14 = get64(b, l3 + 16);
 rattle_dealloc(b, l3);
 if (!l14) { goto L3; }
 rattle_dealloc(b, l5);
 goto L3;
-L505:;
-L510:;
-put64(b, l4 + 2024, 0ull);
-put64(b, l4 + 2032, 0ull);
-put64(b, l4 + 2040, 0ull);
-put64(b, l4 + 2048, 0ull);
+L504:;
+L509:;
+put64(b, l4 + 200, 0ull);
+put64(b, l4 + 208, 0ull);
+put64(b, l4 + 216, 0ull);
+put64(b, l4 + 224, 0ull);
 put64(b, l4 + 120, 0ull);
 put64(b, l4 + 128, 0ull);
 put64(b, l4 + 136, 0ull);
@@ -81284,130 +81537,130 @@ put64(b, l11, 0ull);
 put64(b, l11 + 8, 0ull);
 put64(b, l10, 0ull);
 put64(b, l10 + 8, 0ull);
-put64(b, l4 + 584, l4 + 2248ull);
-put64(b, l4 + 608, l4 + 2248ull);
-if (!(u32)(!l14)) { goto L513; }
+put64(b, l4 + 552, l4 + 2184ull);
+put64(b, l4 + 576, l4 + 2184ull);
+if (!(u32)(!l14)) { goto L512; }
 l28 = 0ull;
 l23 = 0ull;
-goto L512;
-L513:;
-L516:;
-t32 = f436(b, l4 + 200ull, l3, l4 + 584ull);
-if (t32 & 255u) { goto L515; }
+goto L511;
+L512:;
+L515:;
+t32 = f434(b, l4 + 1960ull, l3, l4 + 552ull);
+if (t32 & 255u) { goto L514; }
 l3 = l3 + 104ull;
 l14 = l14 + 18446744073709551615ull;
-if (!l14) { goto L514; }
-goto L516;
-L515:;
-if (!get64(b, l4 + 600)) { goto L517; }
-rattle_dealloc(b, get64(b, l4 + 584));
-L517:;
-if (!get64(b, l4 + 624)) { goto L511; }
-rattle_dealloc(b, get64(b, l4 + 608));
-goto L511;
+if (!l14) { goto L513; }
+goto L515;
 L514:;
-l14 = get64(b, l4 + 624);
-l13 = get64(b, l4 + 616);
-l3 = get64(b, l4 + 608);
-l5 = get64(b, l4 + 600);
-l15 = get64(b, l4 + 584);
-l28 = get64(b, l4 + 592);
-f130(b, l4 + 2024ull, l15, l28);
-if (!get8(b, l4 + 2024)) { goto L518; }
-if (!l5) { goto L520; }
+if (!get64(b, l4 + 568)) { goto L516; }
+rattle_dealloc(b, get64(b, l4 + 552));
+L516:;
+if (!get64(b, l4 + 592)) { goto L510; }
+rattle_dealloc(b, get64(b, l4 + 576));
+goto L510;
+L513:;
+l14 = get64(b, l4 + 592);
+l13 = get64(b, l4 + 584);
+l3 = get64(b, l4 + 576);
+l5 = get64(b, l4 + 568);
+l15 = get64(b, l4 + 552);
+l28 = get64(b, l4 + 560);
+f130(b, l4 + 200ull, l15, l28);
+if (!get8(b, l4 + 200)) { goto L517; }
+if (!l5) { goto L519; }
 rattle_dealloc(b, l15);
-if (!(u32)(!l14)) { goto L519; }
-goto L511;
-L520:;
-if (!l14) { goto L511; }
+if (!(u32)(!l14)) { goto L518; }
+goto L510;
 L519:;
-rattle_dealloc(b, l3);
-goto L511;
+if (!l14) { goto L510; }
 L518:;
-l7 = get64(b, l4 + 2048);
-l23 = get64(b, l4 + 2040);
-l9 = get64(b, l4 + 2032);
+rattle_dealloc(b, l3);
+goto L510;
+L517:;
+l7 = get64(b, l4 + 224);
+l23 = get64(b, l4 + 216);
+l9 = get64(b, l4 + 208);
 f130(b, l4 + 120ull, l3, l13);
-if (!get8(b, l4 + 120)) { goto L521; }
-if (!l7) { goto L525; }
+if (!get8(b, l4 + 120)) { goto L520; }
+if (!l7) { goto L524; }
 rattle_dealloc(b, l9);
-if (!(u32)(!l5)) { goto L524; }
-goto L523;
-L525:;
-if (!l5) { goto L523; }
-L524:;
-rattle_dealloc(b, l15);
-if (!l14) { goto L511; }
+if (!(u32)(!l5)) { goto L523; }
 goto L522;
+L524:;
+if (!l5) { goto L522; }
 L523:;
-if (!l14) { goto L511; }
-L522:;
-rattle_dealloc(b, l3);
-goto L511;
-L521:;
-l17 = get64(b, l4 + 136);
-if (!get64(b, l4 + 144)) { goto L531; }
-rattle_dealloc(b, get64(b, l4 + 128));
-if (!(u32)(!l7)) { goto L530; }
-goto L529;
-L531:;
-if (!l7) { goto L529; }
-L530:;
-rattle_dealloc(b, l9);
-if (!l5) { goto L528; }
-goto L527;
-L529:;
-if (!(u32)(!l5)) { goto L527; }
-L528:;
-if (!(u32)(!l14)) { goto L526; }
-goto L512;
-L527:;
 rattle_dealloc(b, l15);
-if (!l14) { goto L512; }
-L526:;
+if (!l14) { goto L510; }
+goto L521;
+L522:;
+if (!l14) { goto L510; }
+L521:;
 rattle_dealloc(b, l3);
-L512:;
-l3 = get64(b, l4 + 480);
-if ((get64(b, l4 + 488) - l3) < 6ull) { goto L533; }
+goto L510;
+L520:;
+l17 = get64(b, l4 + 136);
+if (!get64(b, l4 + 144)) { goto L530; }
+rattle_dealloc(b, get64(b, l4 + 128));
+if (!(u32)(!l7)) { goto L529; }
+goto L528;
+L530:;
+if (!l7) { goto L528; }
+L529:;
+rattle_dealloc(b, l9);
+if (!l5) { goto L527; }
+goto L526;
+L528:;
+if (!(u32)(!l5)) { goto L526; }
+L527:;
+if (!(u32)(!l14)) { goto L525; }
+goto L511;
+L526:;
+rattle_dealloc(b, l15);
+if (!l14) { goto L511; }
+L525:;
+rattle_dealloc(b, l3);
+L511:;
+l3 = get64(b, l4 + 448);
+if ((get64(b, l4 + 456) - l3) < 6ull) { goto L532; }
 l14 = l3 + 6ull;
-l3 = get64(b, l4 + 472) + l3;
-if ((l3 - 1054600ull) > 5ull) { goto L534; }
+l3 = get64(b, l4 + 440) + l3;
+if ((l3 - 1054600ull) > 5ull) { goto L533; }
 put16(b, l3 + 4, 8300u);
 put32(b, l3, 1818585203u);
-put64(b, l4 + 480, l14);
-goto L532;
-L534:;
+put64(b, l4 + 448, l14);
+goto L531;
+L533:;
 put16(b, l3 + 4, get16(b, 1054604u));
 put32(b, l3, get32(b, 1054600u));
-put64(b, l4 + 480, l14);
-goto L532;
-L533:;
-t33 = f46(b, l4 + 472ull, 1054600ull, 6ull);
-if (t33 & 255u) { goto L511; }
+put64(b, l4 + 448, l14);
+goto L531;
 L532:;
-put64(b, l4 + 616, 0ull);
-put64(b, l4 + 608, 0ull);
-put64(b, l4 + 600, 0ull);
-put64(b, l4 + 592, 0ull);
+t33 = f46(b, l4 + 440ull, 1054600ull, 6ull);
+if (t33 & 255u) { goto L510; }
+L531:;
 put64(b, l4 + 584, 0ull);
+put64(b, l4 + 576, 0ull);
+put64(b, l4 + 568, 0ull);
+put64(b, l4 + 560, 0ull);
+put64(b, l4 + 552, 0ull);
 l12 = l12 + 1ull;
-f47(b, l4 + 8ull, l4 + 584ull, l12);
+f47(b, l4 + 8ull, l4 + 552ull, l12);
 l3 = get64(b, l4 + 16);
 l2 = (u32)(!l3);
-if (l2) { goto L535; }
+if (l2) { goto L534; }
 l7 = get64(b, l4 + 8);
-l18 = get64(b, l4 + 480);
-if ((get64(b, l4 + 488) - l18) < l3) { goto L536; }
+l18 = get64(b, l4 + 448);
+if ((get64(b, l4 + 456) - l18) < l3) { goto L535; }
 l29 = l18 + l3;
-l31 = get64(b, l4 + 472);
+l31 = get64(b, l4 + 440);
 l15 = l31 + l18;
-if ((l15 - l7) >= l3) { goto L538; }
+if ((l15 - l7) >= l3) { goto L537; }
 l13 = l3 & 3ull;
 l14 = 0ull;
-if (l3 < 4ull) { goto L539; }
+if (l3 < 4ull) { goto L538; }
 l9 = l3 & 18446744073709551612ull;
 l14 = 0ull;
-L540:;
+L539:;
 l3 = l15 + l14;
 l5 = l7 + l14;
 put8(b, l3, get8(b, l5));
@@ -81415,176 +81668,176 @@ put8(b, l3 + 1ull, get8(b, l5 + 1ull));
 put8(b, l3 + 2ull, get8(b, l5 + 2ull));
 put8(b, l3 + 3ull, get8(b, l5 + 3ull));
 l14 = l14 + 4ull;
-if (l9 != l14) { goto L540; }
-if (!l13) { goto L537; }
-L539:;
+if (l9 != l14) { goto L539; }
+if (!l13) { goto L536; }
+L538:;
 l3 = l7 + l14;
 l14 = l31 + (l14 + l18);
-L541:;
+L540:;
 put8(b, l14, get8(b, l3));
 l14 = l14 + 1ull;
 l3 = l3 + 1ull;
 l13 = l13 + 18446744073709551615ull;
-if (l13 != 0ull) { goto L541; }
-goto L537;
-L538:;
-if (l2) { goto L537; }
-copy(b, l15, l7, l3);
+if (l13 != 0ull) { goto L540; }
+goto L536;
 L537:;
-put64(b, l4 + 480, l29);
-goto L535;
+if (l2) { goto L536; }
+copy(b, l15, l7, l3);
 L536:;
-t34 = f46(b, l4 + 472ull, l7, l3);
-if (t34 & 255u) { goto L511; }
+put64(b, l4 + 448, l29);
+goto L534;
 L535:;
-t35 = f437(b, l4 + 472ull, 1054606ull, 6ull, (u64)get32(b, l8));
-if (t35 & 255u) { goto L511; }
-t36 = f437(b, l4 + 472ull, 1054612ull, 4ull, (u64)get8(b, l8 + 4ull));
-if (t36 & 255u) { goto L511; }
+t34 = f46(b, l4 + 440ull, l7, l3);
+if (t34 & 255u) { goto L510; }
+L534:;
+t35 = f435(b, l4 + 440ull, 1054606ull, 6ull, (u64)get32(b, l8));
+if (t35 & 255u) { goto L510; }
+t36 = f435(b, l4 + 440ull, 1054612ull, 4ull, (u64)get8(b, l8 + 4ull));
+if (t36 & 255u) { goto L510; }
 l3 = l8 + 16ull;
-t37 = f437(b, l4 + 472ull, 1054616ull, 5ull, get64(b, l3));
-if (t37 & 255u) { goto L511; }
+t37 = f435(b, l4 + 440ull, 1054616ull, 5ull, get64(b, l3));
+if (t37 & 255u) { goto L510; }
 l14 = get64(b, l3);
-if (!(u32)(!l14)) { goto L543; }
+if (!(u32)(!l14)) { goto L542; }
 l13 = 0ull;
-goto L542;
-L543:;
+goto L541;
+L542:;
 l15 = get64(b, l8 + 8ull);
 l9 = 1ull;
 l13 = 0ull;
 l8 = 0ull;
-if (l14 == 1ull) { goto L544; }
+if (l14 == 1ull) { goto L543; }
 l18 = l14 & 1ull;
 l3 = l15 + 192ull;
 l7 = l14 & 18446744073709551614ull;
 l13 = 0ull;
 l8 = 0ull;
-L545:;
+L544:;
 l14 = 1ull;
 l5 = 1ull;
-if (get8(b, l3 + 18446744073709551432ull) == 1u) { goto L546; }
+if (get8(b, l3 + 18446744073709551432ull) == 1u) { goto L545; }
 l5 = get64(b, l3 + 18446744073709551512ull);
-L546:;
+L545:;
 l5 = l5 + l13;
-if (get8(b, l3 + 18446744073709551536ull) == 1u) { goto L547; }
+if (get8(b, l3 + 18446744073709551536ull) == 1u) { goto L546; }
 l14 = get64(b, l3);
-L547:;
+L546:;
 l3 = l3 + 208ull;
 l13 = l14 + l5;
 l8 = l8 + 2ull;
-if (l7 != l8) { goto L545; }
-if (!l18) { goto L542; }
-L544:;
+if (l7 != l8) { goto L544; }
+if (!l18) { goto L541; }
+L543:;
 l3 = l15 + (l8 * 104ull);
-if (get8(b, l3 + 8ull) == 1u) { goto L548; }
+if (get8(b, l3 + 8ull) == 1u) { goto L547; }
 l9 = get64(b, l3 + 88ull);
-L548:;
+L547:;
 l13 = l9 + l13;
-L542:;
-t38 = f437(b, l4 + 472ull, 1054621ull, 5ull, l13);
-if (t38 & 255u) { goto L511; }
-t39 = f437(b, l4 + 472ull, 1054626ull, 4ull, l28);
-if (t39 & 255u) { goto L511; }
-t40 = f437(b, l4 + 472ull, 1054630ull, 5ull, l23);
-if (t40 & 255u) { goto L511; }
-t41 = f437(b, l4 + 472ull, 1054635ull, 8ull, l17);
-if (t41 & 255u) { goto L511; }
-l3 = get64(b, l4 + 480);
-if (get64(b, l4 + 488) == l3) { goto L550; }
-put8(b, get64(b, l4 + 472) + l3, 10u);
-put64(b, l4 + 480, l3 + 1ull);
-goto L549;
-L550:;
-t42 = f46(b, l4 + 472ull, 1048715ull, 1ull);
-if (t42 & 255u) { goto L511; }
+L541:;
+t38 = f435(b, l4 + 440ull, 1054621ull, 5ull, l13);
+if (t38 & 255u) { goto L510; }
+t39 = f435(b, l4 + 440ull, 1054626ull, 4ull, l28);
+if (t39 & 255u) { goto L510; }
+t40 = f435(b, l4 + 440ull, 1054630ull, 5ull, l23);
+if (t40 & 255u) { goto L510; }
+t41 = f435(b, l4 + 440ull, 1054635ull, 8ull, l17);
+if (t41 & 255u) { goto L510; }
+l3 = get64(b, l4 + 448);
+if (get64(b, l4 + 456) == l3) { goto L549; }
+put8(b, get64(b, l4 + 440) + l3, 10u);
+put64(b, l4 + 448, l3 + 1ull);
+goto L548;
 L549:;
-if (l12 == l21) { goto L504; }
-goto L510;
-L511:;
-if (!get64(b, l4 + 488)) { goto L551; }
-rattle_dealloc(b, get64(b, l4 + 472));
-L551:;
-if (get8(b, l4 + 496) != 1u) { goto L3; }
-l3 = get64(b, l4 + 504);
+t42 = f46(b, l4 + 440ull, 1048715ull, 1ull);
+if (t42 & 255u) { goto L510; }
+L548:;
+if (l12 == l21) { goto L503; }
+goto L509;
+L510:;
+if (!get64(b, l4 + 456)) { goto L550; }
+rattle_dealloc(b, get64(b, l4 + 440));
+L550:;
+if (get8(b, l4 + 464) != 1u) { goto L3; }
+l3 = get64(b, l4 + 472);
 l5 = get64(b, l3);
 l14 = get64(b, l3 + 16);
 rattle_dealloc(b, l3);
 if (!l14) { goto L3; }
 rattle_dealloc(b, l5);
 goto L3;
-L504:;
-l3 = get64(b, l4 + 488);
-l14 = get64(b, l4 + 472);
-l38 = get8(b, l4 + 496);
-if (l38) { goto L553; }
+L503:;
+l3 = get64(b, l4 + 456);
+l14 = get64(b, l4 + 440);
+l38 = get8(b, l4 + 464);
+if (l38) { goto L552; }
 l5 = 0ull;
-if (!l3) { goto L552; }
+if (!l3) { goto L551; }
 rattle_dealloc(b, l14);
-goto L552;
-L553:;
-l5 = get64(b, l4 + 504);
-put64(b, l5 + 8, get64(b, l4 + 480));
+goto L551;
+L552:;
+l5 = get64(b, l4 + 472);
+put64(b, l5 + 8, get64(b, l4 + 448));
 l13 = get64(b, l5 + 16);
 put64(b, l5 + 16, l3);
 l3 = get64(b, l5);
 put64(b, l5, l14);
-if (!l13) { goto L552; }
+if (!l13) { goto L551; }
 rattle_dealloc(b, l3);
-L552:;
-f420(b, l6);
-if (!get64(b, l4 + 248)) { goto L554; }
-rattle_dealloc(b, get64(b, l4 + 232));
-L554:;
+L551:;
+f418(b, l6);
+if (!get64(b, l4 + 2008)) { goto L553; }
+rattle_dealloc(b, get64(b, l4 + 1992));
+L553:;
 l2 = 0u;
-if (!get64(b, l4 + 272)) { goto L555; }
-rattle_dealloc(b, get64(b, l4 + 256));
-L555:;
+if (!get64(b, l4 + 2032)) { goto L554; }
+rattle_dealloc(b, get64(b, l4 + 2016));
+L554:;
 l1 = 0u;
 goto L2;
 L4:;
 abort();
 L3:;
-f420(b, l6);
-if (!get64(b, l4 + 248)) { goto L556; }
-rattle_dealloc(b, get64(b, l4 + 232));
-L556:;
+f418(b, l6);
+if (!get64(b, l4 + 2008)) { goto L555; }
+rattle_dealloc(b, get64(b, l4 + 1992));
+L555:;
 l5 = 0ull;
 l2 = 1u;
-if (!get64(b, l4 + 272)) { goto L557; }
-rattle_dealloc(b, get64(b, l4 + 256));
-L557:;
+if (!get64(b, l4 + 2032)) { goto L556; }
+rattle_dealloc(b, get64(b, l4 + 2016));
+L556:;
 l38 = 0u;
 L2:;
-if (get8(b, l4 + 2240)) { goto L1; }
-l8 = get64(b, l4 + 2232);
-l14 = get64(b, l4 + 2224);
-l13 = get64(b, l4 + 2216);
-l3 = get64(b, l4 + 2208);
-l12 = get64(b, l4 + 2192);
-l15 = get64(b, l4 + 2136);
-l7 = get64(b, l4 + 2152);
-put64(b, l4 + 1296, get64(b, l4 + 2184));
-put64(b, l4 + 1288, get64(b, l4 + 2176));
-put64(b, l4 + 1280, get64(b, l4 + 2168));
-put64(b, l4 + 1272, get64(b, l4 + 2160));
-if (!l7) { goto L558; }
+if (get8(b, l4 + 2176)) { goto L1; }
+l8 = get64(b, l4 + 2168);
+l14 = get64(b, l4 + 2160);
+l13 = get64(b, l4 + 2152);
+l3 = get64(b, l4 + 2144);
+l12 = get64(b, l4 + 2128);
+l15 = get64(b, l4 + 2072);
+l7 = get64(b, l4 + 2088);
+put64(b, l4 + 1264, get64(b, l4 + 2120));
+put64(b, l4 + 1256, get64(b, l4 + 2112));
+put64(b, l4 + 1248, get64(b, l4 + 2104));
+put64(b, l4 + 1240, get64(b, l4 + 2096));
+if (!l7) { goto L557; }
 rattle_dealloc(b, l15);
-L558:;
-f405(b, l4 + 1280ull);
-if (!l3) { goto L559; }
+L557:;
+f403(b, l4 + 1248ull);
+if (!l3) { goto L558; }
 rattle_dealloc(b, l12);
-L559:;
-if (!l14) { goto L560; }
+L558:;
+if (!l14) { goto L559; }
 l3 = l13;
-L561:;
-put64(b, l4 + 600, get64(b, l3 + 16));
-put64(b, l4 + 592, get64(b, l3 + 8));
-put64(b, l4 + 584, get64(b, l3));
-l3 = l3 + 24ull;
-f405(b, l4 + 584ull);
-l14 = l14 + 18446744073709551615ull;
-if (l14 != 0ull) { goto L561; }
 L560:;
+put64(b, l4 + 568, get64(b, l3 + 16));
+put64(b, l4 + 560, get64(b, l3 + 8));
+put64(b, l4 + 552, get64(b, l3));
+l3 = l3 + 24ull;
+f403(b, l4 + 552ull);
+l14 = l14 + 18446744073709551615ull;
+if (l14 != 0ull) { goto L560; }
+L559:;
 if (!l8) { goto L1; }
 rattle_dealloc(b, l13);
 L1:;
@@ -81592,10 +81845,10 @@ put8(b, l0, l2);
 put64(b, l0 + 24ull, l5);
 put8(b, l0 + 8ull, l1);
 put64(b, l0 + 16ull, ((u64)l38) & 255ull);
-SP = l4 + 2256ull;
+SP = l4 + 2192ull;
 }
 
-FN void f419(B b, u64 l0, u64 l1) {
+FN void f417(B b, u64 l0, u64 l1) {
 u32 l7 = 0, t0, t1, t2;
 u64 l2 = 0, l3 = 0, l4 = 0, l5 = 0, l6 = 0;
 l2 = SP - 48ull;
@@ -81605,9 +81858,9 @@ put64(b, l2 + 8, 0ull);
 put64(b, l2 + 24, 0ull);
 put64(b, l2 + 32, 0ull);
 put64(b, l2, l2 + 47ull);
-t0 = f413(b, l2, get8(b, l1));
+t0 = f411(b, l2, get8(b, l1));
 if (t0 & 255u) { goto L3; }
-t1 = f414(b, l2, l1);
+t1 = f412(b, l2, l1);
 l7 = t1;
 l1 = get64(b, l2 + 16);
 if (!(l7 & 255u)) { goto L2; }
@@ -81701,7 +81954,7 @@ L1:;
 SP = l2 + 48ull;
 }
 
-FN void f420(B b, u64 l0) {
+FN void f418(B b, u64 l0) {
 u64 l1 = 0, l2 = 0, l3 = 0, l4 = 0, l5 = 0, l6 = 0, l7 = 0, l8 = 0, l9 = 0, l10 = 0, l11 = 0;
 l1 = get64(b, l0 + 16);
 l2 = get64(b, l0);
@@ -81753,7 +82006,7 @@ rattle_dealloc(b, l2);
 L11:;
 }
 
-FN void f421(B b, u64 l0, u64 l1, u32 l2) {
+FN void f419(B b, u64 l0, u64 l1, u32 l2) {
 u32 l14 = 0, l15 = 0, l16 = 0, t0;
 u64 l3 = 0, l4 = 0, l5 = 0, l6 = 0, l7 = 0, l8 = 0, l9 = 0, l10 = 0, l11 = 0, l12 = 0, l13 = 0;
 l3 = SP - 1520ull;
@@ -81990,105 +82243,105 @@ copy(b, l0 + 20ull, l3, 68u);
 SP = l3 + 1520ull;
 }
 
+FN void f420(B b, u64 l0) {
+u32 l7 = 0;
+u64 l1 = 0, l2 = 0, l3 = 0, l4 = 0, l5 = 0, l6 = 0;
+l1 = get64(b, l0 + 16);
+l2 = get64(b, l0);
+l3 = get64(b, l0 + 8);
+if (!l3) { goto L1; }
+l0 = l2;
+L2:;
+l4 = get64(b, l0 + 16ull);
+l7 = get8(b, l0 + 8ull);
+switch ((u32)(u64)get8(b, l0)) {
+case 2: goto L5;
+case 3: goto L4;
+default: goto L3;
+}
+L5:;
+switch (l7) {
+case 2: goto L7;
+case 3: goto L6;
+default: goto L3;
+}
+L7:;
+rattle_dealloc(b, l4);
+goto L3;
+L6:;
+l5 = get64(b, l4);
+l6 = get64(b, l4 + 16);
+rattle_dealloc(b, l4);
+if (!l6) { goto L3; }
+rattle_dealloc(b, l5);
+goto L3;
+L4:;
+if (!l7) { goto L3; }
+l5 = get64(b, l4);
+l6 = get64(b, l4 + 16);
+rattle_dealloc(b, l4);
+if (!l6) { goto L3; }
+rattle_dealloc(b, l5);
+L3:;
+l0 = l0 + 24ull;
+l3 = l3 + 18446744073709551615ull;
+if (l3 != 0ull) { goto L2; }
+L1:;
+if (!l1) { goto L8; }
+rattle_dealloc(b, l2);
+L8:;
+}
+
+FN void f421(B b, u64 l0) {
+u32 l7 = 0;
+u64 l1 = 0, l2 = 0, l3 = 0, l4 = 0, l5 = 0, l6 = 0;
+l1 = get64(b, l0 + 16);
+l2 = get64(b, l0);
+l3 = get64(b, l0 + 8);
+if (!l3) { goto L1; }
+l0 = l2;
+L2:;
+l4 = get64(b, l0 + 16ull);
+l7 = get8(b, l0 + 8ull);
+switch ((u32)(u64)get8(b, l0)) {
+case 2: goto L5;
+case 3: goto L4;
+default: goto L3;
+}
+L5:;
+switch (l7) {
+case 2: goto L7;
+case 3: goto L6;
+default: goto L3;
+}
+L7:;
+rattle_dealloc(b, l4);
+goto L3;
+L6:;
+l5 = get64(b, l4);
+l6 = get64(b, l4 + 16);
+rattle_dealloc(b, l4);
+if (!l6) { goto L3; }
+rattle_dealloc(b, l5);
+goto L3;
+L4:;
+if (!l7) { goto L3; }
+l5 = get64(b, l4);
+l6 = get64(b, l4 + 16);
+rattle_dealloc(b, l4);
+if (!l6) { goto L3; }
+rattle_dealloc(b, l5);
+L3:;
+l0 = l0 + 24ull;
+l3 = l3 + 18446744073709551615ull;
+if (l3 != 0ull) { goto L2; }
+L1:;
+if (!l1) { goto L8; }
+rattle_dealloc(b, l2);
+L8:;
+}
+
 FN void f422(B b, u64 l0) {
-u32 l7 = 0;
-u64 l1 = 0, l2 = 0, l3 = 0, l4 = 0, l5 = 0, l6 = 0;
-l1 = get64(b, l0 + 16);
-l2 = get64(b, l0);
-l3 = get64(b, l0 + 8);
-if (!l3) { goto L1; }
-l0 = l2;
-L2:;
-l4 = get64(b, l0 + 16ull);
-l7 = get8(b, l0 + 8ull);
-switch ((u32)(u64)get8(b, l0)) {
-case 2: goto L5;
-case 3: goto L4;
-default: goto L3;
-}
-L5:;
-switch (l7) {
-case 2: goto L7;
-case 3: goto L6;
-default: goto L3;
-}
-L7:;
-rattle_dealloc(b, l4);
-goto L3;
-L6:;
-l5 = get64(b, l4);
-l6 = get64(b, l4 + 16);
-rattle_dealloc(b, l4);
-if (!l6) { goto L3; }
-rattle_dealloc(b, l5);
-goto L3;
-L4:;
-if (!l7) { goto L3; }
-l5 = get64(b, l4);
-l6 = get64(b, l4 + 16);
-rattle_dealloc(b, l4);
-if (!l6) { goto L3; }
-rattle_dealloc(b, l5);
-L3:;
-l0 = l0 + 24ull;
-l3 = l3 + 18446744073709551615ull;
-if (l3 != 0ull) { goto L2; }
-L1:;
-if (!l1) { goto L8; }
-rattle_dealloc(b, l2);
-L8:;
-}
-
-FN void f423(B b, u64 l0) {
-u32 l7 = 0;
-u64 l1 = 0, l2 = 0, l3 = 0, l4 = 0, l5 = 0, l6 = 0;
-l1 = get64(b, l0 + 16);
-l2 = get64(b, l0);
-l3 = get64(b, l0 + 8);
-if (!l3) { goto L1; }
-l0 = l2;
-L2:;
-l4 = get64(b, l0 + 16ull);
-l7 = get8(b, l0 + 8ull);
-switch ((u32)(u64)get8(b, l0)) {
-case 2: goto L5;
-case 3: goto L4;
-default: goto L3;
-}
-L5:;
-switch (l7) {
-case 2: goto L7;
-case 3: goto L6;
-default: goto L3;
-}
-L7:;
-rattle_dealloc(b, l4);
-goto L3;
-L6:;
-l5 = get64(b, l4);
-l6 = get64(b, l4 + 16);
-rattle_dealloc(b, l4);
-if (!l6) { goto L3; }
-rattle_dealloc(b, l5);
-goto L3;
-L4:;
-if (!l7) { goto L3; }
-l5 = get64(b, l4);
-l6 = get64(b, l4 + 16);
-rattle_dealloc(b, l4);
-if (!l6) { goto L3; }
-rattle_dealloc(b, l5);
-L3:;
-l0 = l0 + 24ull;
-l3 = l3 + 18446744073709551615ull;
-if (l3 != 0ull) { goto L2; }
-L1:;
-if (!l1) { goto L8; }
-rattle_dealloc(b, l2);
-L8:;
-}
-
-FN void f424(B b, u64 l0) {
 u64 l1 = 0, l2 = 0, l3 = 0, l4 = 0, l5 = 0, l6 = 0, l7 = 0, l8 = 0, l9 = 0, l10 = 0, l11 = 0;
 l1 = get64(b, l0 + 16);
 l2 = get64(b, l0);
@@ -82140,7 +82393,7 @@ rattle_dealloc(b, l2);
 L11:;
 }
 
-FN u32 f425(B b, u64 l0) {
+FN u32 f423(B b, u64 l0) {
 u32 l6 = 0;
 u64 l1 = 0, l2 = 0, l3 = 0, l4 = 0, l5 = 0;
 l1 = SP - 32ull;
@@ -82172,7 +82425,7 @@ SP = l1 + 32ull;
 return l6;
 }
 
-FN u32 f426(B b, u64 l0, u64 l1) {
+FN u32 f424(B b, u64 l0, u64 l1) {
 u32 l6 = 0;
 u64 l2 = 0, l3 = 0, l4 = 0, l5 = 0;
 l2 = SP - 32ull;
@@ -82205,7 +82458,7 @@ SP = l2 + 32ull;
 return l6;
 }
 
-FN void f427(B b, u64 l0) {
+FN void f425(B b, u64 l0) {
 u32 l7 = 0;
 u64 l1 = 0, l2 = 0, l3 = 0, l4 = 0, l5 = 0, l6 = 0;
 l1 = get64(b, l0 + 16);
@@ -82254,7 +82507,7 @@ rattle_dealloc(b, l2);
 L8:;
 }
 
-FN void f428(B b, u64 l0, u64 l1, u64 l2) {
+FN void f426(B b, u64 l0, u64 l1, u64 l2) {
 u32 l11 = 0, l12 = 0;
 u64 l3 = 0, l4 = 0, l5 = 0, l6 = 0, l7 = 0, l8 = 0, l9 = 0, l10 = 0;
 l3 = SP - 384ull;
@@ -82273,7 +82526,7 @@ put64(b, l3 + 56, 0ull);
 put32(b, l3 + 8, 0u);
 put32(b, l3 + 11, 0u);
 copy(b, l3 + 216ull, l1, 112u);
-f438(b, l3 + 96ull, l3 + 216ull, l2);
+f436(b, l3 + 96ull, l3 + 216ull, l2);
 l11 = get8(b, l3 + 96);
 if (l11) { goto L2; }
 l12 = get8(b, l3 + 320);
@@ -82342,7 +82595,7 @@ put64(b, l3 + 328, get64(b, l3 + 240));
 if (!l10) { goto L8; }
 rattle_dealloc(b, l5);
 L8:;
-f427(b, l3 + 336ull);
+f425(b, l3 + 336ull);
 if (!l1) { goto L9; }
 rattle_dealloc(b, l6);
 L9:;
@@ -82353,7 +82606,7 @@ put64(b, l3 + 376, get64(b, l1 + 16));
 put64(b, l3 + 368, get64(b, l1 + 8));
 put64(b, l3 + 360, get64(b, l1));
 l1 = l1 + 24ull;
-f427(b, l3 + 360ull);
+f425(b, l3 + 360ull);
 l2 = l2 + 18446744073709551615ull;
 if (l2 != 0ull) { goto L11; }
 L10:;
@@ -82385,7 +82638,7 @@ put32(b, l0 + 116ull, get32(b, l3 + 11));
 SP = l3 + 384ull;
 }
 
-FN u32 f429(B b, u64 l0) {
+FN u32 f427(B b, u64 l0) {
 u32 l6 = 0;
 u64 l1 = 0, l2 = 0, l3 = 0, l4 = 0, l5 = 0;
 l1 = SP - 32ull;
@@ -82417,7 +82670,7 @@ SP = l1 + 32ull;
 return l6;
 }
 
-FN u32 f430(B b, u64 l0) {
+FN u32 f428(B b, u64 l0) {
 u32 l6 = 0;
 u64 l1 = 0, l2 = 0, l3 = 0, l4 = 0, l5 = 0;
 l1 = SP - 32ull;
@@ -82449,7 +82702,7 @@ SP = l1 + 32ull;
 return l6;
 }
 
-FN u32 f431(B b, u64 l0) {
+FN u32 f429(B b, u64 l0) {
 u32 l6 = 0;
 u64 l1 = 0, l2 = 0, l3 = 0, l4 = 0, l5 = 0;
 l1 = SP - 32ull;
@@ -82481,7 +82734,7 @@ SP = l1 + 32ull;
 return l6;
 }
 
-FN u32 f432(B b, u64 l0) {
+FN u32 f430(B b, u64 l0) {
 u32 l6 = 0;
 u64 l1 = 0, l2 = 0, l3 = 0, l4 = 0, l5 = 0;
 l1 = SP - 32ull;
@@ -82513,7 +82766,7 @@ SP = l1 + 32ull;
 return l6;
 }
 
-FN void f433(B b, u64 l0) {
+FN void f431(B b, u64 l0) {
 u64 l1 = 0, l2 = 0, l3 = 0, l4 = 0, l5 = 0, l6 = 0, l7 = 0, l8 = 0, l9 = 0, l10 = 0, l11 = 0;
 l1 = get64(b, l0 + 16);
 l2 = get64(b, l0);
@@ -82565,7 +82818,7 @@ rattle_dealloc(b, l2);
 L11:;
 }
 
-FN void f434(B b, u64 l0) {
+FN void f432(B b, u64 l0) {
 u64 l1 = 0, l2 = 0;
 l1 = get64(b, l0);
 l2 = get64(b, l0 + 16);
@@ -82575,7 +82828,7 @@ rattle_dealloc(b, l1);
 L1:;
 }
 
-FN u32 f435(B b, u64 l0, u64 l1, u64 l2) {
+FN u32 f433(B b, u64 l0, u64 l1, u64 l2) {
 u32 l8 = 0, t0, t1, t2;
 u64 l3 = 0, l4 = 0, l5 = 0, l6 = 0, l7 = 0;
 if (!l2) { goto L2; }
@@ -82597,7 +82850,7 @@ if (!(t0 & 255u)) { goto L4; }
 return 1u;
 L4:;
 l8 = 1u;
-t1 = f416(b, l0, get64(b, l1), get64(b, l1 + 8ull));
+t1 = f414(b, l0, get64(b, l1), get64(b, l1 + 8ull));
 if (t1 & 255u) { goto L1; }
 l3 = l0 + 16ull;
 l4 = get64(b, l3);
@@ -82622,7 +82875,7 @@ L1:;
 return l8;
 }
 
-FN u32 f436(B b, u64 l0, u64 l1, u64 l2) {
+FN u32 f434(B b, u64 l0, u64 l1, u64 l2) {
 u32 l11 = 0, t0, t1, t2, t3;
 u64 l3 = 0, l4 = 0, l5 = 0, l6 = 0, l7 = 0, l8 = 0, l9 = 0, l10 = 0;
 if (get8(b, l1 + 8ull) != 1u) { goto L3; }
@@ -82711,7 +82964,7 @@ L1:;
 return 0u;
 }
 
-FN u32 f437(B b, u64 l0, u64 l1, u64 l2, u64 l3) {
+FN u32 f435(B b, u64 l0, u64 l1, u64 l2, u64 l3) {
 u32 l14 = 0, l15 = 0, t0, t1, t2, t3;
 u64 l4 = 0, l5 = 0, l6 = 0, l7 = 0, l8 = 0, l9 = 0, l10 = 0, l11 = 0, l12 = 0, l13 = 0;
 l4 = SP - 64ull;
@@ -82857,7 +83110,7 @@ SP = l4 + 64ull;
 return l14;
 }
 
-FN void f438(B b, u64 l0, u64 l1, u64 l2) {
+FN void f436(B b, u64 l0, u64 l1, u64 l2) {
 u32 l38 = 0, t0, t1, t2, t3, t4, t5, t6, t7, t8, t9, t10, t11, t12, t13, t14, t15, t16;
 u64 l3 = 0, l4 = 0, l5 = 0, l6 = 0, l7 = 0, l8 = 0, l9 = 0, l10 = 0, l11 = 0, l12 = 0, l13 = 0, l14 = 0, l15 = 0, l16 = 0, l17 = 0, l18 = 0, l19 = 0, l20 = 0, l21 = 0, l22 = 0, l23 = 0, l24 = 0, l25 = 0, l26 = 0, l27 = 0, l28 = 0, l29 = 0, l30 = 0, l31 = 0, l32 = 0, l33 = 0, l34 = 0, l35 = 0, l36 = 0, l37 = 0;
 l3 = SP - 896ull;
@@ -82886,7 +83139,7 @@ put64(b, l3 + 376, 0ull);
 put64(b, l3 + 384, 0ull);
 put64(b, l3 + 391, 0ull);
 l4 = get64(b, l1 + 64ull);
-f439(b, l3 + 456ull, l2);
+f437(b, l3 + 456ull, l2);
 if (get8(b, l3 + 456)) { goto L3; }
 l5 = get64(b, l3 + 504);
 l6 = get64(b, l3 + 496);
@@ -82894,7 +83147,7 @@ l7 = get64(b, l3 + 488);
 l8 = get64(b, l3 + 480);
 l9 = get64(b, l3 + 464);
 l10 = l2 + 48ull;
-f439(b, l3 + 400ull, l10);
+f437(b, l3 + 400ull, l10);
 if (get8(b, l3 + 400)) { goto L4; }
 l11 = get64(b, l3 + 448);
 l12 = get64(b, l3 + 432);
@@ -82990,7 +83243,7 @@ put64(b, l3 + 880, l21);
 put64(b, l3 + 872, 0ull);
 put64(b, l3 + 864, l24);
 l24 = 1ull;
-t0 = f188(b, l3 + 864ull, l3 + 704ull, 0ull, 1ull);
+t0 = f187(b, l3 + 864ull, l3 + 704ull, 0ull, 1ull);
 if (t0 & 255u) { goto L17; }
 if (!l30) { goto L43; }
 l21 = 1ull;
@@ -83102,7 +83355,7 @@ if (l29 != 0ull) { goto L47; }
 L60:;
 l29 = l26;
 L47:;
-t1 = f188(b, l3 + 864ull, l3 + 704ull, l24, 2ull);
+t1 = f187(b, l3 + 864ull, l3 + 704ull, l24, 2ull);
 if (t1 & 255u) { goto L41; }
 l21 = get64(b, l3 + 872);
 if (get64(b, l3 + 880) != l21) { goto L63; }
@@ -83115,14 +83368,14 @@ put64(b, l25, 1ull);
 put64(b, l25 + 16ull, 0ull);
 put64(b, l25 + 8ull, l29);
 put64(b, l3 + 872, l21 + 1ull);
-t3 = f188(b, l3 + 864ull, l3 + 704ull, l24 + 3ull, l23 + 2ull);
+t3 = f187(b, l3 + 864ull, l3 + 704ull, l24 + 3ull, l23 + 2ull);
 if (t3 & 255u) { goto L41; }
 l24 = (l24 + l23) + 5ull;
 l21 = l27;
 l30 = l30 + 18446744073709551615ull;
 if (!(u32)(!l30)) { goto L44; }
 L43:;
-t4 = f188(b, l3 + 864ull, l3 + 704ull, l24, get64(b, l3 + 712));
+t4 = f187(b, l3 + 864ull, l3 + 704ull, l24, get64(b, l3 + 712));
 if (t4 & 255u) { goto L40; }
 put64(b, l16 + 16, get64(b, l3 + 880));
 put64(b, l16 + 8, get64(b, l3 + 872));
@@ -83135,13 +83388,13 @@ put64(b, l3 + 816, l29);
 put64(b, l3 + 808, 1ull);
 f36(b, l3 + 808ull);
 L41:;
-f427(b, l3 + 864ull);
+f425(b, l3 + 864ull);
 put64(b, l16 + 16, 0ull);
 put64(b, l16 + 8, 0ull);
 put64(b, l16, 0ull);
 goto L15;
 L40:;
-f427(b, l3 + 864ull);
+f425(b, l3 + 864ull);
 put64(b, l16 + 16, 0ull);
 put64(b, l16 + 8, 0ull);
 put64(b, l16, 0ull);
@@ -83359,7 +83612,7 @@ l26 = l26 + 1ull;
 l35 = l35 + 18446744073709551615ull;
 if (!(u32)(!l35)) { goto L76; }
 L75:;
-t11 = f188(b, l3 + 840ull, l3 + 784ull, (l33 * 5ull) + 1ull, get64(b, l3 + 792));
+t11 = f187(b, l3 + 840ull, l3 + 784ull, (l33 * 5ull) + 1ull, get64(b, l3 + 792));
 if (t11 & 255u) { goto L71; }
 put64(b, l17 + 16, get64(b, l3 + 856));
 put64(b, l17 + 8, get64(b, l3 + 848));
@@ -83385,7 +83638,7 @@ put64(b, l3 + 864, 1ull);
 f36(b, l3 + 864ull);
 goto L21;
 L71:;
-f427(b, l3 + 840ull);
+f425(b, l3 + 840ull);
 put64(b, l17 + 16, 0ull);
 put64(b, l17 + 8, 0ull);
 put64(b, l17, 0ull);
@@ -83394,7 +83647,7 @@ L70:;
 put64(b, l3 + 880, get64(b, l3 + 800));
 put64(b, l3 + 872, get64(b, l3 + 792));
 put64(b, l3 + 864, get64(b, l3 + 784));
-f427(b, l3 + 864ull);
+f425(b, l3 + 864ull);
 put64(b, l16 + 16, 0ull);
 put64(b, l16 + 8, 0ull);
 put64(b, l16, 0ull);
@@ -83471,7 +83724,7 @@ l23 = l23 + 18446744073709551615ull;
 if (!l23) { goto L102; }
 goto L105;
 L103:;
-f427(b, l3 + 512ull);
+f425(b, l3 + 512ull);
 put64(b, l16 + 16, 0ull);
 put64(b, l16 + 8, 0ull);
 put64(b, l16, 0ull);
@@ -83492,14 +83745,14 @@ put64(b, l23 + 8ull, l21);
 put64(b, l3 + 848, l29 + 1ull);
 L106:;
 if (get8(b, l26) != 1u) { goto L107; }
-t13 = f188(b, l3 + 840ull, l3 + 512ull, l24, 3ull);
+t13 = f187(b, l3 + 840ull, l3 + 512ull, l24, 3ull);
 if (t13 & 255u) { goto L26; }
 L107:;
 l26 = l26 + 1ull;
 l24 = l24 + 3ull;
 l30 = l30 + 18446744073709551615ull;
 if (!(u32)(!l30)) { goto L106; }
-t14 = f188(b, l3 + 840ull, l3 + 512ull, l31, l25);
+t14 = f187(b, l3 + 840ull, l3 + 512ull, l31, l25);
 if (t14 & 255u) { goto L108; }
 put64(b, l17 + 16, get64(b, l3 + 856));
 put64(b, l17 + 8, get64(b, l3 + 848));
@@ -83507,7 +83760,7 @@ put64(b, l17, get64(b, l3 + 840));
 l38 = 0u;
 goto L23;
 L108:;
-f427(b, l3 + 840ull);
+f425(b, l3 + 840ull);
 put64(b, l17 + 16, 0ull);
 put64(b, l17 + 8, 0ull);
 put64(b, l17, 0ull);
@@ -83516,7 +83769,7 @@ L34:;
 put64(b, l3 + 672, get64(b, l3 + 720));
 put64(b, l3 + 664, get64(b, l3 + 712));
 put64(b, l3 + 656, get64(b, l3 + 704));
-f427(b, l3 + 656ull);
+f425(b, l3 + 656ull);
 goto L8;
 L31:;
 abort();
@@ -83525,7 +83778,7 @@ put64(b, l3 + 880, 0ull);
 put64(b, l3 + 872, l21);
 put64(b, l3 + 864, 1ull);
 f36(b, l3 + 864ull);
-f427(b, l3 + 840ull);
+f425(b, l3 + 840ull);
 put64(b, l17 + 16, 0ull);
 put64(b, l17 + 8, 0ull);
 put64(b, l17, 0ull);
@@ -83547,13 +83800,13 @@ put64(b, l3 + 880, 0ull);
 put64(b, l3 + 872, l21);
 put64(b, l3 + 864, 1ull);
 f36(b, l3 + 864ull);
-f427(b, l3 + 840ull);
+f425(b, l3 + 840ull);
 put64(b, l17 + 16, 0ull);
 put64(b, l17 + 8, 0ull);
 put64(b, l17, 0ull);
 goto L24;
 L26:;
-f427(b, l3 + 840ull);
+f425(b, l3 + 840ull);
 put64(b, l17 + 16, 0ull);
 put64(b, l17 + 8, 0ull);
 put64(b, l17, 0ull);
@@ -83566,7 +83819,7 @@ goto L12;
 L24:;
 l38 = 1u;
 L23:;
-f427(b, l3 + 512ull);
+f425(b, l3 + 512ull);
 put64(b, l16 + 16, get64(b, l17 + 16));
 put64(b, l16 + 8, get64(b, l17 + 8));
 put64(b, l16, get64(b, l17));
@@ -83576,7 +83829,7 @@ put64(b, l19 + 8, get64(b, l16 + 8));
 put64(b, l19, get64(b, l16));
 goto L13;
 L21:;
-f427(b, l3 + 840ull);
+f425(b, l3 + 840ull);
 put64(b, l17 + 16, 0ull);
 put64(b, l17 + 8, 0ull);
 put64(b, l17, 0ull);
@@ -83586,7 +83839,7 @@ L19:;
 put64(b, l3 + 864, get64(b, l3 + 784));
 put64(b, l3 + 872, get64(b, l3 + 792));
 put64(b, l3 + 880, get64(b, l3 + 800));
-f427(b, l3 + 864ull);
+f425(b, l3 + 864ull);
 put64(b, l16 + 16, get64(b, l17 + 16));
 put64(b, l16 + 8, get64(b, l17 + 8));
 put64(b, l16, get64(b, l17));
@@ -83596,7 +83849,7 @@ put64(b, l19 + 8, get64(b, l16 + 8));
 put64(b, l19, get64(b, l16));
 goto L13;
 L17:;
-f427(b, l3 + 864ull);
+f425(b, l3 + 864ull);
 put64(b, l16 + 16, 0ull);
 put64(b, l16 + 8, 0ull);
 put64(b, l16, 0ull);
@@ -83611,7 +83864,7 @@ L14:;
 put64(b, l3 + 632, get64(b, l3 + 704));
 put64(b, l3 + 640, get64(b, l3 + 712));
 put64(b, l3 + 648, get64(b, l3 + 720));
-f427(b, l3 + 632ull);
+f425(b, l3 + 632ull);
 put64(b, l19 + 16, get64(b, l16 + 16));
 put64(b, l19 + 8, get64(b, l16 + 8));
 put64(b, l19, get64(b, l16));
@@ -83724,7 +83977,7 @@ put64(b, l3 + 536, get64(b, l3 + 280));
 if (!l20) { goto L123; }
 rattle_dealloc(b, l25);
 L123:;
-f427(b, l3 + 544ull);
+f425(b, l3 + 544ull);
 if (!l21) { goto L124; }
 rattle_dealloc(b, l2);
 L124:;
@@ -83735,7 +83988,7 @@ put64(b, l3 + 472, get64(b, l21 + 16));
 put64(b, l3 + 464, get64(b, l21 + 8));
 put64(b, l3 + 456, get64(b, l21));
 l21 = l21 + 24ull;
-f427(b, l3 + 456ull);
+f425(b, l3 + 456ull);
 l24 = l24 + 18446744073709551615ull;
 if (l24 != 0ull) { goto L126; }
 L125:;
@@ -83750,7 +84003,7 @@ L1:;
 SP = l3 + 896ull;
 }
 
-FN void f439(B b, u64 l0, u64 l1) {
+FN void f437(B b, u64 l0, u64 l1) {
 u32 t0, t1, t2;
 u64 l2 = 0, l3 = 0, l4 = 0, l5 = 0, l6 = 0, l7 = 0, l8 = 0, l9 = 0;
 l2 = SP - 160ull;
@@ -83784,7 +84037,7 @@ L10:;
 if (get8(b, l6) != 1u) { goto L12; }
 l8 = get64(b, l2 + 88);
 if (get64(b, l2 + 96) != l8) { goto L13; }
-t0 = f425(b, l2 + 80ull);
+t0 = f423(b, l2 + 80ull);
 if (!t0) { goto L9; }
 l8 = get64(b, l2 + 88);
 L13:;
@@ -83795,7 +84048,7 @@ goto L11;
 L12:;
 l8 = get64(b, l2 + 88);
 if (get64(b, l2 + 96) != l8) { goto L14; }
-t1 = f425(b, l2 + 80ull);
+t1 = f423(b, l2 + 80ull);
 if (!t1) { goto L9; }
 l5 = get64(b, l2 + 80);
 l8 = get64(b, l2 + 88);
@@ -83828,7 +84081,7 @@ l8 = get64(b, l2 + 88);
 L7:;
 l6 = get64(b, l2 + 64);
 if (get64(b, l2 + 72) != l6) { goto L17; }
-t2 = f425(b, l2 + 56ull);
+t2 = f423(b, l2 + 56ull);
 if (!t2) { goto L2; }
 l6 = get64(b, l2 + 64);
 L17:;
@@ -83875,7 +84128,7 @@ L1:;
 SP = l2 + 160ull;
 }
 
-FN void f440(B b, u64 l0, u32 l1, u64 l2, u64 l3) {
+FN void f438(B b, u64 l0, u32 l1, u64 l2, u64 l3) {
 u32 l37 = 0, l38 = 0, l39 = 0, l40 = 0, l41 = 0, l42 = 0, l43 = 0, t0, t1, t2, t3, t4, t5, t6, t7, t8;
 u64 l4 = 0, l5 = 0, l6 = 0, l7 = 0, l8 = 0, l9 = 0, l10 = 0, l11 = 0, l12 = 0, l13 = 0, l14 = 0, l15 = 0, l16 = 0, l17 = 0, l18 = 0, l19 = 0, l20 = 0, l21 = 0, l22 = 0, l23 = 0, l24 = 0, l25 = 0, l26 = 0, l27 = 0, l28 = 0, l29 = 0, l30 = 0, l31 = 0, l32 = 0, l33 = 0, l34 = 0, l35 = 0, l36 = 0;
 l4 = SP - 3392ull;
@@ -84023,7 +84276,7 @@ put64(b, l4 + 2032, 0ull);
 put64(b, l4 + 2024, 0ull);
 put64(b, l4 + 2016, 0ull);
 put64(b, l4 + 2008, 0ull);
-f441(b, l4 + 2008ull, l5, l21, 64ull);
+f439(b, l4 + 2008ull, l5, l21, 64ull);
 l37 = 0u;
 l39 = 0u;
 switch ((u32)(u64)get8(b, l4 + 2008)) {
@@ -84043,7 +84296,7 @@ put64(b, l4 + 2032, 0ull);
 put64(b, l4 + 2024, 0ull);
 put64(b, l4 + 2016, 0ull);
 put64(b, l4 + 2008, 0ull);
-f441(b, l4 + 2008ull, l5, l21, 64ull);
+f439(b, l4 + 2008ull, l5, l21, 64ull);
 l37 = 0u;
 l39 = 0u;
 switch ((u32)(u64)get8(b, l4 + 2008)) {
@@ -84091,7 +84344,7 @@ put64(b, l4 + 2032, 0ull);
 put64(b, l4 + 2024, 0ull);
 put64(b, l4 + 2016, 0ull);
 put64(b, l4 + 2008, 0ull);
-f441(b, l4 + 2008ull, l4 + 2696ull, l5, 64ull);
+f439(b, l4 + 2008ull, l4 + 2696ull, l5, 64ull);
 l37 = 0u;
 l39 = 0u;
 switch ((u32)(u64)get8(b, l4 + 2008)) {
@@ -84111,7 +84364,7 @@ put64(b, l4 + 2032, 0ull);
 put64(b, l4 + 2024, 0ull);
 put64(b, l4 + 2016, 0ull);
 put64(b, l4 + 2008, 0ull);
-f441(b, l4 + 2008ull, l4 + 2696ull, l5, 64ull);
+f439(b, l4 + 2008ull, l4 + 2696ull, l5, 64ull);
 l37 = 0u;
 l39 = 0u;
 switch ((u32)(u64)get8(b, l4 + 2008)) {
@@ -84222,7 +84475,7 @@ put64(b, l4 + 1408, get64(b, l4 + 1840));
 put64(b, l4 + 1416, get64(b, l4 + 1848));
 put64(b, l4 + 1424, get64(b, l4 + 1856));
 put64(b, l4 + 1432, get64(b, l4 + 1864));
-f442(b, l4 + 544ull, l4 + 1384ull, l37);
+f440(b, l4 + 544ull, l4 + 1384ull, l37);
 if (!get8(b, l4 + 544)) { goto L68; }
 l37 = 1u;
 l1 = 0u;
@@ -84246,7 +84499,7 @@ put64(b, l4 + 1032, get64(b, l4 + 624));
 put64(b, l4 + 1040, get64(b, l4 + 632));
 l39 = 0u;
 fill(b, l4 + 2696ull, 0u, 424u);
-f443(b, l4 + 2696ull, l4 + 968ull, l38, 3ull);
+f441(b, l4 + 2696ull, l4 + 968ull, l38, 3ull);
 l1 = get8(b, l4 + 2696);
 l2 = l4 + 2015ull;
 copy(b, l2, (l4 + 2696ull) + 8ull, 416u);
@@ -84258,7 +84511,7 @@ l1 = 0u;
 goto L70;
 L71:;
 copy(b, l4 + 2696ull, l2, 416u);
-f444(b, l4 + 464ull, l4 + 2696ull, l17 + l5, l20 - l5);
+f442(b, l4 + 464ull, l4 + 2696ull, l17 + l5, l20 - l5);
 L74:;
 l21 = get64(b, l3);
 l22 = get64(b, l3 + 8ull);
@@ -84301,7 +84554,7 @@ put64(b, l3, l21 + l20);
 if (!l22) { goto L73; }
 L75:;
 if ((536870912ull - l16) < l20) { goto L82; }
-f444(b, l4 + 368ull, l4 + 2696ull, l17, l20);
+f442(b, l4 + 368ull, l4 + 2696ull, l17, l20);
 l16 = l20 + l16;
 goto L74;
 L82:;
@@ -84342,13 +84595,13 @@ put64(b, l4 + 3096, l5);
 l1 = (u32)l5;
 goto L84;
 L87:;
-f445(b, l4 + 368ull, l37);
+f443(b, l4 + 368ull, l37);
 goto L83;
 L85:;
 l2 = get64(b, l4 + 3104);
 l1 = get8(b, l4 + 3096);
 L84:;
-f446(b, l4 + 368ull, l1, l2);
+f444(b, l4 + 368ull, l1, l2);
 L83:;
 if (!get8(b, l4 + 368)) { goto L90; }
 l21 = 0ull;
@@ -84412,7 +84665,7 @@ L99:;
 if (!l16) { goto L91; }
 rattle_dealloc(b, l14);
 L91:;
-f447(b, l4 + 368ull);
+f445(b, l4 + 368ull);
 if (!get64(b, l4 + 3080)) { goto L70; }
 rattle_dealloc(b, get64(b, l4 + 3064));
 L70:;
@@ -84423,7 +84676,7 @@ l5 = get64(b, l4 + 1016);
 put64(b, l4 + 2712, get64(b, l19 + 16));
 put64(b, l4 + 2704, get64(b, l19 + 8));
 put64(b, l4 + 2696, get64(b, l19));
-f448(b, l4 + 2696ull);
+f446(b, l4 + 2696ull);
 if (!l5) { goto L100; }
 rattle_dealloc(b, l23);
 L100:;
@@ -84519,7 +84772,7 @@ l38 = get8(b, l4 + 257);
 if (!l13) { goto L126; }
 rattle_dealloc(b, l15);
 L126:;
-f423(b, l4 + 1984ull);
+f421(b, l4 + 1984ull);
 if (!l10) { goto L127; }
 rattle_dealloc(b, l12);
 L127:;
@@ -84530,7 +84783,7 @@ put64(b, l4 + 2712, get64(b, l2 + 16));
 put64(b, l4 + 2704, get64(b, l2 + 8));
 put64(b, l4 + 2696, get64(b, l2));
 l2 = l2 + 24ull;
-f423(b, l4 + 2696ull);
+f421(b, l4 + 2696ull);
 l8 = l8 + 18446744073709551615ull;
 if (l8 != 0ull) { goto L129; }
 L128:;
@@ -84568,7 +84821,7 @@ goto L131;
 L132:;
 l2 = l2 + 1ull;
 L131:;
-f449(b, l4 + 2696ull, l23, l2, 1ull);
+f447(b, l4 + 2696ull, l23, l2, 1ull);
 l21 = get64(b, l4 + 2712);
 l1 = get8(b, l4 + 2704);
 if (get8(b, l4 + 2696)) { goto L121; }
@@ -84734,7 +84987,7 @@ put64(b, l4 + 2008, get64(b, l8));
 if (!l3) { goto L140; }
 rattle_dealloc(b, l19);
 L140:;
-f423(b, l4 + 2016ull);
+f421(b, l4 + 2016ull);
 if (!l22) { goto L141; }
 rattle_dealloc(b, l16);
 L141:;
@@ -84745,7 +84998,7 @@ put64(b, l4 + 560, get64(b, l8 + 16));
 put64(b, l4 + 552, get64(b, l8 + 8));
 put64(b, l4 + 544, get64(b, l8));
 l8 = l8 + 24ull;
-f423(b, l4 + 544ull);
+f421(b, l4 + 544ull);
 l21 = l21 + 18446744073709551615ull;
 if (l21 != 0ull) { goto L143; }
 L142:;
@@ -84812,7 +85065,7 @@ goto L150;
 L151:;
 l16 = l2 + 1ull;
 L150:;
-f449(b, l4 + 544ull, l23, l16, l19);
+f447(b, l4 + 544ull, l23, l16, l19);
 l18 = get64(b, l4 + 568);
 l22 = get64(b, l4 + 560);
 l37 = get8(b, l4 + 552);
@@ -85024,7 +85277,7 @@ goto L185;
 L186:;
 l21 = l2 + 1ull;
 L185:;
-f449(b, l4 + 2008ull, l23, l21, l19);
+f447(b, l4 + 2008ull, l23, l21, l19);
 l2 = get64(b, l4 + 2024);
 l38 = get8(b, l4 + 2016);
 if (get8(b, l4 + 2008)) { goto L190; }
@@ -85067,7 +85320,7 @@ goto L195;
 L196:;
 l5 = l2 + 1ull;
 L195:;
-f449(b, l4 + 2008ull, l23, l5, l19);
+f447(b, l4 + 2008ull, l23, l5, l19);
 l2 = get64(b, l4 + 2024);
 l39 = get8(b, l4 + 2016);
 if (get8(b, l4 + 2008)) { goto L189; }
@@ -85097,7 +85350,7 @@ l19 = get64(b, l4 + 2032);
 l38 = l39;
 goto L116;
 L188:;
-f445(b, l4 + 368ull, l39);
+f443(b, l4 + 368ull, l39);
 goto L115;
 L130:;
 l2 = 1ull;
@@ -85108,7 +85361,7 @@ l21 = get64(b, l4 + 288);
 if (!l13) { goto L200; }
 rattle_dealloc(b, l15);
 L200:;
-f423(b, l4 + 1984ull);
+f421(b, l4 + 1984ull);
 if (!l10) { goto L201; }
 rattle_dealloc(b, l12);
 L201:;
@@ -85119,7 +85372,7 @@ put64(b, l4 + 2712, get64(b, l2 + 16));
 put64(b, l4 + 2704, get64(b, l2 + 8));
 put64(b, l4 + 2696, get64(b, l2));
 l2 = l2 + 24ull;
-f423(b, l4 + 2696ull);
+f421(b, l4 + 2696ull);
 l8 = l8 + 18446744073709551615ull;
 if (l8 != 0ull) { goto L203; }
 L202:;
@@ -85136,7 +85389,7 @@ if (l1) { goto L119; }
 l2 = get64(b, l4 + 2720);
 l1 = (u32)l21;
 L120:;
-f446(b, l4 + 184ull, l1, l2);
+f444(b, l4 + 184ull, l1, l2);
 l21 = get64(b, l4 + 208);
 l1 = get8(b, l4 + 200);
 l39 = get8(b, l4 + 192);
@@ -85144,7 +85397,7 @@ l37 = get8(b, l4 + 184);
 if (!l13) { goto L205; }
 rattle_dealloc(b, l15);
 L205:;
-f423(b, l4 + 472ull);
+f421(b, l4 + 472ull);
 if (!l10) { goto L206; }
 rattle_dealloc(b, l12);
 L206:;
@@ -85155,7 +85408,7 @@ put64(b, l4 + 2712, get64(b, l2 + 16));
 put64(b, l4 + 2704, get64(b, l2 + 8));
 put64(b, l4 + 2696, get64(b, l2));
 l2 = l2 + 24ull;
-f423(b, l4 + 2696ull);
+f421(b, l4 + 2696ull);
 l8 = l8 + 18446744073709551615ull;
 if (l8 != 0ull) { goto L208; }
 L207:;
@@ -85166,7 +85419,7 @@ L119:;
 if (!l13) { goto L209; }
 rattle_dealloc(b, l15);
 L209:;
-f423(b, l4 + 472ull);
+f421(b, l4 + 472ull);
 if (!l10) { goto L210; }
 rattle_dealloc(b, l12);
 L210:;
@@ -85177,7 +85430,7 @@ put64(b, l4 + 2712, get64(b, l2 + 16));
 put64(b, l4 + 2704, get64(b, l2 + 8));
 put64(b, l4 + 2696, get64(b, l2));
 l2 = l2 + 24ull;
-f423(b, l4 + 2696ull);
+f421(b, l4 + 2696ull);
 l8 = l8 + 18446744073709551615ull;
 if (l8 != 0ull) { goto L212; }
 L211:;
@@ -85196,7 +85449,7 @@ l21 = get64(b, l4 + 2032);
 l1 = get8(b, l4 + 2024);
 l39 = get8(b, l4 + 2016);
 l37 = get8(b, l4 + 2008);
-f424(b, l15);
+f422(b, l15);
 if (!get64(b, l4 + 1016)) { goto L214; }
 rattle_dealloc(b, get64(b, l4 + 1000));
 L214:;
@@ -85204,7 +85457,7 @@ if (!get64(b, l4 + 1040)) { goto L112; }
 rattle_dealloc(b, get64(b, l4 + 1024));
 goto L112;
 L213:;
-f424(b, l15);
+f422(b, l15);
 if (!get64(b, l4 + 1016)) { goto L215; }
 rattle_dealloc(b, get64(b, l4 + 1000));
 L215:;
@@ -85220,7 +85473,7 @@ if (!l13) { goto L116; }
 rattle_dealloc(b, l22);
 L116:;
 if (l38) { goto L216; }
-f446(b, l4 + 368ull, l1, l19);
+f444(b, l4 + 368ull, l1, l19);
 goto L115;
 L216:;
 put8(b, l4 + 368, 1u);
@@ -85229,7 +85482,7 @@ l21 = get64(b, l4 + 392);
 l1 = get8(b, l4 + 384);
 l39 = get8(b, l4 + 376);
 l37 = get8(b, l4 + 368);
-f424(b, l15);
+f422(b, l15);
 if (!get64(b, l4 + 1016)) { goto L217; }
 rattle_dealloc(b, get64(b, l4 + 1000));
 L217:;
@@ -85254,7 +85507,7 @@ L219:;
 put64(b, l4 + 1856, get64(b, l4 + 1432));
 put64(b, l4 + 1848, get64(b, l4 + 1424));
 put64(b, l4 + 1840, get64(b, l4 + 1416));
-f423(b, l4 + 1840ull);
+f421(b, l4 + 1840ull);
 l8 = get64(b, l4 + 1480);
 l5 = get64(b, l4 + 1472);
 l23 = get64(b, l4 + 1464);
@@ -85268,7 +85521,7 @@ put64(b, l4 + 2024, get64(b, l2 + 16));
 put64(b, l4 + 2016, get64(b, l2 + 8));
 put64(b, l4 + 2008, get64(b, l2));
 l2 = l2 + 24ull;
-f423(b, l4 + 2008ull);
+f421(b, l4 + 2008ull);
 l5 = l5 + 18446744073709551615ull;
 if (l5 != 0ull) { goto L222; }
 L221:;
@@ -85282,7 +85535,7 @@ L223:;
 put64(b, l4 + 1824, get64(b, l4 + 1432));
 put64(b, l4 + 1816, get64(b, l4 + 1424));
 put64(b, l4 + 1808, get64(b, l4 + 1416));
-f423(b, l4 + 1808ull);
+f421(b, l4 + 1808ull);
 l8 = get64(b, l4 + 1480);
 l5 = get64(b, l4 + 1472);
 l23 = get64(b, l4 + 1464);
@@ -85296,7 +85549,7 @@ put64(b, l4 + 2024, get64(b, l2 + 16));
 put64(b, l4 + 2016, get64(b, l2 + 8));
 put64(b, l4 + 2008, get64(b, l2));
 l2 = l2 + 24ull;
-f423(b, l4 + 2008ull);
+f421(b, l4 + 2008ull);
 l5 = l5 + 18446744073709551615ull;
 if (l5 != 0ull) { goto L226; }
 L225:;
@@ -85356,7 +85609,7 @@ l21 = get64(b, l4 + 400);
 if (!l13) { goto L230; }
 rattle_dealloc(b, l15);
 L230:;
-f422(b, l4 + 1816ull);
+f420(b, l4 + 1816ull);
 if (!l10) { goto L231; }
 rattle_dealloc(b, l12);
 L231:;
@@ -85367,7 +85620,7 @@ put64(b, l4 + 2712, get64(b, l2 + 16));
 put64(b, l4 + 2704, get64(b, l2 + 8));
 put64(b, l4 + 2696, get64(b, l2));
 l2 = l2 + 24ull;
-f422(b, l4 + 2696ull);
+f420(b, l4 + 2696ull);
 l8 = l8 + 18446744073709551615ull;
 if (l8 != 0ull) { goto L233; }
 L232:;
@@ -85384,7 +85637,7 @@ l38 = get8(b, l4 + 369);
 if (!l13) { goto L235; }
 rattle_dealloc(b, l15);
 L235:;
-f422(b, l4 + 1816ull);
+f420(b, l4 + 1816ull);
 if (!l10) { goto L236; }
 rattle_dealloc(b, l12);
 L236:;
@@ -85395,7 +85648,7 @@ put64(b, l4 + 2712, get64(b, l2 + 16));
 put64(b, l4 + 2704, get64(b, l2 + 8));
 put64(b, l4 + 2696, get64(b, l2));
 l2 = l2 + 24ull;
-f422(b, l4 + 2696ull);
+f420(b, l4 + 2696ull);
 l8 = l8 + 18446744073709551615ull;
 if (l8 != 0ull) { goto L238; }
 L237:;
@@ -85447,7 +85700,7 @@ put64(b, l4 + 2720, 0ull);
 put64(b, l4 + 2712, 0ull);
 put64(b, l4 + 2704, 0ull);
 put64(b, l4 + 2696, 0ull);
-f450(b, l4 + 2696ull, l23, l2);
+f448(b, l4 + 2696ull, l23, l2);
 l39 = get8(b, l4 + 2704);
 l37 = get8(b, l4 + 2696);
 if (l37 != 1u) { goto L246; }
@@ -85475,7 +85728,7 @@ put64(b, l4 + 2720, 0ull);
 put64(b, l4 + 2712, 0ull);
 put64(b, l4 + 2704, 0ull);
 put64(b, l4 + 2696, 0ull);
-f450(b, l4 + 2696ull, l5, l2);
+f448(b, l4 + 2696ull, l5, l2);
 l1 = 0u;
 if (get8(b, l4 + 2696) != 1u) { goto L240; }
 l1 = 1u;
@@ -85515,7 +85768,7 @@ put64(b, l4 + 2080, l10);
 put64(b, l4 + 2072, l11);
 put64(b, l4 + 2064, l12);
 fill(b, l4 + 544ull, 0u, 88u);
-f421(b, l4 + 544ull, l4 + 2008ull, l1);
+f419(b, l4 + 544ull, l4 + 2008ull, l1);
 if (get8(b, l4 + 544)) { goto L254; }
 l20 = get64(b, l4 + 2104);
 l23 = get64(b, l4 + 2096);
@@ -85540,7 +85793,7 @@ put64(b, l4 + 464, get64(b, l2));
 if (!l16) { goto L255; }
 rattle_dealloc(b, l10);
 L255:;
-f422(b, (l4 + 464ull) + 8ull);
+f420(b, (l4 + 464ull) + 8ull);
 if (!l22) { goto L256; }
 rattle_dealloc(b, l7);
 L256:;
@@ -85551,7 +85804,7 @@ put64(b, l4 + 240, get64(b, l2 + 16));
 put64(b, l4 + 232, get64(b, l2 + 8));
 put64(b, l4 + 224, get64(b, l2));
 l2 = l2 + 24ull;
-f422(b, l4 + 224ull);
+f420(b, l4 + 224ull);
 l23 = l23 + 18446744073709551615ull;
 if (l23 != 0ull) { goto L258; }
 L257:;
@@ -85562,7 +85815,7 @@ if (l3 == 0ull) { goto L3; }
 put64(b, l4 + 472, 0ull);
 put64(b, l4 + 464, 0ull);
 l39 = 0u;
-f169(b, l4 + 464ull, (l4 + 544ull) + 8ull, 0u);
+f168(b, l4 + 464ull, (l4 + 544ull) + 8ull, 0u);
 l41 = get8(b, l4 + 464);
 if (l41 != 1u) { goto L253; }
 l5 = (u64)get32(b, l4 + 468);
@@ -85593,7 +85846,7 @@ L263:;
 put64(b, l4 + 168, get64(b, l4 + 2056));
 put64(b, l4 + 160, get64(b, l4 + 2048));
 put64(b, l4 + 152, get64(b, l4 + 2040));
-f422(b, l4 + 152ull);
+f420(b, l4 + 152ull);
 l8 = get64(b, l4 + 2104);
 l5 = get64(b, l4 + 2096);
 l23 = get64(b, l4 + 2088);
@@ -85607,7 +85860,7 @@ put64(b, l4 + 480, get64(b, l2 + 16));
 put64(b, l4 + 472, get64(b, l2 + 8));
 put64(b, l4 + 464, get64(b, l2));
 l2 = l2 + 24ull;
-f422(b, l4 + 464ull);
+f420(b, l4 + 464ull);
 l5 = l5 + 18446744073709551615ull;
 if (l5 != 0ull) { goto L266; }
 L265:;
@@ -85621,7 +85874,7 @@ L267:;
 put64(b, l4 + 1968, get64(b, l4 + 2056));
 put64(b, l4 + 1960, get64(b, l4 + 2048));
 put64(b, l4 + 1952, get64(b, l4 + 2040));
-f422(b, l4 + 1952ull);
+f420(b, l4 + 1952ull);
 l8 = get64(b, l4 + 2104);
 l5 = get64(b, l4 + 2096);
 l23 = get64(b, l4 + 2088);
@@ -85635,7 +85888,7 @@ put64(b, l4 + 480, get64(b, l2 + 16));
 put64(b, l4 + 472, get64(b, l2 + 8));
 put64(b, l4 + 464, get64(b, l2));
 l2 = l2 + 24ull;
-f422(b, l4 + 464ull);
+f420(b, l4 + 464ull);
 l5 = l5 + 18446744073709551615ull;
 if (l5 != 0ull) { goto L270; }
 L269:;
@@ -85652,7 +85905,7 @@ l37 = 0u;
 l38 = 0u;
 if (!l41) { goto L251; }
 L252:;
-f433(b, l4 + 560ull);
+f431(b, l4 + 560ull);
 if (!l9) { goto L272; }
 rattle_dealloc(b, l12);
 L272:;
@@ -85695,7 +85948,7 @@ l22 = get64(b, l4 + 2112);
 l10 = get64(b, l4 + 2120);
 l3 = get64(b, l4 + 2136);
 l12 = (l4 + 2008ull) + 8ull;
-f451(b, l4 + 544ull, l12);
+f449(b, l4 + 544ull, l12);
 if (get8(b, l4 + 544)) { goto L280; }
 l15 = l4 + 3384ull;
 l6 = get64(b, l4 + 592);
@@ -85843,7 +86096,7 @@ L274:;
 put64(b, l4 + 1936, get64(b, l23 + 16));
 put64(b, l4 + 1928, get64(b, l23 + 8));
 put64(b, l4 + 1920, get64(b, l23));
-f433(b, l4 + 1920ull);
+f431(b, l4 + 1920ull);
 if (!get64(b, l4 + 1016)) { goto L310; }
 rattle_dealloc(b, get64(b, l4 + 1000));
 L310:;
@@ -85912,7 +86165,7 @@ put64(b, l4 + 2024, 0ull);
 put64(b, l4 + 2016, 0ull);
 put64(b, l4 + 2008, 0ull);
 if (get8(b, l4 + 2704) == 1u) { goto L313; }
-f450(b, l4 + 2008ull, l5, l20);
+f448(b, l4 + 2008ull, l5, l20);
 if (get8(b, l4 + 2008)) { goto L318; }
 put64(b, l4 + 2720, l8);
 put64(b, l4 + 2712, 0ull);
@@ -86033,7 +86286,7 @@ put64(b, l4 + 568, 0ull);
 put64(b, l4 + 560, 0ull);
 put64(b, l4 + 552, 0ull);
 put64(b, l4 + 544, 0ull);
-f452(b, l4 + 544ull, l12, l3, l22, l8, l37, l39, l2, l18);
+f450(b, l4 + 544ull, l12, l3, l22, l8, l37, l39, l2, l18);
 if (get8(b, l4 + 544) != 1u) { goto L321; }
 if (get64(b, l4 + 568) != 0ull) { goto L321; }
 put32(b, l4 + 3060, get32(b, l4 + 552));
@@ -86582,7 +86835,7 @@ put64(b, l4 + 2704, 1ull);
 l1 = 2u;
 goto L312;
 L408:;
-f445(b, l4 + 184ull, l1);
+f443(b, l4 + 184ull, l1);
 l2 = get64(b, l4 + 3008);
 l9 = get64(b, l4 + 2992);
 l5 = get64(b, l4 + 2976);
@@ -86638,7 +86891,7 @@ L418:;
 put64(b, l4 + 1912, get64(b, l23 + 16));
 put64(b, l4 + 1904, get64(b, l23 + 8));
 put64(b, l4 + 1896, get64(b, l23));
-f433(b, l4 + 1896ull);
+f431(b, l4 + 1896ull);
 if (!get64(b, l4 + 1016)) { goto L419; }
 rattle_dealloc(b, get64(b, l4 + 1000));
 L419:;
@@ -86649,7 +86902,7 @@ L313:;
 l8 = get64(b, l4 + 2720);
 l1 = get8(b, l4 + 2712);
 L312:;
-f446(b, l4 + 184ull, l1, l8);
+f444(b, l4 + 184ull, l1, l8);
 l2 = get64(b, l4 + 3008);
 l9 = get64(b, l4 + 2992);
 l5 = get64(b, l4 + 2976);
@@ -86705,7 +86958,7 @@ L429:;
 put64(b, l4 + 1888, get64(b, l23 + 16));
 put64(b, l4 + 1880, get64(b, l23 + 8));
 put64(b, l4 + 1872, get64(b, l23));
-f433(b, l4 + 1872ull);
+f431(b, l4 + 1872ull);
 if (!get64(b, l4 + 1016)) { goto L430; }
 rattle_dealloc(b, get64(b, l4 + 1000));
 L430:;
@@ -86725,11 +86978,11 @@ l39 = get8(b, l4 + 2016);
 l37 = get8(b, l4 + 2008);
 goto L239;
 L240:;
-f446(b, l4 + 1976ull, l1, l18);
+f444(b, l4 + 1976ull, l1, l18);
 if (!l13) { goto L431; }
 rattle_dealloc(b, l15);
 L431:;
-f422(b, l4 + 1848ull);
+f420(b, l4 + 1848ull);
 if (!l10) { goto L432; }
 rattle_dealloc(b, l12);
 L432:;
@@ -86740,7 +86993,7 @@ put64(b, l4 + 2712, get64(b, l2 + 16));
 put64(b, l4 + 2704, get64(b, l2 + 8));
 put64(b, l4 + 2696, get64(b, l2));
 l2 = l2 + 24ull;
-f422(b, l4 + 2696ull);
+f420(b, l4 + 2696ull);
 l8 = l8 + 18446744073709551615ull;
 if (l8 != 0ull) { goto L434; }
 L433:;
@@ -86803,7 +87056,7 @@ l38 = get8(b, l4 + 185);
 if (!l13) { goto L442; }
 rattle_dealloc(b, l15);
 L442:;
-f453(b, l4 + 232ull);
+f451(b, l4 + 232ull);
 if (!l10) { goto L443; }
 rattle_dealloc(b, l12);
 L443:;
@@ -86814,7 +87067,7 @@ put64(b, l4 + 2712, get64(b, l2 + 16));
 put64(b, l4 + 2704, get64(b, l2 + 8));
 put64(b, l4 + 2696, get64(b, l2));
 l2 = l2 + 24ull;
-f453(b, l4 + 2696ull);
+f451(b, l4 + 2696ull);
 l8 = l8 + 18446744073709551615ull;
 if (l8 != 0ull) { goto L445; }
 L444:;
@@ -86856,7 +87109,7 @@ put64(b, l4 + 304, get64(b, l4 + 248));
 put64(b, l4 + 296, get64(b, l4 + 240));
 put64(b, l4 + 288, get64(b, l4 + 232));
 put64(b, l4 + 280, get64(b, l4 + 224));
-f454(b, l4 + 1808ull, l17, l18);
+f452(b, l4 + 1808ull, l17, l18);
 l37 = get8(b, l4 + 1816);
 if (get8(b, l4 + 1808)) { goto L448; }
 l22 = get64(b, l4 + 1832);
@@ -86867,21 +87120,21 @@ l1 = 0u;
 fill(b, l4 + 368ull, 0u, 80u);
 fill(b, l4 + 968ull, 0u, 96u);
 copy(b, l4 + 544ull, l4 + 256ull, 112u);
-f442(b, l4 + 968ull, l4 + 544ull, l39);
+f440(b, l4 + 968ull, l4 + 544ull, l39);
 if (!get8(b, l4 + 968)) { goto L447; }
 l37 = 1u;
 l21 = 0ull;
 l39 = 0u;
 goto L12;
 L448:;
-f446(b, l4 + 1840ull, l37, get64(b, l4 + 1824));
+f444(b, l4 + 1840ull, l37, get64(b, l4 + 1824));
 if (!get64(b, l4 + 272)) { goto L449; }
 rattle_dealloc(b, get64(b, l4 + 256));
 L449:;
 put64(b, l4 + 168, get64(b, l4 + 304));
 put64(b, l4 + 160, get64(b, l4 + 296));
 put64(b, l4 + 152, get64(b, l4 + 288));
-f453(b, l4 + 152ull);
+f451(b, l4 + 152ull);
 l21 = get64(b, l4 + 352);
 l5 = get64(b, l4 + 344);
 l8 = get64(b, l4 + 336);
@@ -86895,7 +87148,7 @@ put64(b, l4 + 2712, get64(b, l2 + 16));
 put64(b, l4 + 2704, get64(b, l2 + 8));
 put64(b, l4 + 2696, get64(b, l2));
 l2 = l2 + 24ull;
-f453(b, l4 + 2696ull);
+f451(b, l4 + 2696ull);
 l5 = l5 + 18446744073709551615ull;
 if (l5 != 0ull) { goto L452; }
 L451:;
@@ -86931,7 +87184,7 @@ put64(b, l4 + 472, 0ull);
 put64(b, l4 + 464, 0ull);
 l39 = 0u;
 fill(b, l4 + 2696ull, 0u, 424u);
-f443(b, l4 + 2696ull, l4 + 368ull, l37, 3ull);
+f441(b, l4 + 2696ull, l4 + 368ull, l37, 3ull);
 l1 = get8(b, l4 + 2696);
 l2 = l4 + 2015ull;
 copy(b, l2, (l4 + 2696ull) + 8ull, 416u);
@@ -86941,7 +87194,7 @@ copy(b, l4 + 1384ull, l2, 416u);
 put64(b, l4 + 2712, 0ull);
 put64(b, l4 + 2704, 0ull);
 put64(b, l4 + 2696, 0ull);
-f444(b, l4 + 2696ull, l4 + 1384ull, l3, l22);
+f442(b, l4 + 2696ull, l4 + 1384ull, l3, l22);
 if (get8(b, l4 + 2696)) { goto L456; }
 if (get8(b, l4 + 1776) != 1u) { goto L457; }
 l1 = 0u;
@@ -87036,7 +87289,7 @@ L470:;
 if (!l7) { goto L462; }
 rattle_dealloc(b, l24);
 L462:;
-f447(b, l4 + 1976ull);
+f445(b, l4 + 1976ull);
 if (!get64(b, l4 + 1768)) { goto L471; }
 rattle_dealloc(b, get64(b, l4 + 1752));
 L471:;
@@ -87113,7 +87366,7 @@ put64(b, l4 + 2712, 0ull);
 put64(b, l4 + 2720, 0ull);
 put64(b, l4 + 2728, 0ull);
 put64(b, l4 + 2696, l4 + 3384ull);
-t2 = f413(b, l4 + 2696ull, 1u);
+t2 = f411(b, l4 + 2696ull, 1u);
 if (t2 & 255u) { goto L491; }
 l18 = l18 - l2;
 if (!l18) { goto L492; }
@@ -87139,7 +87392,7 @@ if ((get8(b, l5 + 3ull) & 255u) != 76u) { goto L500; }
 if ((l37 & 255u) != 72u) { goto L500; }
 if ((l1 & 255u) != 69u) { goto L500; }
 if ((get8(b, l5 + 4ull) & 255u) != 76u) { goto L500; }
-t3 = f455(b, l4 + 2696ull, l4 + 368ull, l7);
+t3 = f453(b, l4 + 2696ull, l4 + 368ull, l7);
 if (t3 & 255u) { goto L16; }
 l2 = get64(b, l4 + 2704);
 if ((get64(b, l4 + 2712) - l2) < l22) { goto L503; }
@@ -87193,7 +87446,7 @@ L500:;
 if ((l1 & 255u) != 68u) { goto L498; }
 if ((l37 & 255u) != 78u) { goto L498; }
 if ((l38 & 255u) != 69u) { goto L498; }
-t5 = f455(b, l4 + 2696ull, l4 + 368ull, l7);
+t5 = f453(b, l4 + 2696ull, l4 + 368ull, l7);
 if (!(t5 & 255u)) { goto L498; }
 goto L16;
 L499:;
@@ -87320,7 +87573,7 @@ l37 = 0u;
 l1 = 0u;
 goto L13;
 L472:;
-f446(b, l4 + 464ull, l38, l2);
+f444(b, l4 + 464ull, l38, l2);
 l21 = get64(b, l4 + 488);
 l1 = get8(b, l4 + 480);
 l39 = get8(b, l4 + 472);
@@ -87419,7 +87672,7 @@ put64(b, l4 + 3360, l4 + 3384ull);
 put64(b, l4 + 3376, 0ull);
 put64(b, l4 + 3368, 0ull);
 fill(b, l4 + 368ull, 0u, 96u);
-f456(b, l4 + 368ull, l4 + 2696ull, l39);
+f454(b, l4 + 368ull, l4 + 2696ull, l39);
 if (get8(b, l4 + 368)) { goto L521; }
 l6 = l4 + 1304ull;
 l15 = l4 + 551ull;
@@ -87450,7 +87703,7 @@ put64(b, l4 + 480, l21);
 l1 = 0u;
 fill(b, l4 + 1384ull, 0u, 424u);
 l39 = 1u;
-f443(b, l4 + 1384ull, l4 + 464ull, 1u, l16);
+f441(b, l4 + 1384ull, l4 + 464ull, 1u, l16);
 l37 = get8(b, l4 + 1384);
 copy(b, l15, l11, 416u);
 l8 = 0ull;
@@ -87466,7 +87719,7 @@ put64(b, l4 + 1976, 0ull);
 put64(b, l4 + 1984, 0ull);
 put64(b, l4 + 1992, 0ull);
 put64(b, l4 + 2000, 0ull);
-f457(b, l4 + 1384ull, l4 + 968ull, l3, l22);
+f455(b, l4 + 1384ull, l4 + 968ull, l3, l22);
 if (get8(b, l4 + 1384) != 1u) { goto L527; }
 l39 = 0u;
 l21 = get64(b, l4 + 1408);
@@ -87510,7 +87763,7 @@ put64(b, l4 + 1360, 1ull);
 put64(b, l4 + 1368, l21);
 l1 = (u32)l21;
 L529:;
-f446(b, l4 + 1976ull, l1, l8);
+f444(b, l4 + 1976ull, l1, l8);
 if (!get8(b, l4 + 1976)) { goto L535; }
 l8 = 0ull;
 l1 = 0u;
@@ -87577,7 +87830,7 @@ L544:;
 if (!l27) { goto L536; }
 rattle_dealloc(b, l36);
 L536:;
-f447(b, l4 + 1384ull);
+f445(b, l4 + 1384ull);
 if (!get64(b, l4 + 1352)) { goto L525; }
 rattle_dealloc(b, get64(b, l4 + 1336));
 L525:;
@@ -87588,7 +87841,7 @@ l10 = get64(b, l4 + 512);
 put64(b, l4 + 1400, get64(b, l20 + 16));
 put64(b, l4 + 1392, get64(b, l20 + 8));
 put64(b, l4 + 1384, get64(b, l20));
-f448(b, l4 + 1384ull);
+f446(b, l4 + 1384ull);
 if (!l10) { goto L545; }
 rattle_dealloc(b, l13);
 L545:;
@@ -87605,19 +87858,19 @@ L547:;
 l1 = (u32)l16;
 L524:;
 copy(b, l4 + 2008ull, l4 + 2696ull, 688u);
-f458(b, l4 + 2008ull);
+f456(b, l4 + 2008ull);
 l39 = (u32)l8;
 goto L519;
 L523:;
 fill(b, l4 + 464ull, 0u, 80u);
 fill(b, l4 + 368ull, 0u, 96u);
-f456(b, l4 + 368ull, l4 + 2696ull, (u32)l8);
+f454(b, l4 + 368ull, l4 + 2696ull, (u32)l8);
 l22 = l22 - l21;
 l3 = l3 + l21;
 if (!get8(b, l4 + 368)) { goto L522; }
 L521:;
 copy(b, l4 + 2008ull, l4 + 2696ull, 688u);
-f458(b, l4 + 2008ull);
+f456(b, l4 + 2008ull);
 l37 = 1u;
 l1 = 0u;
 l21 = 0ull;
@@ -87625,7 +87878,7 @@ l39 = 0u;
 goto L518;
 L520:;
 copy(b, l4 + 2008ull, l4 + 2696ull, 688u);
-f458(b, l4 + 2008ull);
+f456(b, l4 + 2008ull);
 l38 = (u32)(!l18);
 if (!l38) { goto L549; }
 l20 = l4 + 3384ull;
@@ -87702,7 +87955,7 @@ L558:;
 put64(b, l4 + 1968, get64(b, l4 + 304));
 put64(b, l4 + 1960, get64(b, l4 + 296));
 put64(b, l4 + 1952, get64(b, l4 + 288));
-f453(b, l4 + 1952ull);
+f451(b, l4 + 1952ull);
 l17 = get64(b, l4 + 352);
 l5 = get64(b, l4 + 344);
 l8 = get64(b, l4 + 336);
@@ -87716,7 +87969,7 @@ put64(b, l4 + 2712, get64(b, l2 + 16));
 put64(b, l4 + 2704, get64(b, l2 + 8));
 put64(b, l4 + 2696, get64(b, l2));
 l2 = l2 + 24ull;
-f453(b, l4 + 2696ull);
+f451(b, l4 + 2696ull);
 l5 = l5 + 18446744073709551615ull;
 if (l5 != 0ull) { goto L561; }
 L560:;
@@ -87732,7 +87985,7 @@ l21 = get64(b, l4 + 216);
 if (!l13) { goto L562; }
 rattle_dealloc(b, l15);
 L562:;
-f453(b, l4 + 232ull);
+f451(b, l4 + 232ull);
 if (!l10) { goto L563; }
 rattle_dealloc(b, l12);
 L563:;
@@ -87743,7 +87996,7 @@ put64(b, l4 + 2712, get64(b, l2 + 16));
 put64(b, l4 + 2704, get64(b, l2 + 8));
 put64(b, l4 + 2696, get64(b, l2));
 l2 = l2 + 24ull;
-f453(b, l4 + 2696ull);
+f451(b, l4 + 2696ull);
 l8 = l8 + 18446744073709551615ull;
 if (l8 != 0ull) { goto L565; }
 L564:;
@@ -87779,7 +88032,7 @@ l5 = get64(b, l4 + 416);
 put64(b, l4 + 2712, get64(b, l20 + 16));
 put64(b, l4 + 2704, get64(b, l20 + 8));
 put64(b, l4 + 2696, get64(b, l20));
-f448(b, l4 + 2696ull);
+f446(b, l4 + 2696ull);
 if (!l5) { goto L568; }
 rattle_dealloc(b, l8);
 L568:;
@@ -87920,7 +88173,7 @@ L577:;
 fill(b, l4 + 464ull, 0u, 80u);
 fill(b, l4 + 368ull, 0u, 96u);
 l37 = (u32)l22;
-f456(b, l4 + 368ull, l4 + 2696ull, l37);
+f454(b, l4 + 368ull, l4 + 2696ull, l37);
 if (get8(b, l4 + 368)) { goto L581; }
 l12 = get64(b, l4 + 400);
 l1 = get8(b, l4 + 392);
@@ -87941,7 +88194,7 @@ put64(b, l4 + 480, l12);
 l1 = 0u;
 fill(b, l4 + 1384ull, 0u, 424u);
 l39 = 1u;
-f443(b, l4 + 1384ull, l4 + 464ull, 1u, l2);
+f441(b, l4 + 1384ull, l4 + 464ull, 1u, l2);
 l38 = get8(b, l4 + 1384);
 copy(b, l15, l11, 416u);
 l22 = 0ull;
@@ -87959,7 +88212,7 @@ put64(b, l4 + 1408, 0ull);
 put64(b, l4 + 1400, 0ull);
 put64(b, l4 + 1392, 0ull);
 put64(b, l4 + 1384, 0ull);
-f457(b, l4 + 1384ull, l4 + 968ull, l17 + l5, l20 - l5);
+f455(b, l4 + 1384ull, l4 + 968ull, l17 + l5, l20 - l5);
 if (get8(b, l4 + 1384) == 1u) { goto L584; }
 L590:;
 l21 = get64(b, l3);
@@ -88003,7 +88256,7 @@ put64(b, l3, l21 + l20);
 if (!l22) { goto L588; }
 L591:;
 if ((536870912ull - l16) < l20) { goto L589; }
-f457(b, l4 + 1384ull, l4 + 968ull, l17, l20);
+f455(b, l4 + 1384ull, l4 + 968ull, l17, l20);
 l16 = l20 + l16;
 if (get8(b, l4 + 1384) != 1u) { goto L590; }
 l5 = 0ull;
@@ -88051,7 +88304,7 @@ put64(b, l4 + 1360, 1ull);
 put64(b, l4 + 1368, l5);
 l1 = (u32)l5;
 L598:;
-f446(b, l4 + 1976ull, l1, l2);
+f444(b, l4 + 1976ull, l1, l2);
 l20 = 0ull;
 if (!get8(b, l4 + 1976)) { goto L604; }
 l1 = 0u;
@@ -88193,7 +88446,7 @@ L621:;
 if (!l25) { goto L613; }
 rattle_dealloc(b, l35);
 L613:;
-f447(b, l4 + 1384ull);
+f445(b, l4 + 1384ull);
 if (!get64(b, l4 + 1352)) { goto L622; }
 rattle_dealloc(b, get64(b, l4 + 1336));
 L622:;
@@ -88207,7 +88460,7 @@ l18 = get64(b, l4 + 512);
 put64(b, l4 + 1400, get64(b, l7 + 16));
 put64(b, l4 + 1392, get64(b, l7 + 8));
 put64(b, l4 + 1384, get64(b, l7));
-f448(b, l4 + 1384ull);
+f446(b, l4 + 1384ull);
 if (!l18) { goto L623; }
 rattle_dealloc(b, l20);
 L623:;
@@ -88247,7 +88500,7 @@ L578:;
 l5 = l21;
 l20 = l23;
 l16 = l8;
-t7 = f459(b, l4 + 184ull, l37);
+t7 = f457(b, l4 + 184ull, l37);
 if (!(t7 & 255u)) { goto L577; }
 if (!get64(b, l4 + 200)) { goto L627; }
 rattle_dealloc(b, get64(b, l4 + 184));
@@ -88271,7 +88524,7 @@ rattle_dealloc(b, l23);
 l1 = 0u;
 goto L572;
 L576:;
-t8 = f459(b, l4 + 184ull, l37);
+t8 = f457(b, l4 + 184ull, l37);
 if (t8 & 255u) { goto L630; }
 l2 = get64(b, l4 + 200);
 l5 = get64(b, l4 + 184);
@@ -88340,14 +88593,14 @@ l39 = 0u;
 l1 = 0u;
 L572:;
 copy(b, l4 + 2008ull, l4 + 2696ull, 688u);
-f458(b, l4 + 2008ull);
+f456(b, l4 + 2008ull);
 if (!get64(b, l4 + 272)) { goto L637; }
 rattle_dealloc(b, get64(b, l4 + 256));
 L637:;
 put64(b, l4 + 1968, get64(b, l4 + 304));
 put64(b, l4 + 1960, get64(b, l4 + 296));
 put64(b, l4 + 1952, get64(b, l4 + 288));
-f453(b, l4 + 1952ull);
+f451(b, l4 + 1952ull);
 l8 = get64(b, l4 + 352);
 l5 = get64(b, l4 + 344);
 l23 = get64(b, l4 + 336);
@@ -88361,7 +88614,7 @@ put64(b, l4 + 2712, get64(b, l2 + 16));
 put64(b, l4 + 2704, get64(b, l2 + 8));
 put64(b, l4 + 2696, get64(b, l2));
 l2 = l2 + 24ull;
-f453(b, l4 + 2696ull);
+f451(b, l4 + 2696ull);
 l5 = l5 + 18446744073709551615ull;
 if (l5 != 0ull) { goto L640; }
 L639:;
@@ -88375,24 +88628,24 @@ L9:;
 l23 = get64(b, l4 + 2792);
 l39 = get8(b, l4 + 2784);
 L8:;
-f446(b, l4 + 152ull, l39, l23);
+f444(b, l4 + 152ull, l39, l23);
 if (get8(b, l4 + 152)) { goto L641; }
 put64(b, l4 + 1936, get64(b, l4 + 176));
 put64(b, l4 + 1928, (u64)get8(b, l4 + 168));
 put8(b, l4 + 1920, get8(b, l4 + 160));
-f460(b, l4 + 1808ull, l3, l17, 65536ull, l16, l4 + 1920ull);
+f458(b, l4 + 1808ull, l3, l17, 65536ull, l16, l4 + 1920ull);
 rattle_dealloc(b, l17);
 if (!l13) { goto L642; }
 rattle_dealloc(b, l15);
 L642:;
-f453(b, l4 + 1848ull);
+f451(b, l4 + 1848ull);
 if (!l10) { goto L643; }
 rattle_dealloc(b, l12);
 L643:;
 put64(b, l4 + 1888, l7);
 put64(b, l4 + 1880, l8);
 put64(b, l4 + 1872, l9);
-f461(b, l4 + 1872ull);
+f459(b, l4 + 1872ull);
 l21 = get64(b, l4 + 1832);
 l1 = get8(b, l4 + 1824);
 l39 = get8(b, l4 + 1816);
@@ -88404,7 +88657,7 @@ rattle_dealloc(b, l17);
 if (!l13) { goto L644; }
 rattle_dealloc(b, l15);
 L644:;
-f453(b, l4 + 1848ull);
+f451(b, l4 + 1848ull);
 if (!l10) { goto L645; }
 rattle_dealloc(b, l12);
 L645:;
@@ -88415,7 +88668,7 @@ put64(b, l4 + 2712, get64(b, l2 + 16));
 put64(b, l4 + 2704, get64(b, l2 + 8));
 put64(b, l4 + 2696, get64(b, l2));
 l2 = l2 + 24ull;
-f453(b, l4 + 2696ull);
+f451(b, l4 + 2696ull);
 l8 = l8 + 18446744073709551615ull;
 if (l8 != 0ull) { goto L647; }
 L646:;
@@ -88429,7 +88682,7 @@ rattle_dealloc(b, l17);
 if (!l13) { goto L648; }
 rattle_dealloc(b, l15);
 L648:;
-f453(b, l4 + 1848ull);
+f451(b, l4 + 1848ull);
 if (!l10) { goto L649; }
 rattle_dealloc(b, l12);
 L649:;
@@ -88440,7 +88693,7 @@ put64(b, l4 + 2712, get64(b, l2 + 16));
 put64(b, l4 + 2704, get64(b, l2 + 8));
 put64(b, l4 + 2696, get64(b, l2));
 l2 = l2 + 24ull;
-f453(b, l4 + 2696ull);
+f451(b, l4 + 2696ull);
 l8 = l8 + 18446744073709551615ull;
 if (l8 != 0ull) { goto L651; }
 L650:;
@@ -88457,7 +88710,7 @@ L6:;
 if (!l13) { goto L653; }
 rattle_dealloc(b, l15);
 L653:;
-f453(b, l4 + 1848ull);
+f451(b, l4 + 1848ull);
 if (!l10) { goto L654; }
 rattle_dealloc(b, l12);
 L654:;
@@ -88468,7 +88721,7 @@ put64(b, l4 + 2712, get64(b, l2 + 16));
 put64(b, l4 + 2704, get64(b, l2 + 8));
 put64(b, l4 + 2696, get64(b, l2));
 l2 = l2 + 24ull;
-f453(b, l4 + 2696ull);
+f451(b, l4 + 2696ull);
 l8 = l8 + 18446744073709551615ull;
 if (l8 != 0ull) { goto L656; }
 L655:;
@@ -88496,7 +88749,7 @@ L658:;
 l2 = get64(b, l4 + 2792);
 l1 = get8(b, l4 + 2784);
 L657:;
-f446(b, l4 + 224ull, l1, l2);
+f444(b, l4 + 224ull, l1, l2);
 if (get8(b, l4 + 224)) { goto L661; }
 l1 = get8(b, l4 + 240);
 l39 = get8(b, l4 + 232);
@@ -88505,14 +88758,14 @@ rattle_dealloc(b, l17);
 if (!l13) { goto L662; }
 rattle_dealloc(b, l15);
 L662:;
-f453(b, l4 + 1848ull);
+f451(b, l4 + 1848ull);
 if (!l10) { goto L663; }
 rattle_dealloc(b, l12);
 L663:;
 put64(b, l4 + 1912, l7);
 put64(b, l4 + 1904, l8);
 put64(b, l4 + 1896, l9);
-f461(b, l4 + 1896ull);
+f459(b, l4 + 1896ull);
 l37 = 0u;
 l38 = 0u;
 goto L1;
@@ -88521,7 +88774,7 @@ rattle_dealloc(b, l17);
 if (!l13) { goto L664; }
 rattle_dealloc(b, l15);
 L664:;
-f453(b, l4 + 1848ull);
+f451(b, l4 + 1848ull);
 if (!l10) { goto L665; }
 rattle_dealloc(b, l12);
 L665:;
@@ -88532,7 +88785,7 @@ put64(b, l4 + 2712, get64(b, l2 + 16));
 put64(b, l4 + 2704, get64(b, l2 + 8));
 put64(b, l4 + 2696, get64(b, l2));
 l2 = l2 + 24ull;
-f453(b, l4 + 2696ull);
+f451(b, l4 + 2696ull);
 l8 = l8 + 18446744073709551615ull;
 if (l8 != 0ull) { goto L667; }
 L666:;
@@ -88557,7 +88810,7 @@ put64(b, l0 + 16ull, ((u64)l1) & 255ull);
 SP = l4 + 3392ull;
 }
 
-FN void f441(B b, u64 l0, u64 l1, u64 l2, u64 l3) {
+FN void f439(B b, u64 l0, u64 l1, u64 l2, u64 l3) {
 u32 l11 = 0, l12 = 0, l13 = 0, l14 = 0, l15 = 0, l16 = 0, l17 = 0, l18 = 0, l19 = 0, l20 = 0, t0, t1, t2, t3;
 u64 l4 = 0, l5 = 0, l6 = 0, l7 = 0, l8 = 0, l9 = 0, l10 = 0;
 l4 = SP - 32ull;
@@ -88592,7 +88845,7 @@ put64(b, l4 + 16, 0ull);
 if (!l5) { goto L18; }
 l11 = get8(b, l1);
 if (l11 != 69u) { goto L19; }
-f462(b, l4 + 16ull, l1 + 1ull, l2 + 18446744073709551614ull);
+f460(b, l4 + 16ull, l1 + 1ull, l2 + 18446744073709551614ull);
 if (get8(b, l4 + 16) != 1u) { goto L18; }
 l2 = get64(b, l4 + 20);
 l12 = (u32)(l2 >> 32);
@@ -88610,7 +88863,7 @@ L22:;
 l6 = l2 + 18446744073709551614ull;
 if (!l6) { goto L18; }
 l7 = l1 + 1ull;
-t0 = f463(b, l7, l6);
+t0 = f461(b, l7, l6);
 if (!t0) { goto L18; }
 l15 = (u32)(l6 >> 32);
 l13 = (u32)(l7 >> 32);
@@ -88620,7 +88873,7 @@ l11 = 0u;
 l14 = 4u;
 goto L17;
 L21:;
-f464(b, l4 + 8ull, l1 + 1ull, l2 + 18446744073709551614ull);
+f462(b, l4 + 8ull, l1 + 1ull, l2 + 18446744073709551614ull);
 if (get8(b, l4 + 8) != 1u) { goto L18; }
 l11 = get32(b, l4 + 12);
 l12 = 0u;
@@ -88630,7 +88883,7 @@ L20:;
 put32(b, l4 + 24, 0u);
 put64(b, l4 + 16, 0ull);
 if (l11 != 73u) { goto L18; }
-f462(b, l4 + 16ull, l1 + 1ull, l2 + 18446744073709551614ull);
+f460(b, l4 + 16ull, l1 + 1ull, l2 + 18446744073709551614ull);
 if (get8(b, l4 + 16) != 1u) { goto L18; }
 l2 = get64(b, l4 + 20);
 l12 = (u32)(l2 >> 32);
@@ -88837,7 +89090,7 @@ L37:;
 if (l7 == 1ull) { goto L51; }
 if ((get8(b, l10) & 255u) == 48u) { goto L16; }
 L51:;
-f462(b, l4 + 16ull, l8, l9);
+f460(b, l4 + 16ull, l8, l9);
 if (get8(b, l4 + 16) != 1u) { goto L16; }
 l2 = get64(b, l4 + 20);
 l16 = (u32)(l2 >> 32);
@@ -89091,7 +89344,7 @@ L75:;
 if (l2 == 1ull) { goto L88; }
 if ((get8(b, l10) & 255u) == 48u) { goto L52; }
 L88:;
-f462(b, l4 + 16ull, l6, l8);
+f460(b, l4 + 16ull, l6, l8);
 if (get8(b, l4 + 16) != 1u) { goto L52; }
 l15 = get32(b, l4 + 24);
 l16 = get32(b, l4 + 20);
@@ -89105,7 +89358,7 @@ if ((l16 & 255u) != 76u) { goto L14; }
 if (l18 != 73u) { goto L14; }
 if ((l15 & 255u) != 79u) { goto L14; }
 if ((l14 & 255u) != 68u) { goto L14; }
-f464(b, l4, l1 + 5ull, l3);
+f462(b, l4, l1 + 5ull, l3);
 l14 = 1u;
 if (get8(b, l4) != 1u) { goto L14; }
 l11 = get32(b, l4 + 4);
@@ -89194,7 +89447,7 @@ L1:;
 SP = l4 + 32ull;
 }
 
-FN void f442(B b, u64 l0, u64 l1, u32 l2) {
+FN void f440(B b, u64 l0, u64 l1, u32 l2) {
 u32 l20 = 0;
 u64 l3 = 0, l4 = 0, l5 = 0, l6 = 0, l7 = 0, l8 = 0, l9 = 0, l10 = 0, l11 = 0, l12 = 0, l13 = 0, l14 = 0, l15 = 0, l16 = 0, l17 = 0, l18 = 0, l19 = 0;
 l3 = SP - 1904ull;
@@ -89345,7 +89598,7 @@ put64(b, l3 + 1208, get64(b, l3 + 344));
 if (!l16) { goto L8; }
 rattle_dealloc(b, l8);
 L8:;
-f465(b, l3 + 1216ull);
+f463(b, l3 + 1216ull);
 if (!l1) { goto L9; }
 rattle_dealloc(b, l7);
 L9:;
@@ -89356,14 +89609,14 @@ put64(b, l3 + 536, get64(b, l1 + 16));
 put64(b, l3 + 528, get64(b, l1 + 8));
 put64(b, l3 + 520, get64(b, l1));
 l1 = l1 + 24ull;
-f465(b, l3 + 520ull);
+f463(b, l3 + 520ull);
 l5 = l5 + 18446744073709551615ull;
 if (l5 != 0ull) { goto L11; }
 L10:;
 if (!l4) { goto L12; }
 rattle_dealloc(b, l6);
 L12:;
-f466(b, l3 + 216ull, l3 + 240ull);
+f464(b, l3 + 216ull, l3 + 240ull);
 if (!get8(b, l3 + 216)) { goto L5; }
 l2 = get32(b, l3 + 232);
 l17 = get64(b, l3 + 224);
@@ -89431,7 +89684,7 @@ L27:;
 put64(b, l3 + 208, get64(b, l3 + 368));
 put64(b, l3 + 200, get64(b, l3 + 360));
 put64(b, l3 + 192, get64(b, l3 + 352));
-f465(b, l3 + 192ull);
+f463(b, l3 + 192ull);
 l4 = get64(b, l3 + 416);
 l5 = get64(b, l3 + 408);
 l6 = get64(b, l3 + 400);
@@ -89445,7 +89698,7 @@ put64(b, l3 + 1224, get64(b, l1 + 16));
 put64(b, l3 + 1216, get64(b, l1 + 8));
 put64(b, l3 + 1208, get64(b, l1));
 l1 = l1 + 24ull;
-f465(b, l3 + 1208ull);
+f463(b, l3 + 1208ull);
 l5 = l5 + 18446744073709551615ull;
 if (l5 != 0ull) { goto L30; }
 L29:;
@@ -89459,7 +89712,7 @@ L31:;
 put64(b, l3 + 184, get64(b, l3 + 368));
 put64(b, l3 + 176, get64(b, l3 + 360));
 put64(b, l3 + 168, get64(b, l3 + 352));
-f465(b, l3 + 168ull);
+f463(b, l3 + 168ull);
 l4 = get64(b, l3 + 416);
 l5 = get64(b, l3 + 408);
 l6 = get64(b, l3 + 400);
@@ -89473,7 +89726,7 @@ put64(b, l3 + 1224, get64(b, l1 + 16));
 put64(b, l3 + 1216, get64(b, l1 + 8));
 put64(b, l3 + 1208, get64(b, l1));
 l1 = l1 + 24ull;
-f465(b, l3 + 1208ull);
+f463(b, l3 + 1208ull);
 l5 = l5 + 18446744073709551615ull;
 if (l5 != 0ull) { goto L34; }
 L33:;
@@ -89548,7 +89801,7 @@ L1:;
 SP = l3 + 1904ull;
 }
 
-FN void f443(B b, u64 l0, u64 l1, u32 l2, u64 l3) {
+FN void f441(B b, u64 l0, u64 l1, u32 l2, u64 l3) {
 u32 l40 = 0, l41 = 0, l42 = 0, l43 = 0, t0;
 u64 l4 = 0, l5 = 0, l6 = 0, l7 = 0, l8 = 0, l9 = 0, l10 = 0, l11 = 0, l12 = 0, l13 = 0, l14 = 0, l15 = 0, l16 = 0, l17 = 0, l18 = 0, l19 = 0, l20 = 0, l21 = 0, l22 = 0, l23 = 0, l24 = 0, l25 = 0, l26 = 0, l27 = 0, l28 = 0, l29 = 0, l30 = 0, l31 = 0, l32 = 0, l33 = 0, l34 = 0, l35 = 0, l36 = 0, l37 = 0, l38 = 0, l39 = 0;
 l4 = SP - 1136ull;
@@ -89734,7 +89987,7 @@ put64(b, l4 + 832, 0ull);
 put64(b, l4 + 824, 0ull);
 put64(b, l4 + 816, 0ull);
 put64(b, l4 + 808, 0ull);
-f451(b, l4 + 808ull, l6);
+f449(b, l4 + 808ull, l6);
 if (get8(b, l4 + 808)) { goto L37; }
 l5 = 0ull;
 l22 = get64(b, l4 + 856);
@@ -89822,7 +90075,7 @@ L53:;
 fill(b, l4 + 656ull, 0u, 128u);
 goto L28;
 L36:;
-t0 = f467(b, l4 + 784ull);
+t0 = f465(b, l4 + 784ull);
 if (!t0) { goto L27; }
 l21 = get64(b, l4 + 784);
 l13 = get64(b, l4 + 792);
@@ -89836,7 +90089,7 @@ l11 = l21;
 L55:;
 copy(b, l4 + 864ull, l11, 264u);
 l11 = l11 + 264ull;
-f468(b, l4 + 864ull);
+f466(b, l4 + 864ull);
 l13 = l13 + 18446744073709551615ull;
 if (l13 != 0ull) { goto L55; }
 L54:;
@@ -89864,7 +90117,7 @@ put64(b, l4 + 1008, l38);
 put64(b, l4 + 1000, l39);
 put64(b, l4 + 992, l19);
 put64(b, l4 + 1120, 0ull);
-f468(b, l4 + 864ull);
+f466(b, l4 + 864ull);
 l19 = get64(b, l4 + 800);
 l17 = get64(b, l4 + 784);
 l16 = get64(b, l4 + 792);
@@ -89873,7 +90126,7 @@ l11 = l17;
 L57:;
 copy(b, l4 + 864ull, l11, 264u);
 l11 = l11 + 264ull;
-f468(b, l4 + 864ull);
+f466(b, l4 + 864ull);
 l16 = l16 + 18446744073709551615ull;
 if (l16 != 0ull) { goto L57; }
 L56:;
@@ -89950,7 +90203,7 @@ L1:;
 SP = l4 + 1136ull;
 }
 
-FN void f444(B b, u64 l0, u64 l1, u64 l2, u64 l3) {
+FN void f442(B b, u64 l0, u64 l1, u64 l2, u64 l3) {
 u32 l18 = 0, t0, t1, t2;
 u64 l4 = 0, l5 = 0, l6 = 0, l7 = 0, l8 = 0, l9 = 0, l10 = 0, l11 = 0, l12 = 0, l13 = 0, l14 = 0, l15 = 0, l16 = 0, l17 = 0;
 l4 = SP - 80ull;
@@ -89962,7 +90215,7 @@ put64(b, l0 + 8ull, l3);
 put8(b, l0, 1u);
 goto L1;
 L2:;
-f471(b, l4 + 16ull, l1, l2, l3);
+f469(b, l4 + 16ull, l1, l2, l3);
 l2 = get64(b, l4 + 16);
 l5 = get64(b, l4 + 24);
 if (!l5) { goto L6; }
@@ -89984,7 +90237,7 @@ put64(b, l4 + 48, 0ull);
 l7 = l3 + 1ull;
 l8 = get64(b, l6);
 if (l8 != 0ull) { goto L12; }
-f472(b, l4 + 32ull, l1, l2, l7);
+f470(b, l4 + 32ull, l1, l2, l7);
 if (!get8(b, l4 + 32)) { goto L10; }
 l3 = get64(b, l4 + 48);
 l18 = get8(b, l4 + 40);
@@ -89994,7 +90247,7 @@ l9 = get64(b, l1 + 360ull) - l8;
 l10 = (l3 < l9) ? l3 : l9;
 l11 = get64(b, l1 + 384ull);
 if (l10 <= (l11 - l8)) { goto L13; }
-t0 = f473(b, l1 + 368ull, l10);
+t0 = f471(b, l1 + 368ull, l10);
 if (!t0) { goto L4; }
 l11 = get64(b, l1 + 384ull);
 l8 = get64(b, l1 + 376ull);
@@ -90041,7 +90294,7 @@ put64(b, l12, l9);
 l17 = l1 + 368ull;
 put64(b, l17, l13);
 if (l11 != l9) { goto L19; }
-t1 = f473(b, l17, 1ull);
+t1 = f471(b, l17, 1ull);
 if (!t1) { goto L4; }
 l13 = get64(b, l1 + 368ull);
 l11 = get64(b, l1 + 384ull);
@@ -90052,7 +90305,7 @@ put64(b, l15, l11);
 l9 = l9 + 1ull;
 put64(b, l12, l9);
 put64(b, l17, l13);
-f472(b, l4 + 56ull, l1, l13, l9);
+f470(b, l4 + 56ull, l1, l13, l9);
 if (!get64(b, l12)) { goto L20; }
 put64(b, l6, 0ull);
 L20:;
@@ -90069,7 +90322,7 @@ put64(b, l0 + 8ull, l2);
 put8(b, l0, 1u);
 goto L1;
 L10:;
-f471(b, l4, l1, l7 + l2, (l3 ^ 18446744073709551615ull) + l5);
+f469(b, l4, l1, l7 + l2, (l3 ^ 18446744073709551615ull) + l5);
 l2 = get64(b, l4);
 l5 = get64(b, l4 + 8);
 if (!(u32)(!l5)) { goto L7; }
@@ -90082,7 +90335,7 @@ l9 = get64(b, l1 + 360ull) - l16;
 l14 = (l5 < l9) ? l5 : l9;
 l6 = get64(b, l1 + 384ull);
 if (l14 <= (l6 - l16)) { goto L21; }
-t2 = f473(b, l1 + 368ull, l14);
+t2 = f471(b, l1 + 368ull, l14);
 if (!t2) { goto L4; }
 l6 = get64(b, l1 + 384ull);
 l16 = get64(b, l1 + 376ull);
@@ -90134,7 +90387,7 @@ L1:;
 SP = l4 + 80ull;
 }
 
-FN void f445(B b, u64 l0, u32 l1) {
+FN void f443(B b, u64 l0, u32 l1) {
 u32 t0;
 u64 l2 = 0, l3 = 0, l4 = 0, l5 = 0, l6 = 0, l7 = 0;
 l2 = SP - 48ull;
@@ -90144,7 +90397,7 @@ put64(b, l2 + 8, 0ull);
 put64(b, l2 + 24, 0ull);
 put64(b, l2 + 32, 0ull);
 put64(b, l2, l2 + 47ull);
-t0 = f459(b, l2, l1);
+t0 = f457(b, l2, l1);
 if (t0 & 255u) { goto L2; }
 l3 = get64(b, l2 + 16);
 l4 = get64(b, l2);
@@ -90189,7 +90442,7 @@ L1:;
 SP = l2 + 48ull;
 }
 
-FN void f446(B b, u64 l0, u32 l1, u64 l2) {
+FN void f444(B b, u64 l0, u32 l1, u64 l2) {
 u32 l14 = 0, t0, t1, t2, t3, t4, t5;
 u64 l3 = 0, l4 = 0, l5 = 0, l6 = 0, l7 = 0, l8 = 0, l9 = 0, l10 = 0, l11 = 0, l12 = 0, l13 = 0;
 l3 = SP - 160ull;
@@ -90417,7 +90670,7 @@ L1:;
 SP = l3 + 160ull;
 }
 
-FN void f447(B b, u64 l0) {
+FN void f445(B b, u64 l0) {
 u64 l1 = 0, l2 = 0, l3 = 0, l4 = 0, l5 = 0, l6 = 0, l7 = 0, l8 = 0, l9 = 0, l10 = 0, l11 = 0, l12 = 0, l13 = 0, l14 = 0, l15 = 0, l16 = 0, l17 = 0, l18 = 0, l19 = 0;
 l1 = get64(b, l0 + 16);
 l2 = get64(b, l0);
@@ -90477,7 +90730,7 @@ rattle_dealloc(b, l2);
 L12:;
 }
 
-FN void f448(B b, u64 l0) {
+FN void f446(B b, u64 l0) {
 u64 l1 = 0, l2 = 0, l3 = 0, l4 = 0, l5 = 0, l6 = 0, l7 = 0, l8 = 0, l9 = 0, l10 = 0, l11 = 0;
 l1 = get64(b, l0 + 16);
 l2 = get64(b, l0);
@@ -90529,7 +90782,7 @@ rattle_dealloc(b, l2);
 L11:;
 }
 
-FN void f449(B b, u64 l0, u64 l1, u64 l2, u64 l3) {
+FN void f447(B b, u64 l0, u64 l1, u64 l2, u64 l3) {
 u32 l13 = 0, l14 = 0, l15 = 0, t0;
 u64 l4 = 0, l5 = 0, l6 = 0, l7 = 0, l8 = 0, l9 = 0, l10 = 0, l11 = 0, l12 = 0;
 l4 = SP - 112ull;
@@ -90556,7 +90809,7 @@ if ((get8(b, l1 + 2ull) & 255u) != 73u) { goto L5; }
 if ((get8(b, l1 + 3ull) & 255u) != 69u) { goto L5; }
 if ((get8(b, l1 + 4ull) & 255u) != 78u) { goto L5; }
 if ((get8(b, l1 + 5ull) & 255u) != 84u) { goto L5; }
-f464(b, l4, l1 + 6ull, l2 + 18446744073709551609ull);
+f462(b, l4, l1 + 6ull, l2 + 18446744073709551609ull);
 if (get8(b, l4) != 1u) { goto L5; }
 l13 = get32(b, l4 + 4);
 l5 = 0ull;
@@ -90572,10 +90825,10 @@ put64(b, l4 + 40, 0ull);
 put64(b, l4 + 48, 0ull);
 put64(b, l4 + 56, 0ull);
 put64(b, l4 + 64, 0ull);
-f475(b, l4 + 72ull, l1, l7, 70u);
+f473(b, l4 + 72ull, l1, l7, 70u);
 if (get8(b, l4 + 72) != 1u) { goto L10; }
 l15 = get32(b, l4 + 80);
-f476(b, l4 + 32ull, get64(b, l4 + 88), get64(b, l4 + 96));
+f474(b, l4 + 32ull, get64(b, l4 + 88), get64(b, l4 + 96));
 if (get8(b, l4 + 32)) { goto L8; }
 if (get8(b, l4 + 40) != 1u) { goto L10; }
 l8 = get64(b, l4 + 64);
@@ -90640,10 +90893,10 @@ put64(b, l4 + 40, 0ull);
 put64(b, l4 + 48, 0ull);
 put64(b, l4 + 56, 0ull);
 put64(b, l4 + 64, 0ull);
-f475(b, l4 + 72ull, l1, l7, 79u);
+f473(b, l4 + 72ull, l1, l7, 79u);
 if (get8(b, l4 + 72) != 1u) { goto L20; }
 l15 = get32(b, l4 + 80);
-f476(b, l4 + 32ull, get64(b, l4 + 88), get64(b, l4 + 96));
+f474(b, l4 + 32ull, get64(b, l4 + 88), get64(b, l4 + 96));
 if (get8(b, l4 + 32)) { goto L8; }
 if (get8(b, l4 + 40) != 1u) { goto L20; }
 l2 = get64(b, l4 + 64);
@@ -90691,7 +90944,7 @@ put32(b, l0 + 8ull, l14);
 SP = l4 + 112ull;
 }
 
-FN void f450(B b, u64 l0, u64 l1, u64 l2) {
+FN void f448(B b, u64 l0, u64 l1, u64 l2) {
 u32 l11 = 0, l12 = 0, l13 = 0, l14 = 0, l15 = 0, t0, t1, t2, t3;
 u64 l3 = 0, l4 = 0, l5 = 0, l6 = 0, l7 = 0, l8 = 0, l9 = 0, l10 = 0;
 l3 = SP - 64ull;
@@ -91063,7 +91316,7 @@ L11:;
 if (l5 == 1ull) { goto L62; }
 if ((get8(b, l10) & 255u) == 48u) { goto L10; }
 L62:;
-f462(b, l3 + 48ull, l7, l6);
+f460(b, l3 + 48ull, l7, l6);
 l13 = 1u;
 if (get8(b, l3 + 48) != 1u) { goto L10; }
 put32(b, l3 + 36, l11);
@@ -91103,7 +91356,7 @@ if ((l14 & 255u) != 69u) { goto L66; }
 l4 = 1ull;
 l1 = l1 + 1ull;
 l2 = l2 + 18446744073709551614ull;
-f462(b, l3 + 48ull, l1, l2);
+f460(b, l3 + 48ull, l1, l2);
 if (get8(b, l3 + 48) != 1u) { goto L67; }
 l1 = get64(b, l3 + 52);
 put32(b, l3 + 40, 0u);
@@ -91112,7 +91365,7 @@ l2 = 0ull;
 l13 = 2u;
 goto L5;
 L67:;
-f464(b, l3, l1, l2);
+f462(b, l3, l1, l2);
 if (get8(b, l3) != 1u) { goto L65; }
 l14 = get32(b, l3 + 4);
 l2 = 0ull;
@@ -91128,7 +91381,7 @@ if (l13) { goto L68; }
 if ((l14 & 255u) != 67u) { goto L68; }
 l4 = 1ull;
 l1 = l1 + 1ull;
-t1 = f463(b, l1, l2);
+t1 = f461(b, l1, l2);
 if (!t1) { goto L65; }
 put64(b, l3 + 36, l1);
 put32(b, l3 + 32, 0u);
@@ -91140,7 +91393,7 @@ if (l13) { goto L69; }
 if ((l14 & 255u) != 80u) { goto L69; }
 l4 = 1ull;
 l1 = l1 + 1ull;
-t2 = f463(b, l1, l2);
+t2 = f461(b, l1, l2);
 if (!t2) { goto L65; }
 put64(b, l3 + 36, l1);
 put32(b, l3 + 32, 0u);
@@ -91153,7 +91406,7 @@ put32(b, l3 + 56, 0u);
 put64(b, l3 + 48, 0ull);
 if ((l14 & 255u) != 73u) { goto L7; }
 l4 = 1ull;
-f462(b, l3 + 48ull, l1 + 1ull, l2);
+f460(b, l3 + 48ull, l1 + 1ull, l2);
 l13 = 0u;
 l14 = 0u;
 if (get8(b, l3 + 48) != 1u) { goto L6; }
@@ -91178,7 +91431,7 @@ l11 = 0u;
 l13 = 0u;
 l14 = 0u;
 l1 = l1 + 1ull;
-t3 = f463(b, l1, l2);
+t3 = f461(b, l1, l2);
 if (!t3) { goto L6; }
 put64(b, l3 + 36, l1);
 put32(b, l3 + 32, 0u);
@@ -91192,7 +91445,7 @@ l11 = 0u;
 l14 = 0u;
 goto L6;
 L71:;
-f464(b, l3 + 8ull, l1 + 1ull, l2);
+f462(b, l3 + 8ull, l1 + 1ull, l2);
 l14 = 0u;
 l11 = get8(b, l3 + 8);
 if (l11 != 1u) { goto L6; }
@@ -91223,7 +91476,7 @@ L1:;
 SP = l3 + 64ull;
 }
 
-FN void f451(B b, u64 l0, u64 l1) {
+FN void f449(B b, u64 l0, u64 l1) {
 u32 l20 = 0, l21 = 0, l22 = 0, l23 = 0, l24 = 0, l25 = 0, l26 = 0, l27 = 0, t0, t1, t2;
 u64 l2 = 0, l3 = 0, l4 = 0, l5 = 0, l6 = 0, l7 = 0, l8 = 0, l9 = 0, l10 = 0, l11 = 0, l12 = 0, l13 = 0, l14 = 0, l15 = 0, l16 = 0, l17 = 0, l18 = 0, l19 = 0;
 l2 = SP - 160ull;
@@ -91442,7 +91695,7 @@ if (get32(b, l4 + l3) != l21) { goto L41; }
 l22 = get32(b, l10 + l3);
 L41:;
 if (get64(b, l2 + 144) != l7) { goto L46; }
-t0 = f469(b, l2 + 128ull);
+t0 = f467(b, l2 + 128ull);
 if (!t0) { goto L37; }
 l12 = get64(b, l2 + 128);
 l7 = get64(b, l2 + 136);
@@ -91693,7 +91946,7 @@ if (get32(b, l4 + l3) != l21) { goto L76; }
 l25 = get32(b, l10 + l3);
 L76:;
 if (get64(b, l2 + 144) != l7) { goto L87; }
-t1 = f469(b, l2 + 128ull);
+t1 = f467(b, l2 + 128ull);
 if (!t1) { goto L33; }
 l12 = get64(b, l2 + 128);
 l7 = get64(b, l2 + 136);
@@ -91779,7 +92032,7 @@ L99:;
 l25 = (u32)(l25 == 1u);
 L92:;
 if (get64(b, l2 + 144) != l18) { goto L104; }
-t2 = f470(b, l2 + 128ull);
+t2 = f468(b, l2 + 128ull);
 if (!t2) { goto L89; }
 l14 = get64(b, l2 + 128);
 l18 = get64(b, l2 + 136);
@@ -91856,7 +92109,7 @@ L12:;
 abort();
 }
 
-FN void f452(B b, u64 l0, u64 l1, u64 l2, u64 l3, u64 l4, u32 l5, u32 l6, u64 l7, u64 l8) {
+FN void f450(B b, u64 l0, u64 l1, u64 l2, u64 l3, u64 l4, u32 l5, u32 l6, u64 l7, u64 l8) {
 u32 l13 = 0, l14 = 0, l15 = 0;
 u64 l9 = 0, l10 = 0, l11 = 0, l12 = 0;
 if (!l8) { goto L1; }
@@ -92102,7 +92355,7 @@ put64(b, l0 + 8, 0ull);
 put64(b, l0, 0ull);
 }
 
-FN void f453(B b, u64 l0) {
+FN void f451(B b, u64 l0) {
 u32 l7 = 0;
 u64 l1 = 0, l2 = 0, l3 = 0, l4 = 0, l5 = 0, l6 = 0;
 l1 = get64(b, l0 + 16);
@@ -92151,7 +92404,7 @@ rattle_dealloc(b, l2);
 L8:;
 }
 
-FN void f454(B b, u64 l0, u64 l1, u64 l2) {
+FN void f452(B b, u64 l0, u64 l1, u64 l2) {
 u64 l3 = 0, l4 = 0, l5 = 0, l6 = 0, l7 = 0;
 l3 = SP - 32ull;
 SP = l3;
@@ -92170,7 +92423,7 @@ put64(b, l3 + 24, 0ull);
 put64(b, l3 + 16, 0ull);
 put64(b, l3 + 8, 0ull);
 put64(b, l3, 0ull);
-f441(b, l3, l1, l5, 64ull);
+f439(b, l3, l1, l5, 64ull);
 l4 = 0ull;
 switch ((u32)(u64)get8(b, l3)) {
 case 1: goto L7;
@@ -92213,7 +92466,7 @@ put64(b, l3 + 24, 0ull);
 put64(b, l3 + 16, 0ull);
 put64(b, l3 + 8, 0ull);
 put64(b, l3, 0ull);
-f441(b, l3, l2, l1, 64ull);
+f439(b, l3, l2, l1, 64ull);
 l4 = 0ull;
 switch ((u32)(u64)get8(b, l3)) {
 case 1: goto L16;
@@ -92248,7 +92501,7 @@ L1:;
 SP = l3 + 32ull;
 }
 
-FN u32 f455(B b, u64 l0, u64 l1, u64 l2) {
+FN u32 f453(B b, u64 l0, u64 l1, u64 l2) {
 u32 l16 = 0, l17 = 0, t0;
 u64 l3 = 0, l4 = 0, l5 = 0, l6 = 0, l7 = 0, l8 = 0, l9 = 0, l10 = 0, l11 = 0, l12 = 0, l13 = 0, l14 = 0, l15 = 0;
 l3 = SP - 176ull;
@@ -92319,7 +92572,7 @@ put64(b, l3 + 168, l9);
 put64(b, l3 + 160, l5);
 put64(b, l3 + 152, l7);
 put64(b, l3 + 144, l6);
-t0 = f415(b, l0, 1054595ull, 5ull, l3 + 144ull, 4ull);
+t0 = f413(b, l0, 1054595ull, 5ull, l3 + 144ull, 4ull);
 l16 = t0;
 if (!l8) { goto L11; }
 rattle_dealloc(b, l15);
@@ -92349,7 +92602,7 @@ abort();
 return 0;
 }
 
-FN void f456(B b, u64 l0, u64 l1, u32 l2) {
+FN void f454(B b, u64 l0, u64 l1, u32 l2) {
 u32 l8 = 0, l9 = 0;
 u64 l3 = 0, l4 = 0, l5 = 0, l6 = 0, l7 = 0;
 l3 = SP - 272ull;
@@ -92375,12 +92628,12 @@ l4 = get64(b, l3 + 264);
 l5 = get64(b, l3 + 248);
 l6 = get64(b, l3 + 240);
 l7 = get64(b, l3 + 224);
-f466(b, l3 + 160ull, l3 + 192ull);
+f464(b, l3 + 160ull, l3 + 192ull);
 if (!get8(b, l3 + 160)) { goto L4; }
 l8 = get32(b, l3 + 176);
 l1 = get64(b, l3 + 168);
 l9 = get8(b, l3 + 164);
-f448(b, l3 + 200ull);
+f446(b, l3 + 200ull);
 if (!l6) { goto L7; }
 rattle_dealloc(b, l7);
 L7:;
@@ -92396,7 +92649,7 @@ l1 = get64(b, l3 + 192);
 L5:;
 put32(b, l3 + 8, l8);
 put64(b, l3, l1);
-f412(b, l3 + 16ull, l2, l3);
+f410(b, l3 + 16ull, l2, l3);
 if (get8(b, l3 + 16)) { goto L9; }
 put64(b, l3 + 48, 0ull);
 put64(b, l3 + 56, 0ull);
@@ -92459,7 +92712,7 @@ L1:;
 SP = l3 + 272ull;
 }
 
-FN void f457(B b, u64 l0, u64 l1, u64 l2, u64 l3) {
+FN void f455(B b, u64 l0, u64 l1, u64 l2, u64 l3) {
 u32 l19 = 0, l20 = 0, t0, t1, t2;
 u64 l4 = 0, l5 = 0, l6 = 0, l7 = 0, l8 = 0, l9 = 0, l10 = 0, l11 = 0, l12 = 0, l13 = 0, l14 = 0, l15 = 0, l16 = 0, l17 = 0, l18 = 0;
 l4 = SP - 80ull;
@@ -92469,7 +92722,7 @@ l6 = 0ull;
 l7 = 0ull;
 l8 = 0ull;
 if (get8(b, l1 + 392ull) == 1u) { goto L1; }
-f471(b, l4 + 16ull, l1, l2, l3);
+f469(b, l4 + 16ull, l1, l2, l3);
 l5 = get64(b, l4 + 16);
 l8 = get64(b, l4 + 24);
 if (!(u32)(!l8)) { goto L11; }
@@ -92489,7 +92742,7 @@ L13:;
 l10 = l6 + 1ull;
 l11 = get64(b, l9);
 if (l11 != 0ull) { goto L16; }
-f474(b, l4 + 32ull, l1, l5, l10);
+f472(b, l4 + 32ull, l1, l5, l10);
 l19 = get8(b, l4 + 40);
 if (get8(b, l4 + 32)) { goto L9; }
 l7 = get64(b, l4 + 48);
@@ -92500,7 +92753,7 @@ l7 = get64(b, l1 + 360ull) - l11;
 l12 = (l6 < l7) ? l6 : l7;
 l13 = get64(b, l1 + 384ull);
 if (l12 <= (l13 - l11)) { goto L17; }
-t0 = f473(b, l1 + 368ull, l12);
+t0 = f471(b, l1 + 368ull, l12);
 if (!t0) { goto L7; }
 l13 = get64(b, l1 + 384ull);
 l11 = get64(b, l1 + 376ull);
@@ -92547,7 +92800,7 @@ put64(b, l2, l7);
 l18 = l1 + 368ull;
 put64(b, l18, l14);
 if (l13 != l7) { goto L23; }
-t1 = f473(b, l18, 1ull);
+t1 = f471(b, l18, 1ull);
 if (!t1) { goto L7; }
 l14 = get64(b, l1 + 368ull);
 l13 = get64(b, l1 + 384ull);
@@ -92558,7 +92811,7 @@ put64(b, l16, l13);
 l7 = l7 + 1ull;
 put64(b, l2, l7);
 put64(b, l18, l14);
-f474(b, l4 + 56ull, l1, l14, l7);
+f472(b, l4 + 56ull, l1, l14, l7);
 if (!get64(b, l2)) { goto L24; }
 put64(b, l9, 0ull);
 L24:;
@@ -92568,7 +92821,7 @@ l7 = get64(b, l4 + 72);
 l20 = get32(b, l4 + 68);
 L15:;
 if (l19 & 255u) { goto L6; }
-f471(b, l4, l1, l10 + l5, (l6 ^ 18446744073709551615ull) + l8);
+f469(b, l4, l1, l10 + l5, (l6 ^ 18446744073709551615ull) + l8);
 l6 = 0ull;
 l5 = get64(b, l4);
 l8 = get64(b, l4 + 8);
@@ -92580,7 +92833,7 @@ l8 = get64(b, l1 + 360ull) - l17;
 l15 = (l6 < l8) ? l6 : l8;
 l11 = get64(b, l1 + 384ull);
 if (l15 <= (l11 - l17)) { goto L25; }
-t2 = f473(b, l1 + 368ull, l15);
+t2 = f471(b, l1 + 368ull, l15);
 if (!t2) { goto L7; }
 l11 = get64(b, l1 + 384ull);
 l17 = get64(b, l1 + 376ull);
@@ -92653,7 +92906,7 @@ put64(b, l0 + 8ull, l6);
 SP = l4 + 80ull;
 }
 
-FN void f458(B b, u64 l0) {
+FN void f456(B b, u64 l0) {
 u64 l1 = 0, l2 = 0, l3 = 0, l4 = 0, l5 = 0, l6 = 0, l7 = 0, l8 = 0, l9 = 0, l10 = 0, l11 = 0, l12 = 0, l13 = 0, l14 = 0, l15 = 0, l16 = 0, l17 = 0, l18 = 0, l19 = 0, l20 = 0, l21 = 0, l22 = 0, l23 = 0, l24 = 0, l25 = 0, l26 = 0, l27 = 0, l28 = 0, l29 = 0, l30 = 0, l31 = 0, l32 = 0, l33 = 0, l34 = 0, l35 = 0, l36 = 0, l37 = 0, l38 = 0, l39 = 0, l40 = 0, l41 = 0, l42 = 0, l43 = 0, l44 = 0, l45 = 0, l46 = 0, l47 = 0, l48 = 0, l49 = 0, l50 = 0, l51 = 0, l52 = 0, l53 = 0, l54 = 0;
 l1 = get64(b, l0 + 680);
 l2 = get64(b, l0 + 664);
@@ -92812,7 +93065,7 @@ rattle_dealloc(b, l2);
 L33:;
 }
 
-FN u32 f459(B b, u64 l0, u32 l1) {
+FN u32 f457(B b, u64 l0, u32 l1) {
 u32 t0, t1, t2;
 u64 l2 = 0, l3 = 0, l4 = 0, l5 = 0, l6 = 0, l7 = 0, l8 = 0, l9 = 0, l10 = 0, l11 = 0, l12 = 0, l13 = 0;
 l2 = SP - 64ull;
@@ -92920,7 +93173,7 @@ SP = l2 + 64ull;
 return l1;
 }
 
-FN void f460(B b, u64 l0, u64 l1, u64 l2, u64 l3, u64 l4, u64 l5) {
+FN void f458(B b, u64 l0, u64 l1, u64 l2, u64 l3, u64 l4, u64 l5) {
 u32 l6 = 0, l7 = 0, l8 = 0;
 u64 l9 = 0, l10 = 0, l11 = 0, l12 = 0, l13 = 0, l14 = 0, l15 = 0, l16 = 0, l17 = 0;
 l6 = get8(b, l5 + 8ull);
@@ -92995,7 +93248,7 @@ put64(b, l0 + 16ull, l9);
 put8(b, l0 + 8ull, l7);
 }
 
-FN void f461(B b, u64 l0) {
+FN void f459(B b, u64 l0) {
 u64 l1 = 0, l2 = 0, l3 = 0, l4 = 0;
 l1 = SP - 32ull;
 SP = l1;
@@ -93009,7 +93262,7 @@ put64(b, l1 + 24, get64(b, l0 + 16));
 put64(b, l1 + 16, get64(b, l0 + 8));
 put64(b, l1 + 8, get64(b, l0));
 l0 = l0 + 24ull;
-f453(b, l1 + 8ull);
+f451(b, l1 + 8ull);
 l4 = l4 + 18446744073709551615ull;
 if (l4 != 0ull) { goto L2; }
 L1:;
@@ -93019,7 +93272,7 @@ L3:;
 SP = l1 + 32ull;
 }
 
-FN void f462(B b, u64 l0, u64 l1, u64 l2) {
+FN void f460(B b, u64 l0, u64 l1, u64 l2) {
 u32 l7 = 0, l8 = 0;
 u64 l3 = 0, l4 = 0, l5 = 0, l6 = 0;
 l3 = SP - 16ull;
@@ -93114,7 +93367,7 @@ L3:;
 if (l6 == 1ull) { goto L17; }
 if ((get8(b, l5) & 255u) == 48u) { goto L2; }
 L17:;
-f464(b, l3 + 8ull, l2, l1);
+f462(b, l3 + 8ull, l2, l1);
 if (get8(b, l3 + 8) != 1u) { goto L18; }
 l8 = get32(b, l3 + 12);
 put32(b, l0, 1u);
@@ -93132,7 +93385,7 @@ L1:;
 SP = l3 + 16ull;
 }
 
-FN u32 f463(B b, u64 l0, u64 l1) {
+FN u32 f461(B b, u64 l0, u64 l1) {
 u32 l2 = 0;
 u64 l3 = 0, l4 = 0, l5 = 0;
 L2:;
@@ -93188,7 +93441,7 @@ L1:;
 return l2;
 }
 
-FN void f464(B b, u64 l0, u64 l1, u64 l2) {
+FN void f462(B b, u64 l0, u64 l1, u64 l2) {
 u32 l3 = 0, l4 = 0, l5 = 0, l6 = 0;
 u64 l7 = 0, l8 = 0;
 if (!l2) { goto L2; }
@@ -93289,7 +93542,7 @@ put32(b, l0 + 4, l3);
 put8(b, l0, l4);
 }
 
-FN void f465(B b, u64 l0) {
+FN void f463(B b, u64 l0) {
 u32 l7 = 0;
 u64 l1 = 0, l2 = 0, l3 = 0, l4 = 0, l5 = 0, l6 = 0;
 l1 = get64(b, l0 + 16);
@@ -93338,7 +93591,7 @@ rattle_dealloc(b, l2);
 L8:;
 }
 
-FN void f466(B b, u64 l0, u64 l1) {
+FN void f464(B b, u64 l0, u64 l1) {
 u32 l18 = 0, l19 = 0, l20 = 0, l21 = 0;
 u64 l2 = 0, l3 = 0, l4 = 0, l5 = 0, l6 = 0, l7 = 0, l8 = 0, l9 = 0, l10 = 0, l11 = 0, l12 = 0, l13 = 0, l14 = 0, l15 = 0, l16 = 0, l17 = 0;
 l2 = SP - 160ull;
@@ -93360,7 +93613,7 @@ l4 = 0ull;
 put64(b, l2 + 16, 0ull);
 put64(b, l2 + 8, 0ull);
 l19 = 0u;
-f169(b, l2 + 8ull, l1, 0u);
+f168(b, l2 + 8ull, l1, 0u);
 l18 = get8(b, l2 + 8);
 if (l18 != 1u) { goto L6; }
 l3 = (u64)get32(b, l2 + 12);
@@ -93398,7 +93651,7 @@ fill(b, l2 + 8ull, 0u, 136u);
 l5 = 0ull;
 put64(b, l2 + 152, 0ull);
 put64(b, l2 + 144, 0ull);
-f169(b, l2 + 144ull, l1, l19);
+f168(b, l2 + 144ull, l1, l19);
 l18 = get8(b, l2 + 144);
 if (l18 != 1u) { goto L13; }
 l4 = l8 + (l7 << 5);
@@ -93516,7 +93769,7 @@ put64(b, l0 + 8ull, ((((u64)l20) << 32) | l4) | l3);
 SP = l2 + 160ull;
 }
 
-FN u32 f467(B b, u64 l0) {
+FN u32 f465(B b, u64 l0) {
 u32 l6 = 0;
 u64 l1 = 0, l2 = 0, l3 = 0, l4 = 0, l5 = 0;
 l1 = SP - 32ull;
@@ -93548,7 +93801,7 @@ SP = l1 + 32ull;
 return l6;
 }
 
-FN void f468(B b, u64 l0) {
+FN void f466(B b, u64 l0) {
 u64 l1 = 0, l2 = 0, l3 = 0, l4 = 0, l5 = 0, l6 = 0, l7 = 0, l8 = 0, l9 = 0, l10 = 0, l11 = 0, l12 = 0, l13 = 0, l14 = 0, l15 = 0, l16 = 0;
 l1 = get64(b, l0 + 224);
 l2 = get64(b, l0 + 208);
@@ -93595,7 +93848,7 @@ rattle_dealloc(b, l2);
 L9:;
 }
 
-FN u32 f469(B b, u64 l0) {
+FN u32 f467(B b, u64 l0) {
 u32 l6 = 0;
 u64 l1 = 0, l2 = 0, l3 = 0, l4 = 0, l5 = 0;
 l1 = SP - 32ull;
@@ -93627,7 +93880,7 @@ SP = l1 + 32ull;
 return l6;
 }
 
-FN u32 f470(B b, u64 l0) {
+FN u32 f468(B b, u64 l0) {
 u32 l6 = 0;
 u64 l1 = 0, l2 = 0, l3 = 0, l4 = 0, l5 = 0;
 l1 = SP - 32ull;
@@ -93659,7 +93912,7 @@ SP = l1 + 32ull;
 return l6;
 }
 
-FN void f471(B b, u64 l0, u64 l1, u64 l2, u64 l3) {
+FN void f469(B b, u64 l0, u64 l1, u64 l2, u64 l3) {
 u32 l13 = 0, l14 = 0, l15 = 0, l16 = 0;
 u64 l4 = 0, l5 = 0, l6 = 0, l7 = 0, l8 = 0, l9 = 0, l10 = 0, l11 = 0, l12 = 0;
 l4 = SP - 32ull;
@@ -93867,7 +94120,7 @@ l3 = 0ull;
 goto L1;
 L31:;
 if (get8(b, l2) != 67u) { goto L4; }
-f452(b, l4, l5, get64(b, l1 + 208ull), get64(b, l1 + 256ull), get64(b, l1 + 264ull), get8(b, l1 + 328ull), get32(b, l1 + 332ull), l2 + 1ull, l3 + 18446744073709551615ull);
+f450(b, l4, l5, get64(b, l1 + 208ull), get64(b, l1 + 256ull), get64(b, l1 + 264ull), get8(b, l1 + 328ull), get32(b, l1 + 332ull), l2 + 1ull, l3 + 18446744073709551615ull);
 if (get8(b, l4) != 1u) { goto L4; }
 l9 = get64(b, l4 + 24);
 if (!l9) { goto L4; }
@@ -94010,7 +94263,7 @@ put64(b, l0, l2);
 SP = l4 + 32ull;
 }
 
-FN void f472(B b, u64 l0, u64 l1, u64 l2, u64 l3) {
+FN void f470(B b, u64 l0, u64 l1, u64 l2, u64 l3) {
 u32 l22 = 0, l23 = 0, l24 = 0, l25 = 0, l26 = 0;
 u64 l4 = 0, l5 = 0, l6 = 0, l7 = 0, l8 = 0, l9 = 0, l10 = 0, l11 = 0, l12 = 0, l13 = 0, l14 = 0, l15 = 0, l16 = 0, l17 = 0, l18 = 0, l19 = 0, l20 = 0, l21 = 0;
 l4 = SP - 304ull;
@@ -94027,7 +94280,7 @@ put64(b, l4 + 32, 0ull);
 put64(b, l4 + 24, 0ull);
 put64(b, l4 + 16, 0ull);
 put64(b, l4 + 8, 0ull);
-f441(b, l4 + 8ull, l2, l3, get64(b, l1 + 16ull));
+f439(b, l4 + 8ull, l2, l3, get64(b, l1 + 16ull));
 switch ((u32)(u64)get8(b, l4 + 8)) {
 case 1: goto L6;
 case 2: goto L5;
@@ -94203,7 +94456,7 @@ put64(b, l4 + 64, 0ull);
 put64(b, l4 + 56, 0ull);
 put64(b, l4 + 48, 0ull);
 put64(b, l4 + 40, 0ull);
-f452(b, l4 + 40ull, l5, l6, l8, l7, l23, l22, l3, l2);
+f450(b, l4 + 40ull, l5, l6, l8, l7, l23, l22, l3, l2);
 if (get8(b, l4 + 40) != 1u) { goto L8; }
 if (get64(b, l4 + 64) != 0ull) { goto L8; }
 put32(b, l1 + 332ull, get32(b, l4 + 48));
@@ -94324,7 +94577,7 @@ L1:;
 SP = l4 + 304ull;
 }
 
-FN u32 f473(B b, u64 l0, u64 l1) {
+FN u32 f471(B b, u64 l0, u64 l1) {
 u32 l6 = 0;
 u64 l2 = 0, l3 = 0, l4 = 0, l5 = 0;
 l2 = SP - 32ull;
@@ -94357,7 +94610,7 @@ SP = l2 + 32ull;
 return l6;
 }
 
-FN void f474(B b, u64 l0, u64 l1, u64 l2, u64 l3) {
+FN void f472(B b, u64 l0, u64 l1, u64 l2, u64 l3) {
 u32 l6 = 0;
 u64 l4 = 0, l5 = 0;
 l4 = SP - 64ull;
@@ -94386,7 +94639,7 @@ put64(b, l4 + 56, 0ull);
 put64(b, l4 + 48, 0ull);
 put64(b, l4 + 40, 0ull);
 put64(b, l4 + 32, 0ull);
-f441(b, l4 + 32ull, l2, l3, l5);
+f439(b, l4 + 32ull, l2, l3, l5);
 if (get8(b, l4 + 32)) { goto L3; }
 if (get8(b, l4 + 40) != 1u) { goto L3; }
 l6 = get32(b, l4 + 44);
@@ -94398,7 +94651,7 @@ put64(b, l0, 0ull);
 put64(b, l0 + 16ull, l1 + 1ull);
 goto L1;
 L3:;
-f472(b, l4 + 8ull, l1, l2, l3);
+f470(b, l4 + 8ull, l1, l2, l3);
 if (get8(b, l4 + 8)) { goto L5; }
 put64(b, l0 + 16, 0ull);
 put64(b, l0 + 8, 0ull);
@@ -94413,7 +94666,7 @@ L1:;
 SP = l4 + 64ull;
 }
 
-FN void f475(B b, u64 l0, u64 l1, u64 l2, u32 l3) {
+FN void f473(B b, u64 l0, u64 l1, u64 l2, u32 l3) {
 u32 l9 = 0;
 u64 l4 = 0, l5 = 0, l6 = 0, l7 = 0, l8 = 0;
 if (!l2) { goto L4; }
@@ -94547,7 +94800,7 @@ put32(b, l0 + 12ull, 0u);
 put32(b, l0 + 8ull, l9);
 }
 
-FN void f476(B b, u64 l0, u64 l1, u64 l2) {
+FN void f474(B b, u64 l0, u64 l1, u64 l2) {
 u32 l8 = 0, l9 = 0, t0;
 u64 l3 = 0, l4 = 0, l5 = 0, l6 = 0, l7 = 0;
 l3 = SP - 64ull;
@@ -94682,7 +94935,7 @@ L1:;
 SP = l3 + 64ull;
 }
 
-FN void f477(B b, u64 l0, u32 l1) {
+FN void f475(B b, u64 l0, u32 l1) {
 u32 l27 = 0, l28 = 0, l29 = 0, l30 = 0, t0, t1, t2, t3, t4, t5, t6, t7, t8;
 u64 l2 = 0, l3 = 0, l4 = 0, l5 = 0, l6 = 0, l7 = 0, l8 = 0, l9 = 0, l10 = 0, l11 = 0, l12 = 0, l13 = 0, l14 = 0, l15 = 0, l16 = 0, l17 = 0, l18 = 0, l19 = 0, l20 = 0, l21 = 0, l22 = 0, l23 = 0, l24 = 0, l25 = 0, l26 = 0;
 l2 = SP - 2224ull;
@@ -94691,7 +94944,7 @@ l3 = 0ull;
 put64(b, l2 + 56, 0ull);
 put64(b, l2 + 48, 0ull);
 put64(b, l2 + 40, 0ull);
-f478(b, l2 + 40ull, l1);
+f476(b, l2 + 40ull, l1);
 if (get8(b, l2 + 40)) { goto L11; }
 l4 = get64(b, l2 + 56);
 l27 = get8(b, l2 + 48);
@@ -94704,7 +94957,7 @@ l5 = get64(b, l4);
 L12:;
 fill(b, l2 + 64ull, 0u, 112u);
 fill(b, l2 + 424ull, 0u, 120u);
-f479(b, l2 + 1112ull, l5, l3);
+f477(b, l2 + 1112ull, l5, l3);
 if (!get8(b, l2 + 1112)) { goto L14; }
 l28 = get8(b, l2 + 1120);
 goto L5;
@@ -94834,8 +95087,8 @@ if (!get8(b, l2 + 1112)) { goto L16; }
 if (!get8(b, l2 + 1116)) { goto L4; }
 goto L8;
 L16:;
-f419(b, l2 + 424ull, l2 + 1120ull);
-f417(b, l2 + 1128ull);
+f417(b, l2 + 424ull, l2 + 1120ull);
+f415(b, l2 + 1128ull);
 if (get8(b, l2 + 424)) { goto L8; }
 l7 = get64(b, l2 + 440);
 l30 = get8(b, l2 + 432);
@@ -94852,13 +95105,13 @@ put64(b, l2 + 368, 0ull);
 put64(b, l2 + 360, 0ull);
 put64(b, l2 + 352, 0ull);
 put64(b, l2 + 344, 0ull);
-f454(b, l2 + 344ull, l5, l8);
+f452(b, l2 + 344ull, l5, l8);
 if (get8(b, l2 + 344)) { goto L4; }
 l5 = get64(b, l2 + 368);
 l6 = get64(b, l2 + 360);
 l28 = get8(b, l2 + 352);
 fill(b, l2 + 1112ull, 0u, 424u);
-f443(b, l2 + 1112ull, l2 + 264ull, l28, 3ull);
+f441(b, l2 + 1112ull, l2 + 264ull, l28, 3ull);
 l29 = get8(b, l2 + 1112);
 l9 = l2 + 431ull;
 copy(b, l9, l2 + 1120ull, 416u);
@@ -94867,7 +95120,7 @@ copy(b, l2 + 1800ull, l9, 416u);
 put64(b, l2 + 1128, 0ull);
 put64(b, l2 + 1120, 0ull);
 put64(b, l2 + 1112, 0ull);
-f444(b, l2 + 1112ull, l2 + 1800ull, l6, l5);
+f442(b, l2 + 1112ull, l2 + 1800ull, l6, l5);
 if (get8(b, l2 + 1112)) { goto L4; }
 if ((get8(b, l2 + 2192) & 255u) == 1u) { goto L4; }
 if (get64(b, l2 + 2176) != 0ull) { goto L4; }
@@ -95081,15 +95334,15 @@ l5 = l5 + 32ull;
 l9 = l9 + 18446744073709551615ull;
 if (l9 != 0ull) { goto L63; }
 L59:;
-t2 = f437(b, l2 + 424ull, 1054616ull, 5ull, l6);
+t2 = f435(b, l2 + 424ull, 1054616ull, 5ull, l6);
 if (t2 & 255u) { goto L48; }
-t3 = f437(b, l2 + 424ull, 1054630ull, 5ull, get64(b, l2 + 304));
+t3 = f435(b, l2 + 424ull, 1054630ull, 5ull, get64(b, l2 + 304));
 if (t3 & 255u) { goto L47; }
-t4 = f437(b, l2 + 424ull, 1054635ull, 8ull, get64(b, l2 + 328));
+t4 = f435(b, l2 + 424ull, 1054635ull, 8ull, get64(b, l2 + 328));
 if (t4 & 255u) { goto L46; }
-t5 = f437(b, l2 + 424ull, 1054839ull, 4ull, l3);
+t5 = f435(b, l2 + 424ull, 1054839ull, 4ull, l3);
 if (t5 & 255u) { goto L45; }
-t6 = f437(b, l2 + 424ull, 1054843ull, 11ull, l8);
+t6 = f435(b, l2 + 424ull, 1054843ull, 11ull, l8);
 l1 = t6;
 l3 = get64(b, l2 + 440);
 if (!(l1 & 255u)) { goto L44; }
@@ -95097,7 +95350,7 @@ if (!l3) { goto L64; }
 rattle_dealloc(b, get64(b, l2 + 424));
 L64:;
 if (get8(b, l2 + 448) != 1u) { goto L9; }
-f404(b, get64(b, l2 + 456));
+f402(b, get64(b, l2 + 456));
 goto L9;
 L49:;
 if (!get64(b, l2 + 440)) { goto L65; }
@@ -95128,21 +95381,21 @@ if (!get64(b, l2 + 440)) { goto L67; }
 rattle_dealloc(b, get64(b, l2 + 424));
 L67:;
 if (get8(b, l2 + 448) != 1u) { goto L9; }
-f404(b, get64(b, l2 + 456));
+f402(b, get64(b, l2 + 456));
 goto L9;
 L46:;
 if (!get64(b, l2 + 440)) { goto L68; }
 rattle_dealloc(b, get64(b, l2 + 424));
 L68:;
 if (get8(b, l2 + 448) != 1u) { goto L9; }
-f404(b, get64(b, l2 + 456));
+f402(b, get64(b, l2 + 456));
 goto L9;
 L45:;
 if (!get64(b, l2 + 440)) { goto L69; }
 rattle_dealloc(b, get64(b, l2 + 424));
 L69:;
 if (get8(b, l2 + 448) != 1u) { goto L9; }
-f404(b, get64(b, l2 + 456));
+f402(b, get64(b, l2 + 456));
 goto L9;
 L44:;
 if ((l3 - get64(b, l2 + 432)) < 10ull) { goto L42; }
@@ -95190,7 +95443,7 @@ if (!get64(b, l2 + 440)) { goto L70; }
 rattle_dealloc(b, get64(b, l2 + 424));
 L70:;
 if (get8(b, l2 + 448) != 1u) { goto L9; }
-f404(b, get64(b, l2 + 456));
+f402(b, get64(b, l2 + 456));
 L9:;
 l28 = 1u;
 l6 = 0ull;
@@ -95214,7 +95467,7 @@ l5 = get64(b, l2 + 312);
 put64(b, l2 + 1128, get64(b, l2 + 288));
 put64(b, l2 + 1120, get64(b, l2 + 280));
 put64(b, l2 + 1112, get64(b, l2 + 272));
-f420(b, l2 + 1112ull);
+f418(b, l2 + 1112ull);
 if (!l5) { goto L71; }
 rattle_dealloc(b, l14);
 L71:;
@@ -95235,7 +95488,7 @@ put64(b, l2 + 1112, get64(b, l2 + 88));
 if (!l16) { goto L72; }
 rattle_dealloc(b, l18);
 L72:;
-f405(b, l2 + 1120ull);
+f403(b, l2 + 1120ull);
 if (!l3) { goto L73; }
 rattle_dealloc(b, l20);
 L73:;
@@ -95246,7 +95499,7 @@ put64(b, l2 + 440, get64(b, l3 + 16));
 put64(b, l2 + 432, get64(b, l3 + 8));
 put64(b, l2 + 424, get64(b, l3));
 l3 = l3 + 24ull;
-f405(b, l2 + 424ull);
+f403(b, l2 + 424ull);
 l5 = l5 + 18446744073709551615ull;
 if (l5 != 0ull) { goto L75; }
 L74:;
@@ -95279,12 +95532,12 @@ L1:;
 SP = l2 + 2224ull;
 }
 
-FN void f478(B b, u64 l0, u32 l1) {
+FN void f476(B b, u64 l0, u32 l1) {
 u64 l2 = 0, l3 = 0, l4 = 0, l5 = 0, l6 = 0, l7 = 0, l8 = 0, l9 = 0, l10 = 0, l11 = 0;
 l2 = SP - 544ull;
 SP = l2;
 fill(b, l2 + 8ull, 0u, 120u);
-f480(b, l2 + 8ull, l1);
+f478(b, l2 + 8ull, l1);
 if (get8(b, l2 + 8)) { goto L5; }
 l3 = get64(b, l2 + 112);
 l4 = get64(b, l2 + 104);
@@ -95317,7 +95570,7 @@ l11 = (u64)get8(b, l2 + 528);
 if (!l8) { goto L7; }
 rattle_dealloc(b, l9);
 L7:;
-f405(b, l2 + 48ull);
+f403(b, l2 + 48ull);
 if (!l6) { goto L8; }
 rattle_dealloc(b, l7);
 L8:;
@@ -95328,7 +95581,7 @@ put64(b, l2 + 144, get64(b, l6 + 16));
 put64(b, l2 + 136, get64(b, l6 + 8));
 put64(b, l2 + 128, get64(b, l6));
 l6 = l6 + 24ull;
-f405(b, l2 + 128ull);
+f403(b, l2 + 128ull);
 l4 = l4 + 18446744073709551615ull;
 if (l4 != 0ull) { goto L10; }
 L9:;
@@ -95344,7 +95597,7 @@ if (!(l1 & 255u)) { goto L1; }
 if (!l8) { goto L12; }
 rattle_dealloc(b, l9);
 L12:;
-f405(b, l2 + 48ull);
+f403(b, l2 + 48ull);
 if (!l6) { goto L13; }
 rattle_dealloc(b, l7);
 L13:;
@@ -95355,7 +95608,7 @@ put64(b, l2 + 144, get64(b, l6 + 16));
 put64(b, l2 + 136, get64(b, l6 + 8));
 put64(b, l2 + 128, get64(b, l6));
 l6 = l6 + 24ull;
-f405(b, l2 + 128ull);
+f403(b, l2 + 128ull);
 l4 = l4 + 18446744073709551615ull;
 if (l4 != 0ull) { goto L15; }
 L14:;
@@ -95372,7 +95625,7 @@ L1:;
 abort();
 }
 
-FN void f479(B b, u64 l0, u64 l1, u64 l2) {
+FN void f477(B b, u64 l0, u64 l1, u64 l2) {
 u32 t0;
 u64 l3 = 0, l4 = 0, l5 = 0, l6 = 0, l7 = 0;
 l3 = SP - 576ull;
@@ -95444,13 +95697,13 @@ L1:;
 SP = l3 + 576ull;
 }
 
-FN void f480(B b, u64 l0, u32 l1) {
+FN void f478(B b, u64 l0, u32 l1) {
 u32 l7 = 0, l8 = 0, t0;
 u64 l2 = 0, l3 = 0, l4 = 0, l5 = 0, l6 = 0;
 l2 = SP - 256ull;
 SP = l2;
 fill(b, l2, 0u, 120u);
-f481(b, l2, l1);
+f479(b, l2, l1);
 if (get8(b, l2)) { goto L4; }
 copy(b, l2 + 120ull, l2 + 8ull, 112u);
 l7 = l1 * l1;
@@ -95463,7 +95716,7 @@ fill(b, l0 + 8ull, 0u, 112u);
 goto L1;
 L3:;
 L6:;
-t0 = f482(b, l2 + 120ull, l1, l8);
+t0 = f480(b, l2 + 120ull, l1, l8);
 if (t0 & 255u) { goto L5; }
 l8 = l8 + 1u;
 if (l7 == l8) { goto L2; }
@@ -95472,7 +95725,7 @@ L5:;
 if (!get64(b, l2 + 136)) { goto L7; }
 rattle_dealloc(b, get64(b, l2 + 120));
 L7:;
-f483(b, l2 + 152ull);
+f481(b, l2 + 152ull);
 l3 = get64(b, l2 + 216);
 l4 = get64(b, l2 + 208);
 l5 = get64(b, l2 + 200);
@@ -95486,7 +95739,7 @@ put64(b, l2 + 248, get64(b, l6 + 16));
 put64(b, l2 + 240, get64(b, l6 + 8));
 put64(b, l2 + 232, get64(b, l6));
 l6 = l6 + 24ull;
-f483(b, l2 + 232ull);
+f481(b, l2 + 232ull);
 l4 = l4 + 18446744073709551615ull;
 if (l4 != 0ull) { goto L10; }
 L9:;
@@ -95503,7 +95756,7 @@ L1:;
 SP = l2 + 256ull;
 }
 
-FN void f481(B b, u64 l0, u32 l1) {
+FN void f479(B b, u64 l0, u32 l1) {
 u32 t0, t1, t2, t3, t4, t5, t6, t7, t8;
 u64 l2 = 0, l3 = 0, l4 = 0, l5 = 0, l6 = 0;
 l2 = SP - 1040ull;
@@ -95603,7 +95856,7 @@ put64(b, l2 + 32, 0ull);
 put64(b, l2 + 24, 0ull);
 put64(b, l2 + 16, 0ull);
 put64(b, l2 + 8, 0ull);
-f484(b, l2 + 752ull);
+f482(b, l2 + 752ull);
 if (get8(b, l2 + 752)) { goto L13; }
 copy(b, l2 + 872ull, (l2 + 752ull) + 8ull, 112u);
 put64(b, l2 + 992, 0ull);
@@ -95644,14 +95897,14 @@ put64(b, l2 + 1024, 0ull);
 put64(b, l2 + 1016, l3);
 put64(b, l2 + 1008, 1ull);
 f36(b, l2 + 1008ull);
-f483(b, l2 + 984ull);
+f481(b, l2 + 984ull);
 if (!get64(b, l2 + 888)) { goto L19; }
 rattle_dealloc(b, get64(b, l2 + 872));
 L19:;
 put64(b, l2 + 528, get64(b, l2 + 920));
 put64(b, l2 + 520, get64(b, l2 + 912));
 put64(b, l2 + 512, get64(b, l2 + 904));
-f483(b, l2 + 512ull);
+f481(b, l2 + 512ull);
 l6 = get64(b, l2 + 968);
 l4 = get64(b, l2 + 960);
 l5 = get64(b, l2 + 952);
@@ -95665,7 +95918,7 @@ put64(b, l2 + 1024, get64(b, l3 + 16));
 put64(b, l2 + 1016, get64(b, l3 + 8));
 put64(b, l2 + 1008, get64(b, l3));
 l3 = l3 + 24ull;
-f483(b, l2 + 1008ull);
+f481(b, l2 + 1008ull);
 l4 = l4 + 18446744073709551615ull;
 if (l4 != 0ull) { goto L22; }
 L21:;
@@ -95692,27 +95945,27 @@ put64(b, l2 + 719, l5);
 put64(b, l2 + 736, l3);
 put64(b, l2 + 728, l4);
 put64(b, l2 + 744, l5);
-t3 = f485(b, l2 + 872ull, 186u, 0u, l2 + 728ull);
+t3 = f483(b, l2 + 872ull, 186u, 0u, l2 + 728ull);
 if (t3 & 255u) { goto L12; }
-f486(b, l2 + 664ull, l1);
+f484(b, l2 + 664ull, l1);
 if (get8(b, l2 + 664)) { goto L11; }
-t4 = f485(b, l2 + 872ull, 514u, 1u, l2 + 672ull);
+t4 = f483(b, l2 + 872ull, 514u, 1u, l2 + 672ull);
 if (t4 & 255u) { goto L10; }
-f487(b, l2 + 632ull, l1);
+f485(b, l2 + 632ull, l1);
 if (get8(b, l2 + 632)) { goto L9; }
-t5 = f485(b, l2 + 872ull, 502u, 1u, l2 + 640ull);
+t5 = f483(b, l2 + 872ull, 502u, 1u, l2 + 640ull);
 if (t5 & 255u) { goto L8; }
-f488(b, l2 + 600ull, l1);
+f486(b, l2 + 600ull, l1);
 if (get8(b, l2 + 600)) { goto L7; }
-t6 = f485(b, l2 + 872ull, 504u, 1u, l2 + 608ull);
+t6 = f483(b, l2 + 872ull, 504u, 1u, l2 + 608ull);
 if (t6 & 255u) { goto L6; }
-f489(b, l2 + 568ull, 1054700ull, 6ull);
+f487(b, l2 + 568ull, 1054700ull, 6ull);
 if (get8(b, l2 + 568)) { goto L5; }
-t7 = f485(b, l2 + 872ull, 110u, 0u, l2 + 576ull);
+t7 = f483(b, l2 + 872ull, 110u, 0u, l2 + 576ull);
 if (t7 & 255u) { goto L4; }
-f489(b, l2 + 536ull, 1054724ull, 9ull);
+f487(b, l2 + 536ull, 1054724ull, 9ull);
 if (get8(b, l2 + 536)) { goto L3; }
-t8 = f485(b, l2 + 872ull, 108u, 0u, (l2 + 536ull) + 8ull);
+t8 = f483(b, l2 + 872ull, 108u, 0u, (l2 + 536ull) + 8ull);
 if (t8 & 255u) { goto L2; }
 put8(b, l0, 0u);
 copy(b, l0 + 8ull, l2 + 872ull, 112u);
@@ -95728,7 +95981,7 @@ L24:;
 put64(b, l2 + 504, get64(b, l2 + 920));
 put64(b, l2 + 496, get64(b, l2 + 912));
 put64(b, l2 + 488, get64(b, l2 + 904));
-f483(b, l2 + 488ull);
+f481(b, l2 + 488ull);
 l6 = get64(b, l2 + 968);
 l4 = get64(b, l2 + 960);
 l5 = get64(b, l2 + 952);
@@ -95742,7 +95995,7 @@ put64(b, l2 + 1024, get64(b, l3 + 16));
 put64(b, l2 + 1016, get64(b, l3 + 8));
 put64(b, l2 + 1008, get64(b, l3));
 l3 = l3 + 24ull;
-f483(b, l2 + 1008ull);
+f481(b, l2 + 1008ull);
 l4 = l4 + 18446744073709551615ull;
 if (l4 != 0ull) { goto L27; }
 L26:;
@@ -95759,7 +96012,7 @@ L29:;
 put64(b, l2 + 480, get64(b, l2 + 920));
 put64(b, l2 + 472, get64(b, l2 + 912));
 put64(b, l2 + 464, get64(b, l2 + 904));
-f483(b, l2 + 464ull);
+f481(b, l2 + 464ull);
 l3 = get64(b, l2 + 968);
 l4 = get64(b, l2 + 960);
 l5 = get64(b, l2 + 952);
@@ -95769,7 +96022,7 @@ L30:;
 put64(b, l2 + 456, l3);
 put64(b, l2 + 448, l4);
 put64(b, l2 + 440, l5);
-f490(b, l2 + 440ull);
+f488(b, l2 + 440ull);
 put8(b, l0, 1u);
 fill(b, l0 + 8ull, 0u, 112u);
 goto L1;
@@ -95780,7 +96033,7 @@ L31:;
 put64(b, l2 + 432, get64(b, l2 + 920));
 put64(b, l2 + 424, get64(b, l2 + 912));
 put64(b, l2 + 416, get64(b, l2 + 904));
-f483(b, l2 + 416ull);
+f481(b, l2 + 416ull);
 l3 = get64(b, l2 + 968);
 l4 = get64(b, l2 + 960);
 l5 = get64(b, l2 + 952);
@@ -95790,7 +96043,7 @@ L32:;
 put64(b, l2 + 408, l3);
 put64(b, l2 + 400, l4);
 put64(b, l2 + 392, l5);
-f490(b, l2 + 392ull);
+f488(b, l2 + 392ull);
 put8(b, l0, 1u);
 fill(b, l0 + 8ull, 0u, 112u);
 goto L1;
@@ -95801,7 +96054,7 @@ L33:;
 put64(b, l2 + 384, get64(b, l2 + 920));
 put64(b, l2 + 376, get64(b, l2 + 912));
 put64(b, l2 + 368, get64(b, l2 + 904));
-f483(b, l2 + 368ull);
+f481(b, l2 + 368ull);
 l3 = get64(b, l2 + 968);
 l4 = get64(b, l2 + 960);
 l5 = get64(b, l2 + 952);
@@ -95811,7 +96064,7 @@ L34:;
 put64(b, l2 + 360, l3);
 put64(b, l2 + 352, l4);
 put64(b, l2 + 344, l5);
-f490(b, l2 + 344ull);
+f488(b, l2 + 344ull);
 put8(b, l0, 1u);
 fill(b, l0 + 8ull, 0u, 112u);
 goto L1;
@@ -95822,7 +96075,7 @@ L35:;
 put64(b, l2 + 336, get64(b, l2 + 920));
 put64(b, l2 + 328, get64(b, l2 + 912));
 put64(b, l2 + 320, get64(b, l2 + 904));
-f483(b, l2 + 320ull);
+f481(b, l2 + 320ull);
 l3 = get64(b, l2 + 968);
 l4 = get64(b, l2 + 960);
 l5 = get64(b, l2 + 952);
@@ -95832,7 +96085,7 @@ L36:;
 put64(b, l2 + 312, l3);
 put64(b, l2 + 304, l4);
 put64(b, l2 + 296, l5);
-f490(b, l2 + 296ull);
+f488(b, l2 + 296ull);
 put8(b, l0, 1u);
 fill(b, l0 + 8ull, 0u, 112u);
 goto L1;
@@ -95843,7 +96096,7 @@ L37:;
 put64(b, l2 + 288, get64(b, l2 + 920));
 put64(b, l2 + 280, get64(b, l2 + 912));
 put64(b, l2 + 272, get64(b, l2 + 904));
-f483(b, l2 + 272ull);
+f481(b, l2 + 272ull);
 l3 = get64(b, l2 + 968);
 l4 = get64(b, l2 + 960);
 l5 = get64(b, l2 + 952);
@@ -95853,7 +96106,7 @@ L38:;
 put64(b, l2 + 264, l3);
 put64(b, l2 + 256, l4);
 put64(b, l2 + 248, l5);
-f490(b, l2 + 248ull);
+f488(b, l2 + 248ull);
 put8(b, l0, 1u);
 fill(b, l0 + 8ull, 0u, 112u);
 goto L1;
@@ -95864,7 +96117,7 @@ L39:;
 put64(b, l2 + 240, get64(b, l2 + 920));
 put64(b, l2 + 232, get64(b, l2 + 912));
 put64(b, l2 + 224, get64(b, l2 + 904));
-f483(b, l2 + 224ull);
+f481(b, l2 + 224ull);
 l3 = get64(b, l2 + 968);
 l4 = get64(b, l2 + 960);
 l5 = get64(b, l2 + 952);
@@ -95874,7 +96127,7 @@ L40:;
 put64(b, l2 + 216, l3);
 put64(b, l2 + 208, l4);
 put64(b, l2 + 200, l5);
-f490(b, l2 + 200ull);
+f488(b, l2 + 200ull);
 put8(b, l0, 1u);
 fill(b, l0 + 8ull, 0u, 112u);
 goto L1;
@@ -95885,7 +96138,7 @@ L41:;
 put64(b, l2 + 192, get64(b, l2 + 920));
 put64(b, l2 + 184, get64(b, l2 + 912));
 put64(b, l2 + 176, get64(b, l2 + 904));
-f483(b, l2 + 176ull);
+f481(b, l2 + 176ull);
 l3 = get64(b, l2 + 968);
 l4 = get64(b, l2 + 960);
 l5 = get64(b, l2 + 952);
@@ -95895,7 +96148,7 @@ L42:;
 put64(b, l2 + 168, l3);
 put64(b, l2 + 160, l4);
 put64(b, l2 + 152, l5);
-f490(b, l2 + 152ull);
+f488(b, l2 + 152ull);
 put8(b, l0, 1u);
 fill(b, l0 + 8ull, 0u, 112u);
 goto L1;
@@ -95906,7 +96159,7 @@ L43:;
 put64(b, l2 + 144, get64(b, l2 + 920));
 put64(b, l2 + 136, get64(b, l2 + 912));
 put64(b, l2 + 128, get64(b, l2 + 904));
-f483(b, l2 + 128ull);
+f481(b, l2 + 128ull);
 l3 = get64(b, l2 + 968);
 l4 = get64(b, l2 + 960);
 l5 = get64(b, l2 + 952);
@@ -95916,7 +96169,7 @@ L44:;
 put64(b, l2 + 120, l3);
 put64(b, l2 + 112, l4);
 put64(b, l2 + 104, l5);
-f490(b, l2 + 104ull);
+f488(b, l2 + 104ull);
 put8(b, l0, 1u);
 fill(b, l0 + 8ull, 0u, 112u);
 goto L1;
@@ -95927,7 +96180,7 @@ L45:;
 put64(b, l2 + 96, get64(b, l2 + 920));
 put64(b, l2 + 88, get64(b, l2 + 912));
 put64(b, l2 + 80, get64(b, l2 + 904));
-f483(b, l2 + 80ull);
+f481(b, l2 + 80ull);
 l3 = get64(b, l2 + 968);
 l4 = get64(b, l2 + 960);
 l5 = get64(b, l2 + 952);
@@ -95937,7 +96190,7 @@ L46:;
 put64(b, l2 + 72, l3);
 put64(b, l2 + 64, l4);
 put64(b, l2 + 56, l5);
-f490(b, l2 + 56ull);
+f488(b, l2 + 56ull);
 put8(b, l0, 1u);
 fill(b, l0 + 8ull, 0u, 112u);
 goto L1;
@@ -95948,7 +96201,7 @@ L47:;
 put64(b, l2 + 48, get64(b, l2 + 920));
 put64(b, l2 + 40, get64(b, l2 + 912));
 put64(b, l2 + 32, get64(b, l2 + 904));
-f483(b, l2 + 32ull);
+f481(b, l2 + 32ull);
 l3 = get64(b, l2 + 968);
 l4 = get64(b, l2 + 960);
 l5 = get64(b, l2 + 952);
@@ -95958,14 +96211,14 @@ L48:;
 put64(b, l2 + 24, l3);
 put64(b, l2 + 16, l4);
 put64(b, l2 + 8, l5);
-f490(b, l2 + 8ull);
+f488(b, l2 + 8ull);
 put8(b, l0, 1u);
 fill(b, l0 + 8ull, 0u, 112u);
 L1:;
 SP = l2 + 1040ull;
 }
 
-FN u32 f482(B b, u64 l0, u32 l1, u32 l2) {
+FN u32 f480(B b, u64 l0, u32 l1, u32 l2) {
 u32 l4 = 0, l5 = 0, t0, t1;
 u64 l3 = 0;
 l3 = SP - 64ull;
@@ -95981,15 +96234,15 @@ put64(b, l3 + 24, 0ull);
 if (!l1) { goto L1; }
 l4 = l2 / l1;
 l5 = l2 - (l4 * l1);
-f491(b, l3 + 32ull, l1, l4, l5);
+f489(b, l3 + 32ull, l1, l4, l5);
 l2 = 1u;
 if (get8(b, l3 + 32)) { goto L2; }
 l2 = 1u;
-t0 = f485(b, l0, 510u, 1u, l3 + 40ull);
+t0 = f483(b, l0, 510u, 1u, l3 + 40ull);
 if (t0 & 255u) { goto L2; }
-f492(b, l3, l1, l4, l5);
+f490(b, l3, l1, l4, l5);
 if (get8(b, l3)) { goto L2; }
-t1 = f485(b, l0, 508u, 1u, l3 + 8ull);
+t1 = f483(b, l0, 508u, 1u, l3 + 8ull);
 l2 = t1 & 255u;
 L2:;
 SP = l3 + 64ull;
@@ -95999,7 +96252,7 @@ abort();
 return 0;
 }
 
-FN void f483(B b, u64 l0) {
+FN void f481(B b, u64 l0) {
 u32 l7 = 0;
 u64 l1 = 0, l2 = 0, l3 = 0, l4 = 0, l5 = 0, l6 = 0;
 l1 = get64(b, l0 + 16);
@@ -96048,7 +96301,7 @@ rattle_dealloc(b, l2);
 L8:;
 }
 
-FN void f484(B b, u64 l0) {
+FN void f482(B b, u64 l0) {
 u32 l8 = 0, t0;
 u64 l1 = 0, l2 = 0, l3 = 0, l4 = 0, l5 = 0, l6 = 0, l7 = 0;
 l1 = SP - 224ull;
@@ -96143,7 +96396,7 @@ put64(b, l0 + 96ull, get64(b, l1));
 SP = l1 + 224ull;
 }
 
-FN u32 f485(B b, u64 l0, u32 l1, u32 l2, u64 l3) {
+FN u32 f483(B b, u64 l0, u32 l1, u32 l2, u64 l3) {
 u32 t0, t1;
 u64 l4 = 0, l5 = 0, l6 = 0, l7 = 0, l8 = 0;
 l4 = SP - 32ull;
@@ -96205,7 +96458,7 @@ SP = l4 + 32ull;
 return l2;
 }
 
-FN void f486(B b, u64 l0, u32 l1) {
+FN void f484(B b, u64 l0, u32 l1) {
 u32 l8 = 0, l9 = 0, l10 = 0, t0, t1, t2;
 u64 l2 = 0, l3 = 0, l4 = 0, l5 = 0, l6 = 0, l7 = 0;
 l2 = SP - 112ull;
@@ -96261,7 +96514,7 @@ put64(b, l2 + 96, 0ull);
 put64(b, l2 + 88, l7);
 put64(b, l2 + 80, 1ull);
 f36(b, l2 + 80ull);
-f483(b, l2 + 32ull);
+f481(b, l2 + 32ull);
 put64(b, l0 + 8ull, 0ull);
 put8(b, l0, 1u);
 put64(b, l0 + 16ull, 0ull);
@@ -96292,7 +96545,7 @@ put64(b, l2 + 96, 0ull);
 put64(b, l2 + 88, l3);
 put64(b, l2 + 80, 1ull);
 f36(b, l2 + 80ull);
-f483(b, l2 + 56ull);
+f481(b, l2 + 56ull);
 put64(b, l0 + 8ull, 0ull);
 put8(b, l0, 1u);
 put64(b, l0 + 16ull, 0ull);
@@ -96301,7 +96554,7 @@ L1:;
 SP = l2 + 112ull;
 }
 
-FN void f487(B b, u64 l0, u32 l1) {
+FN void f485(B b, u64 l0, u32 l1) {
 u32 l8 = 0, l9 = 0, l10 = 0, t0, t1, t2, t3;
 u64 l2 = 0, l3 = 0, l4 = 0, l5 = 0, l6 = 0, l7 = 0;
 l2 = SP - 112ull;
@@ -96371,7 +96624,7 @@ put64(b, l2 + 96, 0ull);
 put64(b, l2 + 88, l4);
 put64(b, l2 + 80, 1ull);
 f36(b, l2 + 80ull);
-f483(b, l2 + 32ull);
+f481(b, l2 + 32ull);
 put64(b, l0 + 8ull, 0ull);
 put8(b, l0, 1u);
 put64(b, l0 + 16ull, 0ull);
@@ -96402,7 +96655,7 @@ put64(b, l2 + 96, 0ull);
 put64(b, l2 + 88, l3);
 put64(b, l2 + 80, 1ull);
 f36(b, l2 + 80ull);
-f483(b, l2 + 56ull);
+f481(b, l2 + 56ull);
 put64(b, l0 + 8ull, 0ull);
 put8(b, l0, 1u);
 put64(b, l0 + 16ull, 0ull);
@@ -96411,7 +96664,7 @@ L1:;
 SP = l2 + 112ull;
 }
 
-FN void f488(B b, u64 l0, u32 l1) {
+FN void f486(B b, u64 l0, u32 l1) {
 u32 l9 = 0, l10 = 0, l11 = 0, l12 = 0, l13 = 0, t0, t1, t2, t3, t4, t5, t6, t7, t8, t9, t10;
 u64 l2 = 0, l3 = 0, l4 = 0, l5 = 0, l6 = 0, l7 = 0, l8 = 0;
 l2 = SP - 112ull;
@@ -96620,7 +96873,7 @@ put64(b, l2 + 96, 0ull);
 put64(b, l2 + 88, l3);
 put64(b, l2 + 80, 1ull);
 f36(b, l2 + 80ull);
-f483(b, l2 + 56ull);
+f481(b, l2 + 56ull);
 put64(b, l0 + 8ull, 0ull);
 put8(b, l0, 1u);
 put64(b, l0 + 16ull, 0ull);
@@ -96632,7 +96885,7 @@ put64(b, l2 + 88, l3);
 put64(b, l2 + 80, 1ull);
 f36(b, l2 + 80ull);
 L2:;
-f483(b, l2 + 32ull);
+f481(b, l2 + 32ull);
 put8(b, l0, 1u);
 put64(b, l0 + 8ull, 0ull);
 put64(b, l0 + 16ull, 0ull);
@@ -96641,7 +96894,7 @@ L1:;
 SP = l2 + 112ull;
 }
 
-FN void f489(B b, u64 l0, u64 l1, u64 l2) {
+FN void f487(B b, u64 l0, u64 l1, u64 l2) {
 u32 t0;
 u64 l3 = 0, l4 = 0, l5 = 0, l6 = 0, l7 = 0;
 l3 = SP - 64ull;
@@ -96678,7 +96931,7 @@ put64(b, l3 + 48, 0ull);
 put64(b, l3 + 40, l6);
 put64(b, l3 + 32, 1ull);
 f36(b, l3 + 32ull);
-f483(b, l3 + 8ull);
+f481(b, l3 + 8ull);
 put64(b, l0 + 8ull, 0ull);
 put8(b, l0, 1u);
 put64(b, l0 + 16ull, 0ull);
@@ -96687,7 +96940,7 @@ L1:;
 SP = l3 + 64ull;
 }
 
-FN void f490(B b, u64 l0) {
+FN void f488(B b, u64 l0) {
 u64 l1 = 0, l2 = 0, l3 = 0, l4 = 0;
 l1 = SP - 32ull;
 SP = l1;
@@ -96701,7 +96954,7 @@ put64(b, l1 + 24, get64(b, l0 + 16));
 put64(b, l1 + 16, get64(b, l0 + 8));
 put64(b, l1 + 8, get64(b, l0));
 l0 = l0 + 24ull;
-f483(b, l1 + 8ull);
+f481(b, l1 + 8ull);
 l4 = l4 + 18446744073709551615ull;
 if (l4 != 0ull) { goto L2; }
 L1:;
@@ -96711,7 +96964,7 @@ L3:;
 SP = l1 + 32ull;
 }
 
-FN void f491(B b, u64 l0, u32 l1, u32 l2, u32 l3) {
+FN void f489(B b, u64 l0, u32 l1, u32 l2, u32 l3) {
 u32 t0, t1, t2, t3;
 u64 l4 = 0, l5 = 0, l6 = 0, l7 = 0, l8 = 0;
 l4 = SP - 96ull;
@@ -96785,7 +97038,7 @@ put64(b, l4 + 80, 0ull);
 put64(b, l4 + 72, l5);
 put64(b, l4 + 64, 1ull);
 f36(b, l4 + 64ull);
-f483(b, l4 + 40ull);
+f481(b, l4 + 40ull);
 put64(b, l4 + 31, 0ull);
 put64(b, l4 + 23, 0ull);
 put64(b, l4 + 15, 0ull);
@@ -96798,7 +97051,7 @@ put64(b, l0 + 24ull, get64(b, l4 + 31));
 SP = l4 + 96ull;
 }
 
-FN void f492(B b, u64 l0, u32 l1, u32 l2, u32 l3) {
+FN void f490(B b, u64 l0, u32 l1, u32 l2, u32 l3) {
 u32 l8 = 0, l9 = 0, l10 = 0, t0, t1, t2, t3, t4;
 u64 l4 = 0, l5 = 0, l6 = 0, l7 = 0;
 l4 = SP - 112ull;
@@ -96825,13 +97078,13 @@ put64(b, l4 + 40, l6);
 l8 = (l2 % l1) * l1;
 l9 = l3 % l1;
 l10 = (l8 + l9) << 1;
-t1 = f493(b, l4 + 32ull, l10 | 1u, 1u);
+t1 = f491(b, l4 + 32ull, l10 | 1u, 1u);
 if (t1 & 255u) { goto L5; }
-t2 = f493(b, l4 + 32ull, ((((l3 + 1u) % l1) + l8) << 1) + 2u, 1u);
+t2 = f491(b, l4 + 32ull, ((((l3 + 1u) % l1) + l8) << 1) + 2u, 1u);
 if (t2 & 255u) { goto L4; }
-t3 = f493(b, l4 + 32ull, (((((l2 + 1u) % l1) * l1) + l9) << 1) | 1u, 0u);
+t3 = f491(b, l4 + 32ull, (((((l2 + 1u) % l1) * l1) + l9) << 1) | 1u, 0u);
 if (t3 & 255u) { goto L3; }
-t4 = f493(b, l4 + 32ull, l10 + 2u, 0u);
+t4 = f491(b, l4 + 32ull, l10 + 2u, 0u);
 if (t4 & 255u) { goto L2; }
 put8(b, l0, 0u);
 put64(b, l0 + 8ull, get64(b, l4 + 32));
@@ -96843,35 +97096,35 @@ put64(b, l4 + 96, 0ull);
 put64(b, l4 + 88, 4ull);
 put64(b, l4 + 80, 1ull);
 f36(b, l4 + 80ull);
-f483(b, l4 + 56ull);
+f481(b, l4 + 56ull);
 put64(b, l0 + 8ull, 0ull);
 put8(b, l0, 1u);
 put64(b, l0 + 16ull, 0ull);
 put64(b, l0 + 24ull, 0ull);
 goto L1;
 L5:;
-f483(b, l4 + 32ull);
+f481(b, l4 + 32ull);
 put8(b, l0, 1u);
 put64(b, l0 + 8ull, 0ull);
 put64(b, l0 + 16ull, 0ull);
 put64(b, l0 + 24ull, 0ull);
 goto L1;
 L4:;
-f483(b, l4 + 32ull);
+f481(b, l4 + 32ull);
 put8(b, l0, 1u);
 put64(b, l0 + 8ull, 0ull);
 put64(b, l0 + 16ull, 0ull);
 put64(b, l0 + 24ull, 0ull);
 goto L1;
 L3:;
-f483(b, l4 + 32ull);
+f481(b, l4 + 32ull);
 put8(b, l0, 1u);
 put64(b, l0 + 8ull, 0ull);
 put64(b, l0 + 16ull, 0ull);
 put64(b, l0 + 24ull, 0ull);
 goto L1;
 L2:;
-f483(b, l4 + 32ull);
+f481(b, l4 + 32ull);
 put8(b, l0, 1u);
 put64(b, l0 + 8ull, 0ull);
 put64(b, l0 + 16ull, 0ull);
@@ -96880,7 +97133,7 @@ L1:;
 SP = l4 + 112ull;
 }
 
-FN u32 f493(B b, u64 l0, u32 l1, u32 l2) {
+FN u32 f491(B b, u64 l0, u32 l1, u32 l2) {
 u32 t0, t1, t2, t3, t4;
 u64 l3 = 0, l4 = 0, l5 = 0, l6 = 0, l7 = 0, l8 = 0;
 l3 = SP - 32ull;
@@ -96969,7 +97222,7 @@ SP = l3 + 32ull;
 return l1;
 }
 
-FN void f494(B b, u64 l0) {
+FN void f492(B b, u64 l0) {
 u32 t0, t1, t2, t3, t4, t5, t6, t7, t8;
 u64 l1 = 0, l2 = 0, l3 = 0, l4 = 0, l5 = 0, l6 = 0;
 l1 = SP - 48ull;
@@ -96981,7 +97234,7 @@ put64(b, l1 + 32, 0ull);
 put64(b, l1, l1 + 47ull);
 t0 = f46(b, l1, 1054864ull, 16ull);
 if (t0 & 255u) { goto L4; }
-t1 = f495(b, 1054400ull, l1);
+t1 = f493(b, 1054400ull, l1);
 if (t1 & 255u) { goto L3; }
 l2 = get64(b, l1 + 8);
 if (get64(b, l1 + 16) == l2) { goto L6; }
@@ -96992,7 +97245,7 @@ L6:;
 t2 = f46(b, l1, 1048972ull, 1ull);
 if (t2 & 255u) { goto L3; }
 L5:;
-t3 = f495(b, 1054424ull, l1);
+t3 = f493(b, 1054424ull, l1);
 if (t3 & 255u) { goto L3; }
 l3 = 0ull;
 L7:;
@@ -97018,7 +97271,7 @@ l2 = l3 * 24ull;
 l4 = get64(b, l2 + 1053280ull);
 if (!l4) { goto L11; }
 l2 = get64(b, l2 + 1053272ull);
-t5 = f495(b, l2, l1);
+t5 = f493(b, l2, l1);
 if (t5 & 255u) { goto L3; }
 l5 = l4 + 18446744073709551615ull;
 if (!l5) { goto L11; }
@@ -97033,7 +97286,7 @@ L14:;
 t6 = f46(b, l1, 1048972ull, 1ull);
 if (t6 & 255u) { goto L3; }
 L13:;
-t7 = f495(b, l2, l1);
+t7 = f493(b, l2, l1);
 if (t7 & 255u) { goto L3; }
 l2 = l2 + 24ull;
 l5 = l5 + 18446744073709551615ull;
@@ -97119,7 +97372,7 @@ L1:;
 SP = l1 + 48ull;
 }
 
-FN u32 f495(B b, u64 l0, u64 l1) {
+FN u32 f493(B b, u64 l0, u64 l1) {
 u32 l2 = 0, l3 = 0, t0, t1, t2, t3;
 u64 l4 = 0, l5 = 0, l6 = 0, l7 = 0, l8 = 0, l9 = 0, l10 = 0, l11 = 0, l12 = 0, l13 = 0;
 switch ((u32)(u64)get8(b, l0)) {
@@ -97240,7 +97493,7 @@ L1:;
 return l2;
 }
 
-FN u32 f496(B b, u64 l0) {
+FN u32 f494(B b, u64 l0) {
 u32 l6 = 0;
 u64 l1 = 0, l2 = 0, l3 = 0, l4 = 0, l5 = 0;
 l1 = SP - 32ull;
@@ -97272,7 +97525,7 @@ SP = l1 + 32ull;
 return l6;
 }
 
-FN u32 f497(B b, u64 l0, u64 l1, u64 l2) {
+FN u32 f495(B b, u64 l0, u64 l1, u64 l2) {
 u32 l9 = 0, t0, t1, t2;
 u64 l3 = 0, l4 = 0, l5 = 0, l6 = 0, l7 = 0, l8 = 0;
 l3 = SP - 16ull;
@@ -97348,7 +97601,7 @@ SP = l3 + 16ull;
 return l9;
 }
 
-FN u32 f498(B b, u64 l0, u64 l1, u64 l2) {
+FN u32 f496(B b, u64 l0, u64 l1, u64 l2) {
 u32 l9 = 0, t0, t1, t2, t3;
 u64 l3 = 0, l4 = 0, l5 = 0, l6 = 0, l7 = 0, l8 = 0;
 l3 = SP - 16ull;
@@ -97442,7 +97695,7 @@ SP = l3 + 16ull;
 return l9;
 }
 
-FN void f499(B b, u64 l0, u64 l1, u64 l2) {
+FN void f497(B b, u64 l0, u64 l1, u64 l2) {
 u32 l67 = 0, l68 = 0, l69 = 0, l70 = 0, l71 = 0, l72 = 0, l73 = 0, l74 = 0, l75 = 0, l76 = 0, l77 = 0, t0, t1, t2, t3, t4, t5, t6, t7, t8, t9, t10, t11, t12, t13, t14, t15, t16, t17, t18, t19, t20, t21, t23, t24, t25, t26, t27, t28, t29, t30, t31, t32, t33, t34, t35, t36, t37, t38, t39, t40, t41, t42, t43, t44, t45, t46, t47, t48, t49, t50, t51, t52, t53, t54, t55, t56, t57, t58, t59, t60;
 u64 l3 = 0, l4 = 0, l5 = 0, l6 = 0, l7 = 0, l8 = 0, l9 = 0, l10 = 0, l11 = 0, l12 = 0, l13 = 0, l14 = 0, l15 = 0, l16 = 0, l17 = 0, l18 = 0, l19 = 0, l20 = 0, l21 = 0, l22 = 0, l23 = 0, l24 = 0, l25 = 0, l26 = 0, l27 = 0, l28 = 0, l29 = 0, l30 = 0, l31 = 0, l32 = 0, l33 = 0, l34 = 0, l35 = 0, l36 = 0, l37 = 0, l38 = 0, l39 = 0, l40 = 0, l41 = 0, l42 = 0, l43 = 0, l44 = 0, l45 = 0, l46 = 0, l47 = 0, l48 = 0, l49 = 0, l50 = 0, l51 = 0, l52 = 0, l53 = 0, l54 = 0, l55 = 0, l56 = 0, l57 = 0, l58 = 0, l59 = 0, l60 = 0, l61 = 0, l62 = 0, l63 = 0, l64 = 0, l65 = 0, l66 = 0, t22;
 l3 = SP - 1776ull;
@@ -97488,7 +97741,7 @@ put64(b, l3 + 176, 0ull);
 put64(b, l3 + 168, 0ull);
 put64(b, l3 + 160, 0ull);
 l9 = l2 + 16ull;
-f406(b, l3 + 160ull, l9, l5, l6);
+f404(b, l3 + 160ull, l9, l5, l6);
 if (get8(b, l3 + 160)) { goto L12; }
 l10 = 0ull;
 l11 = 0ull;
@@ -97674,7 +97927,7 @@ l26 = get64(b, l13 + (l25 << 3));
 l75 = (u32)(l26 > (l11 - l24));
 if (l75) { goto L51; }
 l72 = get32(b, l5 + (l25 << 2));
-f500(b, l3 + 240ull, l9, l72);
+f498(b, l3 + 240ull, l9, l72);
 if (get8(b, l3 + 240) != 1u) { goto L53; }
 l1 = get64(b, l3 + 248);
 if ((s64)l1 < (s64)0ull) { goto L53; }
@@ -97714,7 +97967,7 @@ l73 = get32(b, l4 + 12ull);
 l68 = get32(b, l4 + 8ull);
 l71 = get8(b, l4 + 4ull);
 l77 = get32(b, l5 + (l8 << 2));
-f500(b, l3 + 328ull, l9, l77);
+f498(b, l3 + 328ull, l9, l77);
 if (get8(b, l3 + 328) != 1u) { goto L53; }
 if (get64(b, l3 + 336) != l1) { goto L53; }
 if ((get8(b, l3 + 344) ^ l76) & 1u) { goto L53; }
@@ -97738,7 +97991,7 @@ put64(b, l3 + 240, 0ull);
 put64(b, l3 + 248, 0ull);
 put64(b, l3 + 256, 0ull);
 put64(b, l3 + 264, 0ull);
-f501(b, l3 + 240ull, l23);
+f499(b, l3 + 240ull, l23);
 l73 = 0u;
 l74 = 0u;
 l71 = 0u;
@@ -97747,7 +98000,7 @@ if (l72) { goto L57; }
 l34 = get64(b, l3 + 264);
 l35 = get64(b, l3 + 248);
 l8 = get64(b, l3 + 256);
-f502(b, l3 + 1744ull, l23, l22);
+f500(b, l3 + 1744ull, l23, l22);
 if (!l8) { goto L58; }
 l1 = l35;
 L59:;
@@ -97857,7 +98110,7 @@ l72 = l71 & 255u;
 l71 = 1u;
 L51:;
 if (get64(b, l3 + 104) != l18) { goto L80; }
-t1 = f503(b, l3 + 88ull);
+t1 = f501(b, l3 + 88ull);
 if (!t1) { goto L49; }
 l21 = get64(b, l3 + 88);
 l18 = get64(b, l3 + 96);
@@ -98003,14 +98256,14 @@ put64(b, l3 + 328, 0ull);
 put64(b, l3 + 336, 0ull);
 put64(b, l3 + 344, 0ull);
 put64(b, l3 + 352, 0ull);
-f501(b, l3 + 328ull, l3 + 160ull);
+f499(b, l3 + 328ull, l3 + 160ull);
 l71 = 1u;
 l73 = 0u;
 if (get8(b, l3 + 328)) { goto L82; }
 put64(b, l3 + 256, get64(b, l3 + 352));
 put64(b, l3 + 248, get64(b, l3 + 344));
 put64(b, l3 + 240, get64(b, l3 + 336));
-f504(b, l3 + 1016ull, l2, l74, l3 + 160ull, l3 + 240ull, l70);
+f502(b, l3 + 1016ull, l2, l74, l3 + 160ull, l3 + 240ull, l70);
 l33 = get64(b, l3 + 256);
 l32 = get64(b, l3 + 240);
 l8 = get64(b, l3 + 248);
@@ -98521,7 +98774,7 @@ put64(b, l3 + 256, 0ull);
 put64(b, l3 + 264, 0ull);
 put64(b, l3 + 272, 0ull);
 put64(b, l3 + 240, l3 + 1768ull);
-t2 = f505(b, l3 + 240ull, l74, l3 + 1704ull);
+t2 = f503(b, l3 + 240ull, l74, l3 + 1704ull);
 if (t2 & 255u) { goto L152; }
 put8(b, l3 + 1020, l73);
 put32(b, l3 + 1016, l74);
@@ -98543,7 +98796,7 @@ put64(b, l3 + 1728, 0ull);
 put64(b, l3 + 1736, 0ull);
 put64(b, l3 + 1720, l3 + 1768ull);
 if (!l68) { goto L153; }
-t3 = f506(b, l3 + 240ull, l1);
+t3 = f504(b, l3 + 240ull, l1);
 if (t3 & 255u) { goto L147; }
 if (l73) { goto L145; }
 if (l71 != l74) { goto L145; }
@@ -98612,7 +98865,7 @@ L160:;
 t5 = f46(b, l3 + 240ull, 1061400ull, 20ull);
 if (t5 & 255u) { goto L147; }
 L159:;
-t6 = f507(b, l3 + 240ull, l8);
+t6 = f505(b, l3 + 240ull, l8);
 if (t6 & 255u) { goto L147; }
 l4 = get64(b, l3 + 256);
 l1 = get64(b, l3 + 248);
@@ -99051,9 +99304,9 @@ put64(b, l3 + 256, l4);
 put64(b, l3 + 248, l7);
 put64(b, l3 + 240, l20);
 L145:;
-t20 = f508(b, l3 + 240ull, l3 + 1720ull, l2, l3 + 1016ull);
+t20 = f506(b, l3 + 240ull, l3 + 1720ull, l2, l3 + 1016ull);
 if (t20 & 255u) { goto L225; }
-t21 = f509(b, l3 + 240ull, l2, l3 + 1720ull);
+t21 = f507(b, l3 + 240ull, l2, l3 + 1720ull);
 l68 = t21 & 255u;
 if (!get64(b, l3 + 1736)) { goto L226; }
 rattle_dealloc(b, get64(b, l3 + 1720));
@@ -99399,7 +99652,7 @@ L281:;
 t25 = f46(b, l3 + 1016ull, l4, l1);
 if (t25 & 255u) { goto L273; }
 L280:;
-t26 = f510(b, l3 + 1016ull, 1058474ull, 7ull, l7);
+t26 = f508(b, l3 + 1016ull, 1058474ull, 7ull, l7);
 if (t26 & 255u) { goto L273; }
 l4 = get64(b, l3 + 1032);
 l1 = get64(b, l3 + 1024);
@@ -99561,7 +99814,7 @@ put64(b, l3 + 1024, l1);
 put64(b, l3 + 1016, l36);
 goto L302;
 L304:;
-t34 = f511(b, l3 + 1016ull, l3 + 240ull);
+t34 = f509(b, l3 + 1016ull, l3 + 240ull);
 if (t34 & 255u) { goto L5; }
 L303:;
 l1 = get64(b, l3 + 1024);
@@ -99585,9 +99838,9 @@ l4 = get64(b, l2 + 72ull) + (l1 * 120ull);
 if (!get64(b, l4)) { goto L313; }
 if (get64(b, l2 + 104ull) <= l1) { goto L313; }
 l20 = get64(b, l2 + 96ull);
-t36 = f512(b, l18, l3 + 1016ull, l74);
+t36 = f510(b, l18, l3 + 1016ull, l74);
 if (t36 & 255u) { goto L5; }
-t37 = f513(b, l3 + 1016ull, l9, l4, l20 + (l1 * 24ull));
+t37 = f511(b, l3 + 1016ull, l9, l4, l20 + (l1 * 24ull));
 if (t37 & 255u) { goto L5; }
 L313:;
 l38 = l38 + 1ull;
@@ -99601,7 +99854,7 @@ put64(b, l3 + 240, 0ull);
 put64(b, l3 + 248, 0ull);
 put64(b, l3 + 256, 0ull);
 put64(b, l3 + 264, 0ull);
-f514(b, l3 + 328ull, 0u, l9);
+f512(b, l3 + 328ull, 0u, l9);
 if (!get8(b, l3 + 328)) { goto L272; }
 goto L6;
 L273:;
@@ -99620,7 +99873,7 @@ L272:;
 l40 = get64(b, l3 + 352);
 l32 = get64(b, l3 + 344);
 l18 = get64(b, l3 + 336);
-f514(b, l3 + 240ull, 1u, l9);
+f512(b, l3 + 240ull, 1u, l9);
 if (get8(b, l3 + 240)) { goto L319; }
 l33 = get64(b, l3 + 264);
 l24 = get64(b, l3 + 256);
@@ -99645,81 +99898,81 @@ l4 = l4 + 120ull;
 l1 = l1 + 1ull;
 if (l36 != l1) { goto L321; }
 L320:;
-t38 = f515(b, l3 + 1016ull, 0u, l9, (l3 + 328ull) + 8ull);
+t38 = f513(b, l3 + 1016ull, 0u, l9, (l3 + 328ull) + 8ull);
 if (t38 & 255u) { goto L317; }
-t39 = f515(b, l3 + 1016ull, 1u, l9, (l3 + 240ull) + 8ull);
+t39 = f513(b, l3 + 1016ull, 1u, l9, (l3 + 240ull) + 8ull);
 if (t39 & 255u) { goto L317; }
 l1 = get64(b, l38 + 1144);
 if (!l1) { goto L323; }
-t40 = f516(b, l3 + 1016ull, l1, 143ull);
+t40 = f514(b, l3 + 1016ull, l1, 143ull);
 if (t40 & 255u) { goto L317; }
 L323:;
 l1 = get64(b, l38 + 1152);
 if (!l1) { goto L324; }
-t41 = f516(b, l3 + 1016ull, l1, 144ull);
+t41 = f514(b, l3 + 1016ull, l1, 144ull);
 if (t41 & 255u) { goto L317; }
 L324:;
 l1 = get64(b, l38 + 1200);
 if (!l1) { goto L325; }
-t42 = f516(b, l3 + 1016ull, l1, 150ull);
+t42 = f514(b, l3 + 1016ull, l1, 150ull);
 if (t42 & 255u) { goto L317; }
 L325:;
 l1 = get64(b, l38 + 1216);
 if (!l1) { goto L326; }
-t43 = f516(b, l3 + 1016ull, l1, 152ull);
+t43 = f514(b, l3 + 1016ull, l1, 152ull);
 if (t43 & 255u) { goto L317; }
 L326:;
 l1 = get64(b, l38 + 1232);
 if (!l1) { goto L327; }
-t44 = f516(b, l3 + 1016ull, l1, 154ull);
+t44 = f514(b, l3 + 1016ull, l1, 154ull);
 if (t44 & 255u) { goto L317; }
 L327:;
 l1 = get64(b, l38 + 1248);
 if (!l1) { goto L328; }
-t45 = f516(b, l3 + 1016ull, l1, 156ull);
+t45 = f514(b, l3 + 1016ull, l1, 156ull);
 if (t45 & 255u) { goto L317; }
 L328:;
 l1 = get64(b, l38 + 1264);
 if (!l1) { goto L329; }
-t46 = f516(b, l3 + 1016ull, l1, 158ull);
+t46 = f514(b, l3 + 1016ull, l1, 158ull);
 if (t46 & 255u) { goto L317; }
 L329:;
 l1 = get64(b, l38 + 1280);
 if (!l1) { goto L330; }
-t47 = f516(b, l3 + 1016ull, l1, 160ull);
+t47 = f514(b, l3 + 1016ull, l1, 160ull);
 if (t47 & 255u) { goto L317; }
 L330:;
 l1 = get64(b, l38 + 1296);
 if (!l1) { goto L331; }
-t48 = f516(b, l3 + 1016ull, l1, 162ull);
+t48 = f514(b, l3 + 1016ull, l1, 162ull);
 if (t48 & 255u) { goto L317; }
 L331:;
 l1 = get64(b, l38 + 1312);
 if (!l1) { goto L332; }
-t49 = f516(b, l3 + 1016ull, l1, 164ull);
+t49 = f514(b, l3 + 1016ull, l1, 164ull);
 if (t49 & 255u) { goto L317; }
 L332:;
 l1 = get64(b, l38 + 1344);
 if (!l1) { goto L333; }
-t50 = f516(b, l3 + 1016ull, l1, 168ull);
+t50 = f514(b, l3 + 1016ull, l1, 168ull);
 if (t50 & 255u) { goto L317; }
 L333:;
 l1 = get64(b, l38 + 1440);
 if (!l1) { goto L334; }
-t51 = f516(b, l3 + 1016ull, l1, 180ull);
+t51 = f514(b, l3 + 1016ull, l1, 180ull);
 if (t51 & 255u) { goto L317; }
 L334:;
 l1 = get64(b, l38 + 1472);
 if (!l1) { goto L335; }
-t52 = f516(b, l3 + 1016ull, l1, 184ull);
+t52 = f514(b, l3 + 1016ull, l1, 184ull);
 if (t52 & 255u) { goto L317; }
 L335:;
 l1 = get64(b, l38 + 3440);
 if (!l1) { goto L336; }
-t53 = f516(b, l3 + 1016ull, l1, 430ull);
+t53 = f514(b, l3 + 1016ull, l1, 430ull);
 if (t53 & 255u) { goto L317; }
 L336:;
-t54 = f517(b, l3 + 1016ull, l9, l18, l32, l24, l38);
+t54 = f515(b, l3 + 1016ull, l9, l18, l32, l24, l38);
 l68 = t54;
 rattle_dealloc(b, l38);
 if (!l33) { goto L337; }
@@ -99992,7 +100245,7 @@ put64(b, l0 + 16ull, ((u64)l73) & 255ull);
 SP = l3 + 1776ull;
 }
 
-FN void f500(B b, u64 l0, u64 l1, u32 l2) {
+FN void f498(B b, u64 l0, u64 l1, u32 l2) {
 u64 l3 = 0, l4 = 0, l5 = 0, l6 = 0;
 l3 = SP - 32ull;
 SP = l3;
@@ -100068,7 +100321,7 @@ L1:;
 SP = l3 + 32ull;
 }
 
-FN void f501(B b, u64 l0, u64 l1) {
+FN void f499(B b, u64 l0, u64 l1) {
 u32 l28 = 0, l29 = 0, t0;
 u64 l2 = 0, l3 = 0, l4 = 0, l5 = 0, l6 = 0, l7 = 0, l8 = 0, l9 = 0, l10 = 0, l11 = 0, l12 = 0, l13 = 0, l14 = 0, l15 = 0, l16 = 0, l17 = 0, l18 = 0, l19 = 0, l20 = 0, l21 = 0, l22 = 0, l23 = 0, l24 = 0, l25 = 0, l26 = 0, l27 = 0;
 l2 = SP - 480ull;
@@ -100101,7 +100354,7 @@ L8:;
 f124(b, l2 + 176ull, l1, l28);
 if (get8(b, l2 + 176)) { goto L2; }
 copy(b, l2 + 312ull, l7, 128u);
-f196(b, l2 + 16ull, l1, l28, l2 + 312ull, l8);
+f195(b, l2 + 16ull, l1, l28, l2 + 312ull, l8);
 if (get8(b, l2 + 16)) { goto L3; }
 l9 = get64(b, l2 + 168);
 l10 = get64(b, l2 + 160);
@@ -100125,7 +100378,7 @@ l26 = get64(b, l2 + 24);
 put32(b, l2 + 467, get32(b, l6 + 3));
 put32(b, l2 + 464, get32(b, l6));
 if (get64(b, l2 + 456) != l5) { goto L9; }
-t0 = f518(b, l2 + 440ull);
+t0 = f516(b, l2 + 440ull);
 if (!t0) { goto L4; }
 l4 = get64(b, l2 + 440);
 l5 = get64(b, l2 + 448);
@@ -100224,7 +100477,7 @@ L25:;
 if (!get64(b, l2 + 432)) { goto L26; }
 rattle_dealloc(b, get64(b, l2 + 416));
 L26:;
-f519(b, l2 + 440ull);
+f517(b, l2 + 440ull);
 put8(b, l0, 1u);
 put64(b, l0 + 8ull, 0ull);
 put64(b, l0 + 16ull, 0ull);
@@ -100246,14 +100499,14 @@ L30:;
 if (!get64(b, l2 + 432)) { goto L31; }
 rattle_dealloc(b, get64(b, l2 + 416));
 L31:;
-f519(b, l2 + 440ull);
+f517(b, l2 + 440ull);
 put8(b, l0, 1u);
 put64(b, l0 + 8ull, 0ull);
 put64(b, l0 + 16ull, 0ull);
 put64(b, l0 + 24ull, 0ull);
 goto L1;
 L2:;
-f519(b, l2 + 440ull);
+f517(b, l2 + 440ull);
 put8(b, l0, 1u);
 put64(b, l0 + 8ull, 0ull);
 put64(b, l0 + 16ull, 0ull);
@@ -100262,7 +100515,7 @@ L1:;
 SP = l2 + 480ull;
 }
 
-FN void f502(B b, u64 l0, u64 l1, u64 l2) {
+FN void f500(B b, u64 l0, u64 l1, u64 l2) {
 u32 l12 = 0;
 u64 l3 = 0, l4 = 0, l5 = 0, l6 = 0, l7 = 0, l8 = 0, l9 = 0, l10 = 0, l11 = 0;
 l3 = get64(b, l1 + 16ull);
@@ -100348,7 +100601,7 @@ put32(b, l0 + 12ull, l12);
 put64(b, l0 + 4ull, l9);
 }
 
-FN u32 f503(B b, u64 l0) {
+FN u32 f501(B b, u64 l0) {
 u32 l6 = 0;
 u64 l1 = 0, l2 = 0, l3 = 0, l4 = 0, l5 = 0;
 l1 = SP - 32ull;
@@ -100380,14 +100633,14 @@ SP = l1 + 32ull;
 return l6;
 }
 
-FN void f504(B b, u64 l0, u64 l1, u32 l2, u64 l3, u64 l4, u32 l5) {
+FN void f502(B b, u64 l0, u64 l1, u32 l2, u64 l3, u64 l4, u32 l5) {
 u32 l19 = 0, t0, t1, t2, t3;
 u64 l6 = 0, l7 = 0, l8 = 0, l9 = 0, l10 = 0, l11 = 0, l12 = 0, l13 = 0, l14 = 0, l15 = 0, l16 = 0, l17 = 0, l18 = 0;
 l6 = SP - 176ull;
 SP = l6;
 put64(b, l6 + 104, 0ull);
 put64(b, l6 + 96, 0ull);
-f502(b, l6 + 96ull, l3, l4);
+f500(b, l6 + 96ull, l3, l4);
 l19 = get32(b, l3);
 put64(b, l6 + 120, 0ull);
 put64(b, l6 + 128, 0ull);
@@ -100420,7 +100673,7 @@ put64(b, l6 + 72, l7);
 put64(b, l6 + 80, l8);
 put64(b, l6 + 88, l9);
 put64(b, l6 + 32, l6 + 172ull);
-t1 = f505(b, l6 + 32ull, l2, l6 + 96ull);
+t1 = f503(b, l6 + 32ull, l2, l6 + 96ull);
 if (t1 & 255u) { goto L6; }
 l10 = 0ull;
 put64(b, l6 + 136, 0ull);
@@ -100474,7 +100727,7 @@ L18:;
 if (!get64(b, l15 + 136ull)) { goto L11; }
 L12:;
 if (get64(b, l6 + 160) != l10) { goto L19; }
-t2 = f522(b, l6 + 144ull);
+t2 = f520(b, l6 + 144ull);
 if (!t2) { goto L7; }
 l13 = get64(b, l6 + 144);
 l10 = get64(b, l6 + 152);
@@ -100492,7 +100745,7 @@ put8(b, l6 + 136, l5);
 put64(b, l6 + 128, l4);
 put64(b, l6 + 120, l3);
 put64(b, l6 + 112, l1 + 16ull);
-t3 = f523(b, l6 + 32ull, l1, l6 + 112ull, l7, l10);
+t3 = f521(b, l6 + 32ull, l1, l6 + 112ull, l7, l10);
 l19 = t3 & 255u;
 if (l2) { goto L20; }
 rattle_dealloc(b, l7);
@@ -100581,7 +100834,7 @@ L1:;
 SP = l6 + 176ull;
 }
 
-FN u32 f505(B b, u64 l0, u32 l1, u64 l2) {
+FN u32 f503(B b, u64 l0, u32 l1, u64 l2) {
 u32 l8 = 0, t0, t1, t2, t3, t4;
 u64 l3 = 0, l4 = 0, l5 = 0, l6 = 0, l7 = 0;
 l3 = SP - 48ull;
@@ -100613,7 +100866,7 @@ goto L1;
 L4:;
 put32(b, l3 + 16, get32(b, l2 + 12ull));
 put64(b, l3 + 8, get64(b, l2 + 4ull));
-t1 = f511(b, l0, l3 + 8ull);
+t1 = f509(b, l0, l3 + 8ull);
 if (!(t1 & 255u)) { goto L2; }
 l1 = 1u;
 goto L1;
@@ -100699,7 +100952,7 @@ SP = l3 + 48ull;
 return l1;
 }
 
-FN u32 f506(B b, u64 l0, u64 l1) {
+FN u32 f504(B b, u64 l0, u64 l1) {
 u32 t0, t1, t2, t3, t4, t5, t6, t7;
 u64 l2 = 0, l3 = 0, l4 = 0, l5 = 0, l6 = 0, l7 = 0, l8 = 0;
 l2 = get64(b, l0 + 16ull);
@@ -100756,7 +101009,7 @@ t2 = f46(b, l0, 1053204ull, 1ull);
 if (!(t2 & 255u)) { goto L8; }
 return 1u;
 L10:;
-t3 = f397(b, l0, l2, 100ull);
+t3 = f395(b, l0, l2, 100ull);
 if (!(t3 & 255u)) { goto L8; }
 return 1u;
 L9:;
@@ -100805,7 +101058,7 @@ put64(b, l4, l1);
 put64(b, l0, l5);
 goto L14;
 L16:;
-t6 = f397(b, l0, l3, 100ull);
+t6 = f395(b, l0, l3, 100ull);
 if (!(t6 & 255u)) { goto L15; }
 return 1u;
 L15:;
@@ -100824,7 +101077,7 @@ put64(b, l0, l2);
 return 0u;
 }
 
-FN u32 f507(B b, u64 l0, u64 l1) {
+FN u32 f505(B b, u64 l0, u64 l1) {
 u32 l13 = 0, l14 = 0, t0, t1;
 u64 l2 = 0, l3 = 0, l4 = 0, l5 = 0, l6 = 0, l7 = 0, l8 = 0, l9 = 0, l10 = 0, l11 = 0, l12 = 0;
 l2 = SP - 64ull;
@@ -100906,7 +101159,7 @@ SP = l2 + 64ull;
 return l13;
 }
 
-FN u32 f508(B b, u64 l0, u64 l1, u64 l2, u64 l3) {
+FN u32 f506(B b, u64 l0, u64 l1, u64 l2, u64 l3) {
 u32 l31 = 0, l32 = 0, l33 = 0, l34 = 0, l35 = 0, l36 = 0, l37 = 0, l38 = 0, l39 = 0, l40 = 0, l41 = 0, t0, t1, t2, t3, t4, t5, t6, t7, t8, t9, t10, t11, t12, t13, t14, t15, t16, t17, t18, t19, t20, t21, t23, t24, t25, t26, t27, t28, t29, t30, t31, t32, t33, t34, t35, t36, t37, t38, t39, t40, t41, t42, t43, t44, t45, t46, t47, t48, t49, t50, t51, t52, t53, t54, t55, t56, t57, t58, t59, t60, t61, t62, t63, t64, t65, t66, t67, t68, t69, t70, t71, t72, t73, t74, t75;
 u64 l4 = 0, l5 = 0, l6 = 0, l7 = 0, l8 = 0, l9 = 0, l10 = 0, l11 = 0, l12 = 0, l13 = 0, l14 = 0, l15 = 0, l16 = 0, l17 = 0, l18 = 0, l19 = 0, l20 = 0, l21 = 0, l22 = 0, l23 = 0, l24 = 0, l25 = 0, l26 = 0, l27 = 0, l28 = 0, l29 = 0, l30 = 0, t22;
 l4 = SP - 144ull;
@@ -102281,7 +102534,7 @@ if (!(t18 & 255u)) { goto L206; }
 l36 = 1u;
 goto L1;
 L206:;
-t19 = f397(b, l0, l8 + (l17 * 24ull), 100ull);
+t19 = f395(b, l0, l8 + (l17 * 24ull), 100ull);
 if (!(t19 & 255u)) { goto L197; }
 l36 = 1u;
 goto L1;
@@ -102893,14 +103146,14 @@ L316:;
 l8 = l3 + 18446744073709551615ull;
 l3 = (get8(b, l14 + l8) == 13u) ? l8 : l3;
 L315:;
-t29 = f497(b, l0, l14, l3);
+t29 = f495(b, l0, l14, l3);
 if (!(t29 & 255u)) { goto L320; }
 l32 = 1u;
 goto L277;
 L320:;
 l3 = 64ull - l18;
 l3 = (l3 < l13) ? l3 : l13;
-t30 = f498(b, l0, l18, (l3 > 1ull) ? l3 : 1ull);
+t30 = f496(b, l0, l18, (l3 > 1ull) ? l3 : 1ull);
 l32 = t30 & 255u;
 L277:;
 if (l40 != 1u) { goto L208; }
@@ -103366,9 +103619,9 @@ l36 = 1u;
 goto L1;
 L381:;
 l36 = 1u;
-t39 = f507(b, l0, l15);
+t39 = f505(b, l0, l15);
 if (t39 & 255u) { goto L1; }
-t40 = f393(b, l0, l3, l15);
+t40 = f391(b, l0, l3, l15);
 if (t40 & 255u) { goto L1; }
 l8 = get64(b, l0 + 16ull);
 l3 = get64(b, l0 + 8ull);
@@ -103503,7 +103756,7 @@ l36 = 1u;
 goto L1;
 L401:;
 l36 = 1u;
-t48 = f507(b, l0, l8);
+t48 = f505(b, l0, l8);
 if (t48 & 255u) { goto L1; }
 l8 = get64(b, l0 + 16ull);
 l3 = get64(b, l0 + 8ull);
@@ -103756,9 +104009,9 @@ put64(b, l0, l8);
 goto L342;
 L343:;
 l36 = 1u;
-t61 = f507(b, l0, l15);
+t61 = f505(b, l0, l15);
 if (t61 & 255u) { goto L1; }
-t62 = f393(b, l0, l3, l15);
+t62 = f391(b, l0, l3, l15);
 if (t62 & 255u) { goto L1; }
 if ((get64(b, l0 + 16ull) - get64(b, l0 + 8ull)) < 5ull) { goto L444; }
 t63 = f54(b, l0, 1058649ull, 5ull);
@@ -103768,7 +104021,7 @@ L444:;
 t64 = f46(b, l0, 1058649ull, 5ull);
 if (t64 & 255u) { goto L1; }
 L443:;
-t65 = f507(b, l0, get64(b, l18 + 72ull));
+t65 = f505(b, l0, get64(b, l18 + 72ull));
 if (t65 & 255u) { goto L1; }
 if (get64(b, l0 + 16ull) != get64(b, l0 + 8ull)) { goto L445; }
 t66 = f46(b, l0, 1048715ull, 1ull);
@@ -103903,25 +104156,25 @@ put64(b, l4 + 80, l5);
 put64(b, l4 + 88, get64(b, l4 + 63));
 put64(b, l4 + 96, get64(b, l4 + 71));
 l36 = 1u;
-t73 = f545(b, l0, l1, 1059597ull, 5ull, l4 + 80ull);
+t73 = f543(b, l0, l1, 1059597ull, 5ull, l4 + 80ull);
 if (t73 & 255u) { goto L1; }
 l3 = (l4 + 80ull) + 8ull;
 put64(b, l3, get64(b, l4 + 39));
 put64(b, l3 + 8, get64(b, l4 + 47));
 put64(b, l4 + 80, l6);
-t74 = f545(b, l0, l1, 1061964ull, 4ull, l4 + 80ull);
+t74 = f543(b, l0, l1, 1061964ull, 4ull, l4 + 80ull);
 if (t74 & 255u) { goto L1; }
 put64(b, l3, get64(b, l4 + 15));
 put64(b, l3 + 8, get64(b, l4 + 23));
 put64(b, l4 + 80, l7);
-t75 = f545(b, l0, l1, 1061968ull, 4ull, l4 + 80ull);
+t75 = f543(b, l0, l1, 1061968ull, 4ull, l4 + 80ull);
 l36 = t75 & 255u;
 L1:;
 SP = l4 + 144ull;
 return l36;
 }
 
-FN u32 f509(B b, u64 l0, u64 l1, u64 l2) {
+FN u32 f507(B b, u64 l0, u64 l1, u64 l2) {
 u32 l17 = 0, l18 = 0, l19 = 0, t0, t1, t2, t3, t4, t5, t6, t7, t8, t9, t10, t11, t12, t13, t14;
 u64 l3 = 0, l4 = 0, l5 = 0, l6 = 0, l7 = 0, l8 = 0, l9 = 0, l10 = 0, l11 = 0, l12 = 0, l13 = 0, l14 = 0, l15 = 0, l16 = 0;
 l3 = SP - 48ull;
@@ -104220,7 +104473,7 @@ l17 = 1u;
 goto L2;
 L46:;
 l17 = 1u;
-t8 = f394(b, l0, get64(b, l10));
+t8 = f392(b, l0, get64(b, l10));
 if (t8 & 255u) { goto L2; }
 l6 = l15 + (l11 * 24ull);
 if (get64(b, l10) != 510ull) { goto L49; }
@@ -104259,9 +104512,9 @@ L52:;
 t9 = f46(b, l0, 1061256ull, 8ull);
 if (t9 & 255u) { goto L2; }
 L51:;
-t10 = f507(b, l0, l2);
+t10 = f505(b, l0, l2);
 if (t10 & 255u) { goto L2; }
-t11 = f393(b, l0, l12, l2);
+t11 = f391(b, l0, l12, l2);
 if (t11 & 255u) { goto L2; }
 L49:;
 l4 = l0 + 16ull;
@@ -104279,9 +104532,9 @@ L56:;
 t12 = f46(b, l0, 1048715ull, 1ull);
 if (t12 & 255u) { goto L2; }
 L55:;
-t13 = f512(b, l14, l0, l19);
+t13 = f510(b, l14, l0, l19);
 if (t13 & 255u) { goto L2; }
-t14 = f513(b, l0, l12, l10, l6);
+t14 = f511(b, l0, l12, l10, l6);
 if (t14 & 255u) { goto L2; }
 L35:;
 l5 = l5 + 1ull;
@@ -104296,7 +104549,7 @@ SP = l3 + 48ull;
 return l17;
 }
 
-FN u32 f510(B b, u64 l0, u64 l1, u64 l2, u64 l3) {
+FN u32 f508(B b, u64 l0, u64 l1, u64 l2, u64 l3) {
 u32 l10 = 0, l11 = 0, t0, t1, t2, t3;
 u64 l4 = 0, l5 = 0, l6 = 0, l7 = 0, l8 = 0, l9 = 0;
 l4 = SP - 32ull;
@@ -104419,7 +104672,7 @@ SP = l4 + 32ull;
 return l10;
 }
 
-FN u32 f511(B b, u64 l0, u64 l1) {
+FN u32 f509(B b, u64 l0, u64 l1) {
 u32 l13 = 0, l14 = 0, l15 = 0, t0, t1, t2, t3, t4, t5, t6;
 u64 l2 = 0, l3 = 0, l4 = 0, l5 = 0, l6 = 0, l7 = 0, l8 = 0, l9 = 0, l10 = 0, l11 = 0, l12 = 0;
 l2 = SP - 32ull;
@@ -104642,7 +104895,7 @@ SP = l2 + 32ull;
 return l14;
 }
 
-FN u32 f512(B b, u64 l0, u64 l1, u32 l2) {
+FN u32 f510(B b, u64 l0, u64 l1, u32 l2) {
 u32 l11 = 0, l12 = 0, t0, t1, t2, t3, t4, t5, t6, t7, t8;
 u64 l3 = 0, l4 = 0, l5 = 0, l6 = 0, l7 = 0, l8 = 0, l9 = 0, l10 = 0;
 l3 = SP - 32ull;
@@ -104912,12 +105165,12 @@ SP = l3 + 32ull;
 return l11;
 }
 
-FN u32 f513(B b, u64 l0, u64 l1, u64 l2, u64 l3) {
+FN u32 f511(B b, u64 l0, u64 l1, u64 l2, u64 l3) {
 u32 l16 = 0, l17 = 0, t0, t1, t2, t3, t4, t5, t6, t7, t8, t9, t10, t11, t12, t13, t14, t15, t16, t17, t18, t19, t20, t21;
 u64 l4 = 0, l5 = 0, l6 = 0, l7 = 0, l8 = 0, l9 = 0, l10 = 0, l11 = 0, l12 = 0, l13 = 0, l14 = 0, l15 = 0;
 l4 = SP - 144ull;
 SP = l4;
-t0 = f520(b, l0, 1058528ull, 5ull, get64(b, l2 + 24ull));
+t0 = f518(b, l0, 1058528ull, 5ull, get64(b, l2 + 24ull));
 if (!(t0 & 255u)) { goto L2; }
 l16 = 1u;
 goto L1;
@@ -104947,7 +105200,7 @@ if (!(t1 & 255u)) { goto L4; }
 l16 = 1u;
 goto L1;
 L4:;
-t2 = f507(b, l0, l5);
+t2 = f505(b, l0, l5);
 if (!(t2 & 255u)) { goto L8; }
 l16 = 1u;
 goto L1;
@@ -105049,7 +105302,7 @@ l8 = get64(b, l5);
 l17 = 1u;
 L22:;
 l16 = 1u;
-t5 = f521(b, l0, l17, l8);
+t5 = f519(b, l0, l17, l8);
 if (t5 & 255u) { goto L1; }
 if (get64(b, l5 + 8ull) >= 2ull) { goto L25; }
 l17 = 0u;
@@ -105059,7 +105312,7 @@ L25:;
 l8 = get64(b, l5) + 24ull;
 l17 = 1u;
 L24:;
-t6 = f521(b, l0, l17, l8);
+t6 = f519(b, l0, l17, l8);
 if (t6 & 255u) { goto L1; }
 if (get64(b, l5 + 8ull) >= 3ull) { goto L27; }
 l17 = 0u;
@@ -105069,7 +105322,7 @@ L27:;
 l8 = get64(b, l5) + 48ull;
 l17 = 1u;
 L26:;
-t7 = f521(b, l0, l17, l8);
+t7 = f519(b, l0, l17, l8);
 if (t7 & 255u) { goto L1; }
 if (get64(b, l5 + 8ull) < 4ull) { goto L9; }
 l5 = get64(b, l5);
@@ -105098,7 +105351,7 @@ l8 = get64(b, l5 + 88ull);
 l5 = get64(b, l8);
 l8 = get64(b, l8 + 8ull);
 L30:;
-t9 = f398(b, l0, l5, l8);
+t9 = f396(b, l0, l5, l8);
 if (t9 & 255u) { goto L1; }
 L9:;
 l8 = l0 + 16ull;
@@ -105118,7 +105371,7 @@ if (!(t10 & 255u)) { goto L3; }
 l16 = 1u;
 goto L1;
 L3:;
-t11 = f520(b, l0, 1058533ull, 6ull, get64(b, l2 + 40ull));
+t11 = f518(b, l0, 1058533ull, 6ull, get64(b, l2 + 40ull));
 if (!(t11 & 255u)) { goto L33; }
 l16 = 1u;
 goto L1;
@@ -105223,7 +105476,7 @@ if (!(t14 & 255u)) { goto L43; }
 l16 = 1u;
 goto L1;
 L43:;
-t15 = f520(b, l0, 1058593ull, 9ull, get64(b, l2 + 80ull));
+t15 = f518(b, l0, 1058593ull, 9ull, get64(b, l2 + 80ull));
 if (!(t15 & 255u)) { goto L41; }
 L42:;
 l16 = 1u;
@@ -105357,7 +105610,7 @@ l6 = get64(b, l5 + 40ull);
 l5 = get64(b, l6);
 l6 = get64(b, l6 + 8ull);
 L78:;
-t19 = f398(b, l0, l5, l6);
+t19 = f396(b, l0, l5, l6);
 if (t19 & 255u) { goto L70; }
 l6 = l0 + 16ull;
 l9 = get64(b, l6);
@@ -105378,7 +105631,7 @@ l8 = l8 + 8ull;
 l2 = l2 + 18446744073709551615ull;
 if (l2 != 0ull) { goto L72; }
 L71:;
-t21 = f385(b, l0, 1058591ull, 2ull, l10 - l12);
+t21 = f383(b, l0, 1058591ull, 2ull, l10 - l12);
 l16 = t21 & 255u;
 if (!(u32)(!l11)) { goto L69; }
 goto L68;
@@ -105417,7 +105670,7 @@ SP = l4 + 144ull;
 return l16;
 }
 
-FN void f514(B b, u64 l0, u32 l1, u64 l2) {
+FN void f512(B b, u64 l0, u32 l1, u64 l2) {
 u32 l18 = 0, t0;
 u64 l3 = 0, l4 = 0, l5 = 0, l6 = 0, l7 = 0, l8 = 0, l9 = 0, l10 = 0, l11 = 0, l12 = 0, l13 = 0, l14 = 0, l15 = 0, l16 = 0, l17 = 0;
 l3 = SP - 112ull;
@@ -105628,7 +105881,7 @@ L1:;
 SP = l3 + 112ull;
 }
 
-FN u32 f515(B b, u64 l0, u32 l1, u64 l2, u64 l3) {
+FN u32 f513(B b, u64 l0, u32 l1, u64 l2, u64 l3) {
 u32 l17 = 0, l18 = 0, t0, t1, t2, t3, t4, t5, t6, t7, t8, t9, t10, t11, t12, t13, t14, t15, t16, t17, t18;
 u64 l4 = 0, l5 = 0, l6 = 0, l7 = 0, l8 = 0, l9 = 0, l10 = 0, l11 = 0, l12 = 0, l13 = 0, l14 = 0, l15 = 0, l16 = 0;
 l4 = SP - 32ull;
@@ -105639,7 +105892,7 @@ l17 = 0u;
 goto L1;
 L2:;
 l17 = 1u;
-t0 = f516(b, l0, l5, (l1 & 1u) ? 510ull : 514ull);
+t0 = f514(b, l0, l5, (l1 & 1u) ? 510ull : 514ull);
 if (t0 & 255u) { goto L1; }
 l6 = get64(b, l3 + 8ull);
 l7 = (l6 < 20ull) ? l6 : 20ull;
@@ -105769,7 +106022,7 @@ l5 = get64(b, l2 + 56ull) + (l5 * 120ull);
 if (!get64(b, l5)) { goto L23; }
 l3 = get64(b, l5 + 72ull);
 L23:;
-t5 = f507(b, l0, l3);
+t5 = f505(b, l0, l3);
 if (t5 & 255u) { goto L1; }
 l5 = get64(b, l0 + 16ull);
 l3 = get64(b, l0 + 8ull);
@@ -106082,14 +106335,14 @@ L66:;
 l9 = l9 + 1ull;
 if (l9 != l7) { goto L52; }
 L3:;
-t18 = f385(b, l0, 1058591ull, 2ull, l6 - l7);
+t18 = f383(b, l0, 1058591ull, 2ull, l6 - l7);
 l17 = t18 & 255u;
 L1:;
 SP = l4 + 32ull;
 return l17;
 }
 
-FN u32 f516(B b, u64 l0, u64 l1, u64 l2) {
+FN u32 f514(B b, u64 l0, u64 l1, u64 l2) {
 u32 l8 = 0, l9 = 0, t0, t1, t2, t3, t4;
 u64 l3 = 0, l4 = 0, l5 = 0, l6 = 0, l7 = 0;
 l3 = SP - 32ull;
@@ -106176,7 +106429,7 @@ if (!(t2 & 255u)) { goto L12; }
 l8 = 1u;
 goto L1;
 L12:;
-t3 = f394(b, l0, l2);
+t3 = f392(b, l0, l2);
 if (!(t3 & 255u)) { goto L15; }
 l8 = 1u;
 goto L1;
@@ -106201,7 +106454,7 @@ SP = l3 + 32ull;
 return l8;
 }
 
-FN u32 f517(B b, u64 l0, u64 l1, u64 l2, u64 l3, u64 l4, u64 l5) {
+FN u32 f515(B b, u64 l0, u64 l1, u64 l2, u64 l3, u64 l4, u64 l5) {
 u32 l6 = 0, t0, t1, t2, t3;
 u64 l7 = 0, l8 = 0, l9 = 0;
 if (!l3) { goto L1; }
@@ -106352,7 +106605,7 @@ L22:;
 return 0u;
 }
 
-FN u32 f518(B b, u64 l0) {
+FN u32 f516(B b, u64 l0) {
 u32 l6 = 0;
 u64 l1 = 0, l2 = 0, l3 = 0, l4 = 0, l5 = 0;
 l1 = SP - 32ull;
@@ -106384,7 +106637,7 @@ SP = l1 + 32ull;
 return l6;
 }
 
-FN void f519(B b, u64 l0) {
+FN void f517(B b, u64 l0) {
 u32 l14 = 0;
 u64 l1 = 0, l2 = 0, l3 = 0, l4 = 0, l5 = 0, l6 = 0, l7 = 0, l8 = 0, l9 = 0, l10 = 0, l11 = 0, l12 = 0, l13 = 0;
 l1 = get64(b, l0 + 16);
@@ -106432,7 +106685,7 @@ rattle_dealloc(b, l2);
 L9:;
 }
 
-FN u32 f520(B b, u64 l0, u64 l1, u64 l2, u64 l3) {
+FN u32 f518(B b, u64 l0, u64 l1, u64 l2, u64 l3) {
 u32 t0, t1, t2, t3, t4;
 u64 l4 = 0, l5 = 0, l6 = 0, l7 = 0, l8 = 0, l9 = 0, l10 = 0, l11 = 0;
 if (!(u32)(!l3)) { goto L1; }
@@ -106500,7 +106753,7 @@ t1 = f46(b, l0, l1, l2);
 if (!(t1 & 255u)) { goto L5; }
 return 1u;
 L5:;
-t2 = f507(b, l0, l3);
+t2 = f505(b, l0, l3);
 if (!(t2 & 255u)) { goto L11; }
 return 1u;
 L11:;
@@ -106512,7 +106765,7 @@ t4 = f54(b, l0, 1048715ull, 1ull);
 return t4 & 255u;
 }
 
-FN u32 f521(B b, u64 l0, u32 l1, u64 l2) {
+FN u32 f519(B b, u64 l0, u32 l1, u64 l2) {
 u32 l8 = 0, t0, t1, t2, t3;
 u64 l3 = 0, l4 = 0, l5 = 0, l6 = 0, l7 = 0;
 if (!(l1 & 1u)) { goto L3; }
@@ -106554,7 +106807,7 @@ t1 = f46(b, l0, 1048972ull, 1ull);
 if (t1 & 255u) { goto L1; }
 L7:;
 if (!(l1 & 255u)) { goto L9; }
-t2 = f397(b, l0, l2, 100ull);
+t2 = f395(b, l0, l2, 100ull);
 return t2 & 255u;
 L9:;
 l2 = l0 + 16ull;
@@ -106576,7 +106829,7 @@ L1:;
 return l8;
 }
 
-FN u32 f522(B b, u64 l0) {
+FN u32 f520(B b, u64 l0) {
 u32 l6 = 0;
 u64 l1 = 0, l2 = 0, l3 = 0, l4 = 0, l5 = 0;
 l1 = SP - 32ull;
@@ -106608,7 +106861,7 @@ SP = l1 + 32ull;
 return l6;
 }
 
-FN u32 f523(B b, u64 l0, u64 l1, u64 l2, u64 l3, u64 l4) {
+FN u32 f521(B b, u64 l0, u64 l1, u64 l2, u64 l3, u64 l4) {
 u32 l45 = 0, l46 = 0, l47 = 0, l48 = 0, l49 = 0, l50 = 0, l51 = 0, l52 = 0, l53 = 0, l54 = 0, t0, t1, t2, t3, t4, t5, t6, t7, t8, t9, t10, t11, t12, t13, t14, t15, t16, t17, t18, t19, t20, t21, t22, t23, t24, t25, t26, t27, t28, t30, t31, t32, t33, t34, t35, t36, t37, t38, t39, t40, t41, t42, t43, t44, t45, t46, t47, t48, t49, t50, t51, t52, t53, t54;
 u64 l5 = 0, l6 = 0, l7 = 0, l8 = 0, l9 = 0, l10 = 0, l11 = 0, l12 = 0, l13 = 0, l14 = 0, l15 = 0, l16 = 0, l17 = 0, l18 = 0, l19 = 0, l20 = 0, l21 = 0, l22 = 0, l23 = 0, l24 = 0, l25 = 0, l26 = 0, l27 = 0, l28 = 0, l29 = 0, l30 = 0, l31 = 0, l32 = 0, l33 = 0, l34 = 0, l35 = 0, l36 = 0, l37 = 0, l38 = 0, l39 = 0, l40 = 0, l41 = 0, l42 = 0, l43 = 0, l44 = 0, t29;
 l5 = SP - 1088ull;
@@ -106676,7 +106929,7 @@ l8 = get64(b, get64(b, l11 + 56ull) + (l9 << 3));
 L15:;
 put64(b, l5 + 624, 0ull);
 l45 = (u32)(l10 > l9);
-t0 = f395(b, l5 + 616ull, l13, l45 ? ((u32)l8) : 0u, l45 ? ((u32)(l8 >> 32)) : 0u);
+t0 = f393(b, l5 + 616ull, l13, l45 ? ((u32)l8) : 0u, l45 ? ((u32)(l8 >> 32)) : 0u);
 if (t0 & 255u) { goto L13; }
 l6 = get64(b, l5 + 616);
 l15 = get64(b, l5 + 624);
@@ -106726,7 +106979,7 @@ l8 = get64(b, l5 + 176);
 put64(b, l8 + 16, l15);
 put64(b, l8 + 8, l15);
 put64(b, l8, l12);
-t1 = f524(b, l5 + 760ull, (u32)l9, 1u, l8);
+t1 = f522(b, l5 + 760ull, (u32)l9, 1u, l8);
 if (t1 & 255u) { goto L12; }
 l9 = l9 + 1ull;
 if (l9 == l14) { goto L9; }
@@ -106850,7 +107103,7 @@ put64(b, l20 + 8, 0ull);
 put64(b, l20, 0ull);
 put64(b, l5 + 624, 0ull);
 put64(b, l5 + 760, l5 + 1080ull);
-t2 = f392(b, l5 + 616ull, l5 + 760ull, l13, l47);
+t2 = f390(b, l5 + 616ull, l5 + 760ull, l13, l47);
 if (t2 & 255u) { goto L42; }
 l16 = get64(b, l5 + 616);
 l25 = get64(b, l5 + 624);
@@ -106915,7 +107168,7 @@ if (!get64(b, l5 + 776)) { goto L54; }
 rattle_dealloc(b, get64(b, l5 + 760));
 L54:;
 if (!l45) { goto L41; }
-t3 = f524(b, l5 + 952ull, l47, l45, l8);
+t3 = f522(b, l5 + 952ull, l47, l45, l8);
 if (t3 & 255u) { goto L55; }
 l24 = l24 + 1ull;
 if (l24 == l23) { goto L40; }
@@ -106981,7 +107234,7 @@ put64(b, l5 + 272, get64(b, l5 + 208));
 l48 = get8(b, l2 + 24ull);
 l17 = get64(b, l10 + 16ull);
 l46 = 1u;
-t4 = f506(b, l0, l12);
+t4 = f504(b, l0, l12);
 if (t4 & 255u) { goto L59; }
 l10 = get64(b, l0 + 16ull);
 l26 = l0 + 8ull;
@@ -107064,7 +107317,7 @@ L71:;
 t7 = f46(b, l0, l10, l8);
 if (t7 & 255u) { goto L59; }
 L70:;
-t8 = f510(b, l0, 1058474ull, 7ull, l4);
+t8 = f508(b, l0, 1058474ull, 7ull, l4);
 if (t8 & 255u) { goto L59; }
 l10 = l0 + 16ull;
 l17 = get64(b, l10);
@@ -107196,20 +107449,20 @@ goto L78;
 L89:;
 l45 = 0u;
 l8 = l25 + (l6 << 5);
-t13 = f510(b, l0, 1054606ull, 6ull, (u64)get32(b, l8));
+t13 = f508(b, l0, 1054606ull, 6ull, (u64)get32(b, l8));
 if (t13 & 255u) { goto L78; }
-t14 = f510(b, l0, 1054612ull, 4ull, (u64)get8(b, l8 + 4ull));
+t14 = f508(b, l0, 1054612ull, 4ull, (u64)get8(b, l8 + 4ull));
 if (t14 & 255u) { goto L78; }
-t15 = f510(b, l0, 1054616ull, 5ull, get64(b, l8 + 16ull));
+t15 = f508(b, l0, 1054616ull, 5ull, get64(b, l8 + 16ull));
 if (t15 & 255u) { goto L78; }
-t16 = f510(b, l0, 1054630ull, 5ull, l21);
+t16 = f508(b, l0, 1054630ull, 5ull, l21);
 if (t16 & 255u) { goto L78; }
-t17 = f510(b, l0, 1054635ull, 8ull, l27);
+t17 = f508(b, l0, 1054635ull, 8ull, l27);
 if (t17 & 255u) { goto L78; }
 l25 = l19 + (l6 * 152ull);
-t18 = f510(b, l0, 1049288ull, 4ull, get64(b, l25 + 8ull));
+t18 = f508(b, l0, 1049288ull, 4ull, get64(b, l25 + 8ull));
 if (t18 & 255u) { goto L78; }
-t19 = f510(b, l0, 1049292ull, 4ull, get64(b, l25 + 32ull));
+t19 = f508(b, l0, 1049292ull, 4ull, get64(b, l25 + 32ull));
 if (t19 & 255u) { goto L78; }
 l8 = get64(b, l25 + 56ull);
 if (!(u32)(!l8)) { goto L93; }
@@ -107239,7 +107492,7 @@ l8 = l8 + 4ull;
 l17 = l17 + 18446744073709551615ull;
 if (l17 != 0ull) { goto L96; }
 L92:;
-t20 = f510(b, l0, 1049296ull, 5ull, l10);
+t20 = f508(b, l0, 1049296ull, 5ull, l10);
 if (t20 & 255u) { goto L78; }
 l47 = get8(b, l25 + 72ull);
 l10 = get64(b, l0 + 16ull);
@@ -107354,7 +107607,7 @@ L102:;
 t25 = f46(b, l0, 1053204ull, 1ull);
 if (t25 & 255u) { goto L78; }
 L101:;
-t26 = f510(b, l0, 1049305ull, 5ull, get64(b, l25 + 136ull));
+t26 = f508(b, l0, 1049305ull, 5ull, get64(b, l25 + 136ull));
 if (t26 & 255u) { goto L78; }
 l10 = l0 + 16ull;
 l17 = get64(b, l10);
@@ -107393,7 +107646,7 @@ l12 = l12 + 1ull;
 if (l12 != l9) { goto L76; }
 L75:;
 l16 = 0ull;
-t28 = f385(b, l0, 1049504ull, 0ull, l4 - l9);
+t28 = f383(b, l0, 1049504ull, 0ull, l4 - l9);
 if (t28 & 255u) { goto L59; }
 put64(b, l5 + 920, 0ull);
 put64(b, l5 + 912, 0ull);
@@ -107835,7 +108088,7 @@ l12 = 0ull;
 l47 = 0u;
 goto L155;
 L156:;
-f525(b, l5 + 504ull);
+f523(b, l5 + 504ull);
 goto L126;
 L155:;
 put64(b, l5 + 567, get64(b, l32 + 7));
@@ -107879,7 +108132,7 @@ L196:;
 if (!l10) { goto L199; }
 rattle_dealloc(b, l21);
 L199:;
-f525(b, l5 + 504ull);
+f523(b, l5 + 504ull);
 goto L126;
 L193:;
 l8 = l38 + (l39 * 104ull);
@@ -107961,7 +108214,7 @@ L149:;
 put64(b, l5 + 632, get64(b, l5 + 355));
 put64(b, l5 + 624, get64(b, l5 + 347));
 put64(b, l5 + 616, get64(b, l5 + 339));
-f525(b, l5 + 616ull);
+f523(b, l5 + 616ull);
 l7 = get64(b, l5 + 384);
 l17 = get64(b, l5 + 368);
 l10 = get64(b, l5 + 376);
@@ -107972,7 +108225,7 @@ put64(b, l5 + 632, get64(b, l8 + 16));
 put64(b, l5 + 624, get64(b, l8 + 8));
 put64(b, l5 + 616, get64(b, l8));
 l8 = l8 + 32ull;
-f525(b, l5 + 616ull);
+f523(b, l5 + 616ull);
 l10 = l10 + 18446744073709551615ull;
 if (l10 != 0ull) { goto L202; }
 L201:;
@@ -108022,7 +108275,7 @@ put64(b, l5 + 632, get64(b, l8 + 16));
 put64(b, l5 + 624, get64(b, l8 + 8));
 put64(b, l5 + 616, get64(b, l8));
 l8 = l8 + 32ull;
-f525(b, l5 + 616ull);
+f523(b, l5 + 616ull);
 l10 = l10 + 18446744073709551615ull;
 if (l10 != 0ull) { goto L206; }
 L205:;
@@ -108074,7 +108327,7 @@ put64(b, l5 + 776, l10);
 put64(b, l5 + 832, l11);
 put64(b, l5 + 824, l7);
 put64(b, l5 + 816, l17);
-f373(b, l5 + 32ull, l5 + 760ull);
+f371(b, l5 + 32ull, l5 + 760ull);
 l47 = get8(b, l5 + 33);
 l45 = get8(b, l5 + 32);
 if (!l10) { goto L209; }
@@ -108084,7 +108337,7 @@ put64(b, l5 + 632, get64(b, l8 + 16));
 put64(b, l5 + 624, get64(b, l8 + 8));
 put64(b, l5 + 616, get64(b, l8));
 l8 = l8 + 32ull;
-f525(b, l5 + 616ull);
+f523(b, l5 + 616ull);
 l10 = l10 + 18446744073709551615ull;
 if (l10 != 0ull) { goto L210; }
 L209:;
@@ -108108,7 +108361,7 @@ put8(b, l5 + 920, get8(b, l2 + 24ull));
 put64(b, l5 + 912, l5 + 216ull);
 fill(b, l5 + 760ull, 0u, 104u);
 if (l9 == 0ull) { goto L128; }
-f195(b, l5 + 760ull, l8, l13);
+f194(b, l5 + 760ull, l8, l13);
 if (get8(b, l5 + 760)) { goto L59; }
 copy(b, l5 + 952ull, l5 + 768ull, 96u);
 fill(b, l5 + 616ull, 0u, 136u);
@@ -108133,7 +108386,7 @@ put64(b, l5 + 632, get64(b, l8 + 16));
 put64(b, l5 + 624, get64(b, l8 + 8));
 put64(b, l5 + 616, get64(b, l8));
 l8 = l8 + 32ull;
-f525(b, l5 + 616ull);
+f523(b, l5 + 616ull);
 l10 = l10 + 18446744073709551615ull;
 if (l10 != 0ull) { goto L216; }
 L215:;
@@ -108342,7 +108595,7 @@ put64(b, l5 + 640, 0ull);
 put64(b, l5 + 632, 0ull);
 put64(b, l5 + 624, 0ull);
 put64(b, l5 + 616, 0ull);
-f198(b, l5 + 616ull, l17, l5 + 952ull, l45, l10);
+f197(b, l5 + 616ull, l17, l5 + 952ull, l45, l10);
 if (get8(b, l5 + 616)) { goto L247; }
 l36 = get64(b, l5 + 640);
 l27 = get64(b, l5 + 624);
@@ -108350,7 +108603,7 @@ l28 = get64(b, l5 + 632);
 if (l28 != 0ull) { goto L249; }
 L250:;
 l45 = 1u;
-t43 = f379(b, l0, 1060033ull, 16ull, l8 + 1ull);
+t43 = f377(b, l0, 1060033ull, 16ull, l8 + 1ull);
 if (t43 & 255u) { goto L248; }
 l7 = get64(b, l0 + 16ull);
 l17 = l0 + 8ull;
@@ -108404,7 +108657,7 @@ l10 = l27;
 L260:;
 if (l7 == l8) { goto L259; }
 l17 = l8 + 1ull;
-t46 = f375(b, l0, l29, l5 + 896ull, l17, (u32)(!l8), l10);
+t46 = f373(b, l0, l29, l5 + 896ull, l17, (u32)(!l8), l10);
 l45 = t46;
 l10 = l10 + 160ull;
 l8 = l17;
@@ -108414,7 +108667,7 @@ goto L258;
 L259:;
 l45 = 0u;
 if (l28 <= l12) { goto L258; }
-t47 = f379(b, l0, 1060159ull, 9ull, l28 - l7);
+t47 = f377(b, l0, 1060159ull, 9ull, l28 - l7);
 if (!(t47 & 255u)) { goto L261; }
 l45 = 1u;
 goto L258;
@@ -108597,7 +108850,7 @@ L293:;
 put64(b, l5 + 984, 0ull);
 put64(b, l5 + 960, 0ull);
 l13 = l25 + (l4 * 104ull);
-t49 = f436(b, l14, l13, l5 + 952ull);
+t49 = f434(b, l14, l13, l5 + 952ull);
 if (t49 & 255u) { goto L289; }
 l10 = get64(b, l5 + 976);
 l15 = get64(b, l5 + 984);
@@ -108752,7 +109005,7 @@ l47 = get32(b, l13);
 L323:;
 l45 = get32(b, l10);
 if (get64(b, l5 + 440) != l17) { goto L324; }
-t50 = f526(b, l5 + 424ull);
+t50 = f524(b, l5 + 424ull);
 if (!t50) { goto L289; }
 l16 = get64(b, l5 + 424);
 l17 = get64(b, l5 + 432);
@@ -108810,7 +109063,7 @@ l7 = l17;
 L328:;
 l45 = get32(b, l10);
 if (get64(b, l5 + 968) != l8) { goto L329; }
-t51 = f527(b, l5 + 952ull, 1ull);
+t51 = f525(b, l5 + 952ull, 1ull);
 if (!t51) { goto L286; }
 l12 = get64(b, l5 + 952);
 l8 = get64(b, l5 + 960);
@@ -108831,7 +109084,7 @@ put64(b, l5 + 903, l7);
 put64(b, l5 + 304, l7);
 put64(b, l5 + 312, l10);
 put64(b, l5 + 320, l8);
-f390(b, l5 + 760ull, l5 + 304ull, 0u, l22);
+f388(b, l5 + 760ull, l5 + 304ull, 0u, l22);
 if (!get8(b, l5 + 760)) { goto L284; }
 if (!l6) { goto L59; }
 rattle_dealloc(b, l16);
@@ -108907,7 +109160,7 @@ l17 = get64(b, l0 + 48ull);
 L338:;
 put32(b, get64(b, l0 + 40ull) + (l17 << 2), l47);
 put64(b, l16, l17 + 1ull);
-t53 = f528(b, l0, l5 + 896ull, l7 + (l10 * 152ull));
+t53 = f526(b, l0, l5 + 896ull, l7 + (l10 * 152ull));
 l45 = (t53 & 255u) ^ 1u;
 L337:;
 l10 = get64(b, l5 + 1072);
@@ -108967,7 +109220,7 @@ rattle_dealloc(b, l12);
 L348:;
 if (!l45) { goto L59; }
 L128:;
-t54 = f509(b, l0, l1, l29);
+t54 = f507(b, l0, l1, l29);
 l46 = t54 & 255u;
 goto L59;
 L127:;
@@ -108983,7 +109236,7 @@ put64(b, l5 + 632, get64(b, l8 + 16));
 put64(b, l5 + 624, get64(b, l8 + 8));
 put64(b, l5 + 616, get64(b, l8));
 l8 = l8 + 32ull;
-f525(b, l5 + 616ull);
+f523(b, l5 + 616ull);
 l10 = l10 + 18446744073709551615ull;
 if (l10 != 0ull) { goto L350; }
 L349:;
@@ -109080,7 +109333,7 @@ SP = l5 + 1088ull;
 return l46;
 }
 
-FN u32 f524(B b, u64 l0, u32 l1, u32 l2, u64 l3) {
+FN u32 f522(B b, u64 l0, u32 l1, u32 l2, u64 l3) {
 u32 l7 = 0, t0;
 u64 l4 = 0, l5 = 0, l6 = 0;
 l4 = get64(b, l0 + 8ull);
@@ -109088,7 +109341,7 @@ l5 = (u64)l1;
 if (l4 > l5) { goto L3; }
 L4:;
 if (get64(b, l0 + 16ull) != l4) { goto L5; }
-t0 = f529(b, l0);
+t0 = f527(b, l0);
 if (!t0) { goto L2; }
 l4 = get64(b, l0 + 8ull);
 L5:;
@@ -109125,7 +109378,7 @@ L1:;
 return l7;
 }
 
-FN void f525(B b, u64 l0) {
+FN void f523(B b, u64 l0) {
 u64 l1 = 0, l2 = 0, l3 = 0, l4 = 0, l5 = 0, l6 = 0, l7 = 0;
 l1 = get64(b, l0 + 16);
 l2 = get64(b, l0);
@@ -109164,7 +109417,7 @@ rattle_dealloc(b, l2);
 L8:;
 }
 
-FN u32 f526(B b, u64 l0) {
+FN u32 f524(B b, u64 l0) {
 u32 l6 = 0;
 u64 l1 = 0, l2 = 0, l3 = 0, l4 = 0, l5 = 0;
 l1 = SP - 32ull;
@@ -109196,7 +109449,7 @@ SP = l1 + 32ull;
 return l6;
 }
 
-FN u32 f527(B b, u64 l0, u64 l1) {
+FN u32 f525(B b, u64 l0, u64 l1) {
 u32 l6 = 0;
 u64 l2 = 0, l3 = 0, l4 = 0, l5 = 0;
 l2 = SP - 32ull;
@@ -109229,7 +109482,7 @@ SP = l2 + 32ull;
 return l6;
 }
 
-FN u32 f528(B b, u64 l0, u64 l1, u64 l2) {
+FN u32 f526(B b, u64 l0, u64 l1, u64 l2) {
 u32 l40 = 0, l41 = 0, l42 = 0, l43 = 0, l44 = 0, l45 = 0, l46 = 0, l47 = 0, t0, t1, t2, t3, t4, t5, t6, t7, t8, t9, t10, t11, t12, t13, t14, t15, t16, t17, t18, t19, t20, t21, t22, t23, t24, t25, t26, t27, t28, t29, t30, t31, t32, t33, t34, t35, t36, t37, t38, t39, t40, t41, t42, t43, t44, t45, t46, t47, t48, t49, t50, t51, t52, t53, t54, t55, t56, t57, t58, t59, t60, t61, t62, t63, t64, t65, t66, t67, t68, t69, t70, t71, t72, t73, t74, t75, t76, t77, t78, t79, t80, t81, t82, t83, t84, t85, t86, t87, t88, t89, t90, t91, t92, t93, t94, t95, t96, t97, t98, t99, t100, t101, t102, t103, t104, t105, t106, t107, t108, t109, t110, t111, t112;
 u64 l3 = 0, l4 = 0, l5 = 0, l6 = 0, l7 = 0, l8 = 0, l9 = 0, l10 = 0, l11 = 0, l12 = 0, l13 = 0, l14 = 0, l15 = 0, l16 = 0, l17 = 0, l18 = 0, l19 = 0, l20 = 0, l21 = 0, l22 = 0, l23 = 0, l24 = 0, l25 = 0, l26 = 0, l27 = 0, l28 = 0, l29 = 0, l30 = 0, l31 = 0, l32 = 0, l33 = 0, l34 = 0, l35 = 0, l36 = 0, l37 = 0, l38 = 0, l39 = 0;
 l3 = SP - 1424ull;
@@ -109248,7 +109501,7 @@ l10 = get64(b, l7 + 16ull);
 l11 = get64(b, l7 + 8ull);
 l41 = get8(b, l1 + 49ull);
 l42 = 1u;
-t0 = f530(b, l0, 6u, l40, l6);
+t0 = f528(b, l0, 6u, l40, l6);
 if (t0 & 255u) { goto L1; }
 l12 = l41 ? l6 : ((l6 < 20ull) ? l6 : 20ull);
 l13 = 0ull;
@@ -109417,7 +109670,7 @@ if (t6 & 255u) { goto L1; }
 L34:;
 if (l10 <= l15) { goto L37; }
 l7 = l11 + (l15 * 104ull);
-t7 = f531(b, l0, l1, get32(b, l7));
+t7 = f529(b, l0, l1, get32(b, l7));
 if (t7 & 255u) { goto L1; }
 if (get8(b, l7 + 8ull) != 1u) { goto L39; }
 l7 = l7 + 16ull;
@@ -109449,7 +109702,7 @@ l19 = l8 + 4ull;
 put32(b, l3 + 484, get32(b, l19));
 l14 = l8 + 8ull;
 put8(b, l3 + 488, get8(b, l14));
-t8 = f532(b, l0, l1, 1061043ull, l18, l3 + 480ull);
+t8 = f530(b, l0, l1, 1061043ull, l18, l3 + 480ull);
 if (t8 & 255u) { goto L9; }
 l40 = get32(b, l19);
 if (get8(b, l8)) { goto L42; }
@@ -109459,7 +109712,7 @@ l18 = get64(b, l1 + 8ull);
 if (get64(b, l18 + 40ull) <= l8) { goto L42; }
 l40 = get32(b, (get64(b, l18 + 32ull) + (l8 << 4)) + ((get8(b, l14) & 1u) ? 12ull : 8ull));
 L42:;
-t9 = f533(b, l0, l1, 1061049ull, 6ull, l40);
+t9 = f531(b, l0, l1, 1061049ull, 6ull, l40);
 if (t9 & 255u) { goto L9; }
 l8 = l16 + (l17 * 12ull);
 put32(b, l3 + 480, get8(b, l8));
@@ -109468,7 +109721,7 @@ l16 = l7 + 4ull;
 put32(b, l3 + 484, get32(b, l16));
 l7 = l7 + 8ull;
 put8(b, l3 + 488, get8(b, l7));
-t10 = f532(b, l0, l1, 1061055ull, l15, l3 + 480ull);
+t10 = f530(b, l0, l1, 1061055ull, l15, l3 + 480ull);
 if (t10 & 255u) { goto L9; }
 l40 = get32(b, l16);
 if (get8(b, l8)) { goto L43; }
@@ -109478,17 +109731,17 @@ l16 = get64(b, l1 + 8ull);
 if (get64(b, l16 + 40ull) <= l8) { goto L43; }
 l40 = get32(b, (get64(b, l16 + 32ull) + (l8 << 4)) + ((get8(b, l7) & 1u) ? 8ull : 12ull));
 L43:;
-t11 = f533(b, l0, l1, 1061061ull, 8ull, l40);
+t11 = f531(b, l0, l1, 1061061ull, 8ull, l40);
 if (!(t11 & 255u)) { goto L36; }
 l42 = 1u;
 goto L1;
 L37:;
-t12 = f531(b, l0, l1, 0u);
+t12 = f529(b, l0, l1, 0u);
 if (t12 & 255u) { goto L1; }
 L36:;
 l13 = l13 + 1ull;
 if (l13 != l12) { goto L11; }
-t13 = f385(b, l0, 1049504ull, 0ull, l6 - l12);
+t13 = f383(b, l0, 1049504ull, 0ull, l6 - l12);
 if (t13 & 255u) { goto L1; }
 L10:;
 fill(b, l3 + 480ull, 0u, 160u);
@@ -109505,7 +109758,7 @@ l8 = (u64)l40;
 if (get64(b, l7 + 16ull) <= l8) { goto L6; }
 l18 = get64(b, l1 + 32ull);
 l42 = get8(b, (get64(b, l7 + 8ull) + (l8 << 5)) + 4ull);
-f534(b, l3 + 960ull, l7, l40);
+f532(b, l3 + 960ull, l7, l40);
 if (get8(b, l3 + 960)) { goto L2; }
 l16 = get64(b, l1 + 32ull);
 l19 = get64(b, l3 + 984);
@@ -109536,7 +109789,7 @@ l17 = l8 & 4294967295ull;
 if (get64(b, l16 + 8ull) <= l17) { goto L6; }
 l40 = get32(b, (get64(b, l16) + (l17 * 24ull)) + 8);
 if (get64(b, l3 + 328) != l7) { goto L51; }
-t14 = f527(b, l3 + 312ull, 1ull);
+t14 = f525(b, l3 + 312ull, 1ull);
 if (!t14) { goto L47; }
 l13 = get64(b, l3 + 312);
 l7 = get64(b, l3 + 320);
@@ -109629,7 +109882,7 @@ if (l8 != 0ull) { goto L60; }
 L52:;
 l7 = ((u64)(l41 - l40)) + 1ull;
 L45:;
-f390(b, l3 + 1264ull, l3 + 192ull, l40, l7);
+f388(b, l3 + 1264ull, l3 + 192ull, l40, l7);
 l40 = get8(b, l3 + 1264);
 l7 = l3 + 1119ull;
 copy(b, l7, l3 + 1272ull, 120u);
@@ -109643,7 +109896,7 @@ l20 = l3 + 520ull;
 copy(b, l20, l7, 120u);
 l40 = get8(b, l1 + 48ull);
 l43 = 0u;
-t15 = f535(b, l0, 7u, get32(b, l1 + 24ull), l4);
+t15 = f533(b, l0, 7u, get32(b, l1 + 24ull), l4);
 if (t15 & 255u) { goto L61; }
 l21 = l40 ? l4 : ((l4 < 20ull) ? l4 : 20ull);
 l7 = l5 + 8ull;
@@ -109983,7 +110236,7 @@ l43 = 0u;
 goto L61;
 L111:;
 l43 = 0u;
-t28 = f536(b, l0, l41, l44);
+t28 = f534(b, l0, l41, l44);
 if (t28 & 255u) { goto L61; }
 l8 = get64(b, l0 + 16ull);
 l7 = get64(b, l0 + 8ull);
@@ -110183,7 +110436,7 @@ l8 = get64(b, l8 + 32ull) + (l13 << 4);
 l41 = get32(b, l8 + 4);
 l40 = get32(b, l8);
 L145:;
-t37 = f537(b, l0, l7, l40, l41);
+t37 = f535(b, l0, l7, l40, l41);
 if (!(t37 & 255u)) { goto L146; }
 l43 = 0u;
 goto L61;
@@ -110208,24 +110461,24 @@ L147:;
 l7 = get64(b, l1 + 8ull);
 if (get64(b, l7 + 40ull) <= l13) { goto L151; }
 l7 = get64(b, l7 + 32ull) + (l13 << 4);
-t39 = f533(b, l0, l1, 1061119ull, 7ull, get32(b, l7 + 8ull));
+t39 = f531(b, l0, l1, 1061119ull, 7ull, get32(b, l7 + 8ull));
 if (!(t39 & 255u)) { goto L150; }
 l43 = 0u;
 goto L61;
 L151:;
 l43 = 0u;
-t40 = f533(b, l0, l1, 1061119ull, 7ull, 0u);
+t40 = f531(b, l0, l1, 1061119ull, 7ull, 0u);
 if (!(t40 & 255u)) { goto L149; }
 goto L61;
 L150:;
 l43 = get32(b, l7 + 12ull);
 L149:;
-t41 = f533(b, l0, l1, 1061126ull, 5ull, l43);
+t41 = f531(b, l0, l1, 1061126ull, 5ull, l43);
 if (!(t41 & 255u)) { goto L152; }
 l43 = 0u;
 goto L61;
 L152:;
-f401(b, l3 + 160ull, l20, l45);
+f399(b, l3 + 160ull, l20, l45);
 l6 = get64(b, l3 + 168);
 l18 = get8(b, l1 + 48ull) ? l6 : ((l6 < 20ull) ? l6 : 20ull);
 if (!l18) { goto L153; }
@@ -110338,7 +110591,7 @@ if (!(t45 & 255u)) { goto L167; }
 l43 = 0u;
 goto L61;
 L167:;
-t46 = f384(b, get64(b, l1 + 16ull), l0, l12, l42);
+t46 = f382(b, get64(b, l1 + 16ull), l0, l12, l42);
 if (!(t46 & 255u)) { goto L171; }
 l43 = 0u;
 goto L61;
@@ -110617,11 +110870,11 @@ l13 = l13 + 1ull;
 if (l13 != l18) { goto L154; }
 L153:;
 l43 = 0u;
-t58 = f385(b, l0, 1058591ull, 2ull, l6 - l18);
+t58 = f383(b, l0, 1058591ull, 2ull, l6 - l18);
 if (t58 & 255u) { goto L61; }
 l11 = l11 + 1ull;
 if (l11 != l21) { goto L109; }
-t59 = f385(b, l0, 1049504ull, 0ull, l4 - l21);
+t59 = f383(b, l0, 1049504ull, 0ull, l4 - l21);
 l43 = (t59 & 255u) ^ 1u;
 L61:;
 if (!get64(b, l3 + 512)) { goto L210; }
@@ -110738,7 +110991,7 @@ l8 = l4;
 L228:;
 l40 = get32(b, l7);
 if (get64(b, l3 + 1280) != l11) { goto L229; }
-t61 = f527(b, l3 + 1264ull, 1ull);
+t61 = f525(b, l3 + 1264ull, 1ull);
 if (!t61) { goto L221; }
 l16 = get64(b, l3 + 1264);
 l11 = get64(b, l3 + 1272);
@@ -110864,7 +111117,7 @@ l19 = 0ull;
 L245:;
 put64(b, l3 + 1296, 0ull);
 put64(b, l3 + 1272, 0ull);
-t62 = f436(b, l21, l31 + (l19 * 104ull), l3 + 1264ull);
+t62 = f434(b, l21, l31 + (l19 * 104ull), l3 + 1264ull);
 if (t62 & 255u) { goto L243; }
 l12 = get64(b, l3 + 1288);
 l7 = get64(b, l3 + 1296);
@@ -110902,7 +111155,7 @@ l33 = 0ull;
 L251:;
 put64(b, l3 + 1296, 0ull);
 put64(b, l3 + 1272, 0ull);
-t63 = f436(b, l21, l31 + (l33 * 104ull), l3 + 1264ull);
+t63 = f434(b, l21, l31 + (l33 * 104ull), l3 + 1264ull);
 if (t63 & 255u) { goto L243; }
 l12 = get64(b, l3 + 1288);
 l6 = get64(b, l3 + 1296);
@@ -111054,7 +111307,7 @@ if (l8 != 0ull) { goto L276; }
 L268:;
 l7 = ((u64)(l41 - l40)) + 1ull;
 L266:;
-f390(b, l3 + 1112ull, l3 + 192ull, l40, l7);
+f388(b, l3 + 1112ull, l3 + 192ull, l40, l7);
 if (get8(b, l3 + 1112)) { goto L278; }
 l6 = get64(b, l3 + 1232);
 l34 = get64(b, l3 + 1224);
@@ -111112,7 +111365,7 @@ put64(b, l3 + 328, l10);
 put64(b, l3 + 320, l10);
 put64(b, l3 + 312, l19);
 l41 = 0u;
-f390(b, l3 + 1264ull, l3 + 312ull, 0u, l10);
+f388(b, l3 + 1264ull, l3 + 312ull, 0u, l10);
 l40 = get8(b, l3 + 1264);
 l7 = l3 + 967ull;
 copy(b, l7, l3 + 1272ull, 120u);
@@ -111178,9 +111431,9 @@ put64(b, l3 + 808, l9);
 put64(b, l3 + 816, l27);
 put64(b, l3 + 824, l29);
 l40 = get8(b, l1 + 48ull);
-t64 = f535(b, l0, 8u, get32(b, l1 + 24ull), l15);
+t64 = f533(b, l0, 8u, get32(b, l1 + 24ull), l15);
 if (t64 & 255u) { goto L289; }
-t65 = f538(b, l0, 1061154ull, 6ull, l14);
+t65 = f536(b, l0, 1061154ull, 6ull, l14);
 if (t65 & 255u) { goto L289; }
 l16 = l0 + 16ull;
 l17 = get64(b, l16);
@@ -111245,7 +111498,7 @@ put64(b, l3 + 960, 0ull);
 put64(b, l3 + 968, 0ull);
 put64(b, l3 + 976, 0ull);
 put64(b, l3 + 984, 0ull);
-f401(b, l3 + 96ull, l21, l41);
+f399(b, l3 + 96ull, l21, l41);
 l8 = get64(b, l3 + 96);
 l18 = get64(b, l3 + 480);
 l13 = get64(b, l3 + 488);
@@ -111262,7 +111515,7 @@ l16 = l17;
 L316:;
 l15 = (u64)get32(b, l7);
 if (get64(b, l13 + 16ull) <= l15) { goto L317; }
-t68 = f436(b, l18, get64(b, l13 + 8ull) + (l15 * 104ull), l3 + 1264ull);
+t68 = f434(b, l18, get64(b, l13 + 8ull) + (l15 * 104ull), l3 + 1264ull);
 if (t68 & 255u) { goto L315; }
 L317:;
 l7 = l7 + 4ull;
@@ -111297,7 +111550,7 @@ l16 = (u64)get32(b, l8);
 if (get64(b, l7 + 16ull) <= l16) { goto L319; }
 l40 = get32(b, get64(b, l7 + 8ull) + (l16 * 104ull));
 if (get64(b, l3 + 1280) != l15) { goto L320; }
-t69 = f539(b, l3 + 1264ull);
+t69 = f537(b, l3 + 1264ull);
 if (!t69) { goto L313; }
 l13 = get64(b, l3 + 1264);
 l15 = get64(b, l3 + 1272);
@@ -111422,7 +111675,7 @@ l7 = l29;
 l8 = l31;
 l19 = 0ull;
 L338:;
-f401(b, l3 + 64ull, l6, get32(b, l7));
+f399(b, l3 + 64ull, l6, get32(b, l7));
 l7 = l7 + 4ull;
 l19 = l19 + ((u64)(get64(b, l3 + 72) != 0ull));
 l8 = l8 + 18446744073709551615ull;
@@ -111473,7 +111726,7 @@ l9 = 0ull;
 l16 = l24;
 goto L301;
 L304:;
-t71 = f385(b, l0, 1049504ull, 0ull, l14 - l25);
+t71 = f383(b, l0, 1049504ull, 0ull, l14 - l25);
 l41 = (t71 & 255u) ^ 1u;
 goto L289;
 L303:;
@@ -111484,17 +111737,17 @@ L301:;
 l44 = get8(b, l1 + 48ull);
 l40 = 0u;
 l5 = l5 + 1ull;
-t72 = f538(b, l0, 1061164ull, 4ull, l5);
+t72 = f536(b, l0, 1061164ull, 4ull, l5);
 if (t72 & 255u) { goto L344; }
-t73 = f538(b, l0, 1053226ull, 6ull, l15);
+t73 = f536(b, l0, 1053226ull, 6ull, l15);
 if (t73 & 255u) { goto L344; }
-t74 = f538(b, l0, 1053241ull, 6ull, l31);
+t74 = f536(b, l0, 1053241ull, 6ull, l31);
 if (t74 & 255u) { goto L344; }
-t75 = f538(b, l0, 1061168ull, 9ull, l12);
+t75 = f536(b, l0, 1061168ull, 9ull, l12);
 if (t75 & 255u) { goto L344; }
-t76 = f538(b, l0, 1061177ull, 9ull, l19);
+t76 = f536(b, l0, 1061177ull, 9ull, l19);
 if (t76 & 255u) { goto L344; }
-t77 = f538(b, l0, 1061186ull, 9ull, l9);
+t77 = f536(b, l0, 1061186ull, 9ull, l9);
 if (t77 & 255u) { goto L344; }
 if (get64(b, l0 + 16ull) != get64(b, l0 + 8ull)) { goto L346; }
 t78 = f46(b, l0, 1048715ull, 1ull);
@@ -111509,33 +111762,33 @@ l45 = 0u;
 if (l42) { goto L347; }
 l45 = get32(b, l10);
 L347:;
-t80 = f533(b, l0, l1, 1061160ull, 4ull, l45);
+t80 = f531(b, l0, l1, 1061160ull, 4ull, l45);
 if (t80 & 255u) { goto L344; }
 l7 = l16;
 l17 = (l9 < 20ull) ? l9 : 20ull;
 l8 = l17;
 if (!l9) { goto L348; }
 L349:;
-t81 = f533(b, l0, l1, 1061195ull, 9ull, get32(b, l7));
+t81 = f531(b, l0, l1, 1061195ull, 9ull, get32(b, l7));
 if (t81 & 255u) { goto L344; }
 l7 = l7 + 4ull;
 l8 = l8 + 18446744073709551615ull;
 if (!(u32)(!l8)) { goto L349; }
 L348:;
-t82 = f385(b, l0, 1058591ull, 2ull, l9 - l17);
+t82 = f383(b, l0, 1058591ull, 2ull, l9 - l17);
 if (t82 & 255u) { goto L344; }
 l7 = l24;
 l17 = l44 ? l15 : ((l15 < 20ull) ? l15 : 20ull);
 l8 = l17;
 if (!l17) { goto L350; }
 L351:;
-t83 = f531(b, l0, l1, get32(b, l7));
+t83 = f529(b, l0, l1, get32(b, l7));
 if (t83 & 255u) { goto L344; }
 l7 = l7 + 4ull;
 l8 = l8 + 18446744073709551615ull;
 if (!(u32)(!l8)) { goto L351; }
 L350:;
-t84 = f385(b, l0, 1058591ull, 2ull, l15 - l17);
+t84 = f383(b, l0, 1058591ull, 2ull, l15 - l17);
 l40 = (t84 & 255u) ^ 1u;
 L344:;
 if (l43) { goto L352; }
@@ -111612,7 +111865,7 @@ put64(b, l3 + 504, 0ull);
 put64(b, l3 + 496, 0ull);
 put64(b, l3 + 488, 0ull);
 put64(b, l3 + 480, 0ull);
-f170(b, l3 + 480ull, l7);
+f169(b, l3 + 480ull, l7);
 if (!get8(b, l3 + 480)) { goto L366; }
 l42 = 1u;
 if (get8(b, l3 + 484) == 1u) { goto L1; }
@@ -111635,7 +111888,7 @@ fill(b, l3 + 192ull, 0u, 120u);
 l10 = get64(b, l2 + 112ull);
 if (!l10) { goto L367; }
 l11 = get64(b, l2 + 104ull);
-f534(b, l3 + 448ull, get64(b, l1 + 8ull), get32(b, l1 + 24ull));
+f532(b, l3 + 448ull, get64(b, l1 + 8ull), get32(b, l1 + 24ull));
 l43 = 1u;
 if (get8(b, l3 + 448)) { goto L367; }
 l5 = get64(b, l2 + 88ull);
@@ -111680,7 +111933,7 @@ l17 = l16 & 4294967295ull;
 if (get64(b, l7 + 8ull) <= l17) { goto L6; }
 l40 = get32(b, (get64(b, l7) + (l17 * 24ull)) + 16);
 if (get64(b, l3 + 1408) != l8) { goto L380; }
-t85 = f527(b, l3 + 1392ull, 1ull);
+t85 = f525(b, l3 + 1392ull, 1ull);
 if (!t85) { goto L376; }
 l14 = get64(b, l3 + 1392);
 l8 = get64(b, l3 + 1400);
@@ -111720,7 +111973,7 @@ L381:;
 if (l16 >= get64(b, l7 + 112ull)) { goto L6; }
 l40 = get32(b, get64(b, l7 + 104ull) + l17);
 if (get64(b, l3 + 1408) != l18) { goto L382; }
-t86 = f527(b, l3 + 1392ull, 1ull);
+t86 = f525(b, l3 + 1392ull, 1ull);
 if (!t86) { goto L373; }
 l12 = get64(b, l3 + 1392);
 l18 = get64(b, l3 + 1400);
@@ -111813,7 +112066,7 @@ if (l16 != 0ull) { goto L391; }
 L383:;
 l8 = ((u64)(l41 - l40)) + 1ull;
 L370:;
-f390(b, l3 + 1264ull, l3 + 1240ull, l40, l8);
+f388(b, l3 + 1264ull, l3 + 1240ull, l40, l8);
 if (get8(b, l3 + 1264)) { goto L394; }
 put64(b, l3 + 1104, l6);
 put64(b, l3 + 1096, l18);
@@ -111900,13 +112153,13 @@ l14 = get64(b, l3 + 1296);
 l25 = get64(b, l3 + 1288);
 l33 = get64(b, l3 + 1280);
 l23 = get64(b, l3 + 1272);
-f390(b, l3 + 1112ull, l3 + 1088ull, l40, l8);
+f388(b, l3 + 1112ull, l3 + 1088ull, l40, l8);
 if (get8(b, l3 + 1112)) { goto L393; }
 l8 = l3 + 1328ull;
-f540(b, l3 + 960ull, l21, l5);
+f538(b, l3 + 960ull, l21, l5);
 l5 = (l3 + 1112ull) + 8ull;
 if (!get8(b, l3 + 960)) { goto L392; }
-f541(b, l5);
+f539(b, l5);
 put64(b, l3 + 888, l18);
 put64(b, l3 + 880, l22);
 put64(b, l3 + 872, l6);
@@ -111922,7 +112175,7 @@ put64(b, l3 + 920, l24);
 put64(b, l3 + 912, l12);
 put64(b, l3 + 896, get64(b, l8));
 put64(b, l3 + 904, get64(b, l8 + 8));
-f541(b, l3 + 840ull);
+f539(b, l3 + 840ull);
 goto L369;
 L394:;
 if (!l6) { goto L369; }
@@ -111974,7 +112227,7 @@ l30 = get64(b, l8 + 8ull);
 l32 = get64(b, l2 + 80ull);
 l41 = get8(b, l1 + 48ull);
 l43 = 1u;
-t87 = f530(b, l0, 9u, l40, l10);
+t87 = f528(b, l0, 9u, l40, l10);
 if (t87 & 255u) { goto L409; }
 l29 = l41 ? l10 : ((l10 < 20ull) ? l10 : 20ull);
 l27 = l0 + 40ull;
@@ -111988,7 +112241,7 @@ l42 = get32(b, l8);
 put64(b, l22, 0ull);
 put64(b, l22 + 8, 0ull);
 put64(b, l3 + 1264, l3 + 1416ull);
-f401(b, l3 + 16ull, l3 + 480ull, l42);
+f399(b, l3 + 16ull, l3 + 480ull, l42);
 l8 = 0ull;
 l21 = get64(b, l3 + 24);
 if (!l21) { goto L418; }
@@ -112037,7 +112290,7 @@ L422:;
 if (!l17) { goto L421; }
 L427:;
 if (get64(b, l3 + 1280) != l8) { goto L428; }
-t88 = f542(b, l3 + 1264ull);
+t88 = f540(b, l3 + 1264ull);
 if (!t88) { goto L417; }
 l5 = get64(b, l3 + 1264);
 l8 = get64(b, l3 + 1272);
@@ -112061,7 +112314,7 @@ L420:;
 l12 = l12 + 1ull;
 if (l12 != l21) { goto L419; }
 L418:;
-f401(b, l3, l28, l42);
+f399(b, l3, l28, l42);
 l17 = get64(b, l3 + 8);
 if (!l17) { goto L429; }
 l16 = get64(b, l3);
@@ -112070,7 +112323,7 @@ l18 = (u64)get32(b, l16);
 if (get64(b, l7 + 112ull) <= l18) { goto L431; }
 l14 = get64(b, get64(b, l7 + 104ull) + (l18 * 12ull));
 if (get64(b, l3 + 1280) != l8) { goto L432; }
-t89 = f542(b, l3 + 1264ull);
+t89 = f540(b, l3 + 1264ull);
 if (!t89) { goto L416; }
 l8 = get64(b, l3 + 1272);
 L432:;
@@ -112119,17 +112372,17 @@ l40 = 0u;
 t90 = f46(b, l0, 1061204ull, 6ull);
 if (t90 & 255u) { goto L411; }
 L412:;
-t91 = f387(b, get64(b, l1 + 16ull), l0, l42);
+t91 = f385(b, get64(b, l1 + 16ull), l0, l42);
 if (!(t91 & 255u)) { goto L433; }
 l40 = 0u;
 goto L411;
 L433:;
-t92 = f538(b, l0, 1061210ull, 5ull, l25);
+t92 = f536(b, l0, 1061210ull, 5ull, l25);
 if (!(t92 & 255u)) { goto L434; }
 l40 = 0u;
 goto L411;
 L434:;
-t93 = f538(b, l0, 1061215ull, 7ull, l23);
+t93 = f536(b, l0, 1061215ull, 7ull, l23);
 if (!(t93 & 255u)) { goto L435; }
 l40 = 0u;
 goto L411;
@@ -112159,7 +112412,7 @@ L439:;
 l9 = get64(b, l16 + 8ull);
 if (get8(b, l16)) { goto L443; }
 l18 = (u64)get32(b, l16 + 16ull);
-t95 = f538(b, l0, 1061222ull, 5ull, l9);
+t95 = f536(b, l0, 1061222ull, 5ull, l9);
 if (!(t95 & 255u)) { goto L444; }
 l40 = 0u;
 goto L411;
@@ -112245,7 +112498,7 @@ l40 = 0u;
 goto L411;
 L453:;
 l18 = l30 + (l6 * 104ull);
-t99 = f384(b, get64(b, l1 + 16ull), l0, l27, get32(b, l18));
+t99 = f382(b, get64(b, l1 + 16ull), l0, l27, get32(b, l18));
 if (!(t99 & 255u)) { goto L457; }
 l40 = 0u;
 goto L411;
@@ -112260,7 +112513,7 @@ l6 = get64(b, l18 + 88ull);
 l18 = get64(b, l18 + 80ull);
 L458:;
 if (l6 <= l9) { goto L452; }
-t100 = f538(b, l0, 1061143ull, 5ull, (u64)get32(b, l18 + (l9 << 6)));
+t100 = f536(b, l0, 1061143ull, 5ull, (u64)get32(b, l18 + (l9 << 6)));
 if (!(t100 & 255u)) { goto L452; }
 l40 = 0u;
 goto L411;
@@ -112282,17 +112535,17 @@ if (!(t101 & 255u)) { goto L440; }
 l40 = 0u;
 goto L411;
 L442:;
-t102 = f384(b, get64(b, l1 + 16ull), l0, l27, l40);
+t102 = f382(b, get64(b, l1 + 16ull), l0, l27, l40);
 if (!(t102 & 255u)) { goto L461; }
 l40 = 0u;
 goto L411;
 L461:;
-t103 = f538(b, l0, 1061143ull, 5ull, l6);
+t103 = f536(b, l0, 1061143ull, 5ull, l6);
 if (!(t103 & 255u)) { goto L462; }
 l40 = 0u;
 goto L411;
 L462:;
-t104 = f538(b, l0, 1053158ull, 6ull, l21);
+t104 = f536(b, l0, 1053158ull, 6ull, l21);
 if (!(t104 & 255u)) { goto L441; }
 l40 = 0u;
 goto L411;
@@ -112334,7 +112587,7 @@ l18 = get64(b, l18 + 32ull) + (l9 << 4);
 l42 = get32(b, l18 + 4);
 l41 = get32(b, l18);
 L468:;
-t106 = f536(b, l0, l41, l42);
+t106 = f534(b, l0, l41, l42);
 if (t106 & 255u) { goto L411; }
 l9 = get64(b, l0 + 16ull);
 l18 = get64(b, l0 + 8ull);
@@ -112358,7 +112611,7 @@ L470:;
 t107 = f46(b, l0, 1061227ull, 3ull);
 if (t107 & 255u) { goto L411; }
 L469:;
-t108 = f387(b, get64(b, l1 + 16ull), l0, l44);
+t108 = f385(b, get64(b, l1 + 16ull), l0, l44);
 if (t108 & 255u) { goto L411; }
 L463:;
 l9 = l0 + 16ull;
@@ -112380,7 +112633,7 @@ l16 = l16 + 24ull;
 l14 = l14 + 18446744073709551615ull;
 if (l14 != 0ull) { goto L439; }
 L438:;
-t110 = f385(b, l0, 1058591ull, 2ull, l8 - l23);
+t110 = f383(b, l0, 1058591ull, 2ull, l8 - l23);
 l40 = (t110 & 255u) ^ 1u;
 L411:;
 if (!l17) { goto L474; }
@@ -112389,7 +112642,7 @@ L474:;
 if (!l40) { goto L409; }
 l24 = l24 + 1ull;
 if (l24 != l29) { goto L410; }
-t111 = f385(b, l0, 1049504ull, 0ull, l10 - l29);
+t111 = f383(b, l0, 1049504ull, 0ull, l10 - l29);
 l43 = t111 & 255u;
 L409:;
 l7 = get64(b, l3 + 592);
@@ -112460,7 +112713,7 @@ if (!l43) { goto L365; }
 l42 = 1u;
 goto L1;
 L365:;
-t112 = f543(b, l0, l1, get64(b, l2 + 128ull), get64(b, l2 + 136ull));
+t112 = f541(b, l0, l1, get64(b, l2 + 128ull), get64(b, l2 + 136ull));
 l42 = t112 & 255u;
 goto L1;
 L6:;
@@ -112481,7 +112734,7 @@ SP = l3 + 1424ull;
 return l42;
 }
 
-FN u32 f529(B b, u64 l0) {
+FN u32 f527(B b, u64 l0) {
 u32 l6 = 0;
 u64 l1 = 0, l2 = 0, l3 = 0, l4 = 0, l5 = 0;
 l1 = SP - 32ull;
@@ -112513,11 +112766,11 @@ SP = l1 + 32ull;
 return l6;
 }
 
-FN u32 f530(B b, u64 l0, u32 l1, u32 l2, u64 l3) {
+FN u32 f528(B b, u64 l0, u32 l1, u32 l2, u64 l3) {
 u32 l4 = 0, t0, t1, t2;
 u64 l5 = 0, l6 = 0, l7 = 0, l8 = 0, l9 = 0, l10 = 0, l11 = 0, l12 = 0, l13 = 0;
 l4 = 1u;
-t0 = f535(b, l0, l1, l2, l3);
+t0 = f533(b, l0, l1, l2, l3);
 if (t0 & 255u) { goto L1; }
 l5 = l0 + 16ull;
 l6 = get64(b, l5);
@@ -112584,7 +112837,7 @@ L1:;
 return l4;
 }
 
-FN u32 f531(B b, u64 l0, u64 l1, u32 l2) {
+FN u32 f529(B b, u64 l0, u64 l1, u32 l2) {
 u32 t0, t1, t2;
 u64 l3 = 0, l4 = 0, l5 = 0, l6 = 0;
 l3 = get64(b, l0 + 16ull);
@@ -112610,7 +112863,7 @@ t0 = f46(b, l0, 1058654ull, 6ull);
 if (!(t0 & 255u)) { goto L1; }
 return 1u;
 L1:;
-t1 = f384(b, get64(b, l1 + 16ull), l0, l0 + 40ull, l2);
+t1 = f382(b, get64(b, l1 + 16ull), l0, l0 + 40ull, l2);
 if (!(t1 & 255u)) { goto L5; }
 return 1u;
 L5:;
@@ -112629,7 +112882,7 @@ put64(b, l0, l5);
 return 0u;
 }
 
-FN u32 f532(B b, u64 l0, u64 l1, u64 l2, u64 l3, u64 l4) {
+FN u32 f530(B b, u64 l0, u64 l1, u64 l2, u64 l3, u64 l4) {
 u32 l11 = 0, l12 = 0, l13 = 0, l14 = 0, t0, t1, t2, t3, t4, t5, t6, t7, t8, t9, t10, t11, t12, t13;
 u64 l5 = 0, l6 = 0, l7 = 0, l8 = 0, l9 = 0, l10 = 0;
 l5 = SP - 32ull;
@@ -112669,7 +112922,7 @@ t0 = f46(b, l0, l2, 6ull);
 if (t0 & 255u) { goto L1; }
 L2:;
 l13 = 1u;
-t1 = f538(b, l0, 1053158ull, 6ull, l3);
+t1 = f536(b, l0, 1053158ull, 6ull, l3);
 if (t1 & 255u) { goto L1; }
 l2 = get64(b, l1 + 8ull);
 if (l12 & 255u) { goto L8; }
@@ -112702,7 +112955,7 @@ L11:;
 t2 = f46(b, l0, 1053188ull, 5ull);
 if (t2 & 255u) { goto L1; }
 L10:;
-t3 = f536(b, l0, l12, l14);
+t3 = f534(b, l0, l12, l14);
 if (t3 & 255u) { goto L1; }
 l2 = get64(b, l0 + 16ull);
 l4 = get64(b, l0 + 8ull);
@@ -112896,7 +113149,7 @@ t11 = f46(b, l0, l4, l2);
 if (t11 & 255u) { goto L1; }
 goto L6;
 L7:;
-t12 = f537(b, l0, get64(b, l1), l12, l14);
+t12 = f535(b, l0, get64(b, l1), l12, l14);
 if (t12 & 255u) { goto L1; }
 L6:;
 l4 = l0 + 16ull;
@@ -112919,7 +113172,7 @@ SP = l5 + 32ull;
 return l13;
 }
 
-FN u32 f533(B b, u64 l0, u64 l1, u64 l2, u64 l3, u32 l4) {
+FN u32 f531(B b, u64 l0, u64 l1, u64 l2, u64 l3, u32 l4) {
 u32 t0, t1, t2;
 u64 l5 = 0, l6 = 0, l7 = 0, l8 = 0, l9 = 0, l10 = 0, l11 = 0, l12 = 0;
 l5 = get64(b, l0 + 16ull);
@@ -112967,7 +113220,7 @@ t0 = f46(b, l0, l2, l3);
 if (!(t0 & 255u)) { goto L1; }
 return 1u;
 L1:;
-t1 = f387(b, get64(b, l1 + 16ull), l0, l4);
+t1 = f385(b, get64(b, l1 + 16ull), l0, l4);
 if (!(t1 & 255u)) { goto L7; }
 return 1u;
 L7:;
@@ -112986,7 +113239,7 @@ put64(b, l0, l7);
 return 0u;
 }
 
-FN void f534(B b, u64 l0, u64 l1, u32 l2) {
+FN void f532(B b, u64 l0, u64 l1, u32 l2) {
 u32 l18 = 0, l19 = 0, l20 = 0, l21 = 0, l22 = 0, l23 = 0, t0;
 u64 l3 = 0, l4 = 0, l5 = 0, l6 = 0, l7 = 0, l8 = 0, l9 = 0, l10 = 0, l11 = 0, l12 = 0, l13 = 0, l14 = 0, l15 = 0, l16 = 0, l17 = 0;
 l3 = SP - 32ull;
@@ -113037,7 +113290,7 @@ l22 = get32(b, l14);
 l23 = get32(b, l10);
 l16 = get64(b, l3 + 8);
 if (get64(b, l3 + 16) != l16) { goto L15; }
-t0 = f544(b, l3);
+t0 = f542(b, l3);
 if (!t0) { goto L3; }
 l9 = get64(b, l3);
 l16 = get64(b, l3 + 8);
@@ -113088,7 +113341,7 @@ L1:;
 SP = l3 + 32ull;
 }
 
-FN u32 f535(B b, u64 l0, u32 l1, u32 l2, u64 l3) {
+FN u32 f533(B b, u64 l0, u32 l1, u32 l2, u64 l3) {
 u32 t0, t1, t2, t3, t4;
 u64 l4 = 0, l5 = 0, l6 = 0, l7 = 0, l8 = 0, l9 = 0, l10 = 0, l11 = 0, l12 = 0, l13 = 0;
 l4 = get64(b, l0 + 16ull);
@@ -113177,15 +113430,15 @@ t2 = f46(b, l0, l7, l5);
 if (!(t2 & 255u)) { goto L8; }
 return 1u;
 L8:;
-t3 = f538(b, l0, 1049561ull, 6ull, ((u64)l2) + 1ull);
+t3 = f536(b, l0, 1049561ull, 6ull, ((u64)l2) + 1ull);
 if (!(t3 & 255u)) { goto L14; }
 return 1u;
 L14:;
-t4 = f538(b, l0, 1060173ull, 7ull, l3);
+t4 = f536(b, l0, 1060173ull, 7ull, l3);
 return t4 & 255u;
 }
 
-FN u32 f536(B b, u64 l0, u32 l1, u32 l2) {
+FN u32 f534(B b, u64 l0, u32 l1, u32 l2) {
 u32 l9 = 0, t0, t1, t2, t3;
 u64 l3 = 0, l4 = 0, l5 = 0, l6 = 0, l7 = 0, l8 = 0;
 l3 = SP - 32ull;
@@ -113314,7 +113567,7 @@ SP = l3 + 32ull;
 return l1;
 }
 
-FN u32 f537(B b, u64 l0, u64 l1, u32 l2, u32 l3) {
+FN u32 f535(B b, u64 l0, u64 l1, u32 l2, u32 l3) {
 u32 t0, t1, t2;
 u64 l4 = 0, l5 = 0, l6 = 0, l7 = 0, l8 = 0;
 l4 = 0ull;
@@ -113355,15 +113608,15 @@ t0 = f46(b, l0, 1061076ull, 6ull);
 if (!(t0 & 255u)) { goto L2; }
 return 1u;
 L2:;
-t1 = f507(b, l0, l4);
+t1 = f505(b, l0, l4);
 if (!(t1 & 255u)) { goto L6; }
 return 1u;
 L6:;
-t2 = f393(b, l0, l1, l4);
+t2 = f391(b, l0, l1, l4);
 return t2 & 255u;
 }
 
-FN u32 f538(B b, u64 l0, u64 l1, u64 l2, u64 l3) {
+FN u32 f536(B b, u64 l0, u64 l1, u64 l2, u64 l3) {
 u32 l13 = 0, l14 = 0, t0, t1, t2;
 u64 l4 = 0, l5 = 0, l6 = 0, l7 = 0, l8 = 0, l9 = 0, l10 = 0, l11 = 0, l12 = 0;
 l4 = SP - 32ull;
@@ -113476,7 +113729,7 @@ SP = l4 + 32ull;
 return l13;
 }
 
-FN u32 f539(B b, u64 l0) {
+FN u32 f537(B b, u64 l0) {
 u32 l6 = 0;
 u64 l1 = 0, l2 = 0, l3 = 0, l4 = 0, l5 = 0;
 l1 = SP - 32ull;
@@ -113508,7 +113761,7 @@ SP = l1 + 32ull;
 return l6;
 }
 
-FN void f540(B b, u64 l0, u64 l1, u64 l2) {
+FN void f538(B b, u64 l0, u64 l1, u64 l2) {
 u64 l3 = 0, l4 = 0, l5 = 0, l6 = 0, l7 = 0, l8 = 0, l9 = 0, l10 = 0;
 l3 = SP - 176ull;
 SP = l3;
@@ -113560,14 +113813,14 @@ L2:;
 put64(b, l3 + 32, l2);
 put64(b, l3 + 24, l2);
 put64(b, l3 + 16, l5);
-f390(b, l3 + 40ull, l3 + 16ull, 0u, l2);
+f388(b, l3 + 40ull, l3 + 16ull, 0u, l2);
 put8(b, l0, get8(b, l3 + 40));
 copy(b, l0 + 8ull, (l3 + 40ull) + 8ull, 120u);
 L1:;
 SP = l3 + 176ull;
 }
 
-FN void f541(B b, u64 l0) {
+FN void f539(B b, u64 l0) {
 u64 l1 = 0, l2 = 0, l3 = 0, l4 = 0, l5 = 0, l6 = 0;
 l1 = get64(b, l0 + 112);
 l2 = get64(b, l0 + 96);
@@ -113589,7 +113842,7 @@ rattle_dealloc(b, l2);
 L4:;
 }
 
-FN u32 f542(B b, u64 l0) {
+FN u32 f540(B b, u64 l0) {
 u32 l6 = 0;
 u64 l1 = 0, l2 = 0, l3 = 0, l4 = 0, l5 = 0;
 l1 = SP - 32ull;
@@ -113621,7 +113874,7 @@ SP = l1 + 32ull;
 return l6;
 }
 
-FN u32 f543(B b, u64 l0, u64 l1, u64 l2, u64 l3) {
+FN u32 f541(B b, u64 l0, u64 l1, u64 l2, u64 l3) {
 u32 l17 = 0, l18 = 0, l19 = 0, t0, t1, t2, t3, t4, t5, t6, t7;
 u64 l4 = 0, l5 = 0, l6 = 0, l7 = 0, l8 = 0, l9 = 0, l10 = 0, l11 = 0, l12 = 0, l13 = 0, l14 = 0, l15 = 0, l16 = 0;
 l4 = SP - 16ull;
@@ -113632,7 +113885,7 @@ goto L1;
 L2:;
 l18 = get8(b, l1 + 48ull);
 l17 = 1u;
-t0 = f530(b, l0, 10u, get32(b, l1 + 24ull), l3);
+t0 = f528(b, l0, 10u, get32(b, l1 + 24ull), l3);
 if (t0 & 255u) { goto L1; }
 l5 = l18 ? l3 : ((l3 < 20ull) ? l3 : 20ull);
 l6 = l0 + 40ull;
@@ -113643,7 +113896,7 @@ l8 = get64(b, l1 + 40ull);
 l9 = get64(b, l8);
 l10 = get64(b, l8 + 8ull);
 l19 = get32(b, l2 + (l7 << 2));
-f401(b, l4, l8 + 24ull, l19);
+f399(b, l4, l8 + 24ull, l19);
 l11 = get64(b, l4);
 l8 = get64(b, l4 + 8);
 if (l8 > 1ull) { goto L6; }
@@ -113675,7 +113928,7 @@ goto L4;
 L10:;
 l8 = l12 + 1ull;
 L4:;
-t1 = f533(b, l0, l1, 1061204ull, 6ull, l19);
+t1 = f531(b, l0, l1, 1061204ull, 6ull, l19);
 if (t1 & 255u) { goto L1; }
 l16 = (l8 < 5ull) ? l8 : 5ull;
 if (!l8) { goto L11; }
@@ -113683,7 +113936,7 @@ l13 = l16;
 L12:;
 l12 = l9 + ((u64)get32(b, l11) * 12ull);
 l18 = get32(b, l12 + 8);
-t2 = f538(b, l0, 1061237ull, 10ull, (u64)get32(b, l12 + 4) + 1ull);
+t2 = f536(b, l0, 1061237ull, 10ull, (u64)get32(b, l12 + 4) + 1ull);
 if (t2 & 255u) { goto L1; }
 l14 = get64(b, l0 + 16ull);
 l12 = get64(b, l0 + 8ull);
@@ -113707,7 +113960,7 @@ L14:;
 t3 = f46(b, l0, 1053142ull, 5ull);
 if (t3 & 255u) { goto L1; }
 L13:;
-t4 = f384(b, get64(b, l1 + 16ull), l0, l6, l18);
+t4 = f382(b, get64(b, l1 + 16ull), l0, l6, l18);
 if (t4 & 255u) { goto L1; }
 l14 = get64(b, l0 + 16ull);
 l15 = l0 + 8ull;
@@ -113727,18 +113980,18 @@ l11 = l11 + 4ull;
 l13 = l13 + 18446744073709551615ull;
 if (l13 != 0ull) { goto L12; }
 L11:;
-t6 = f385(b, l0, 1058591ull, 2ull, l8 - l16);
+t6 = f383(b, l0, 1058591ull, 2ull, l8 - l16);
 if (t6 & 255u) { goto L1; }
 l7 = l7 + 1ull;
 if (l7 != l5) { goto L3; }
-t7 = f385(b, l0, 1049504ull, 0ull, l3 - l5);
+t7 = f383(b, l0, 1049504ull, 0ull, l3 - l5);
 l17 = t7 & 255u;
 L1:;
 SP = l4 + 16ull;
 return l17;
 }
 
-FN u32 f544(B b, u64 l0) {
+FN u32 f542(B b, u64 l0) {
 u32 l6 = 0;
 u64 l1 = 0, l2 = 0, l3 = 0, l4 = 0, l5 = 0;
 l1 = SP - 32ull;
@@ -113770,7 +114023,7 @@ SP = l1 + 32ull;
 return l6;
 }
 
-FN u32 f545(B b, u64 l0, u64 l1, u64 l2, u64 l3, u64 l4) {
+FN u32 f543(B b, u64 l0, u64 l1, u64 l2, u64 l3, u64 l4) {
 u32 l11 = 0, l12 = 0, l13 = 0, t0, t1, t2, t3, t4, t5, t6, t8, t9, t10, t11, t12;
 u64 l5 = 0, l6 = 0, l7 = 0, l8 = 0, l9 = 0, l10 = 0, t7;
 l5 = SP - 32ull;
@@ -113992,7 +114245,7 @@ SP = l5 + 32ull;
 return l11;
 }
 
-FN void f546(B b, u64 l0) {
+FN void f544(B b, u64 l0) {
 u64 l1 = 0, l2 = 0;
 l1 = get64(b, l0);
 l2 = get64(b, l0 + 16);
@@ -114002,7 +114255,7 @@ rattle_dealloc(b, l1);
 L1:;
 }
 
-FN void f547(B b, u64 l0) {
+FN void f545(B b, u64 l0) {
 u32 l7 = 0;
 u64 l1 = 0, l2 = 0, l3 = 0, l4 = 0, l5 = 0, l6 = 0;
 l1 = get64(b, l0 + 16);
@@ -114521,7 +114774,7 @@ L6:;
 put64(b, l5 + 128, l2);
 put8(b, l5 + 112, l12);
 put64(b, l5 + 120, ((u64)l10) & 255ull);
-t7 = f402(b, l5 + 64ull, l5 + 112ull);
+t7 = f400(b, l5 + 64ull, l5 + 112ull);
 l10 = t7;
 l3 = get64(b, l5 + 64);
 l0 = get64(b, l5 + 80);
@@ -115096,7 +115349,7 @@ l0 = l0 + 1ull;
 if (l4 != l0) { goto L81; }
 l14 = get64(b, l7 + 1632);
 L79:;
-f406(b, l7 + 1560ull, l7 + 728ull, l14, l2);
+f404(b, l7 + 1560ull, l7 + 728ull, l14, l2);
 if (get8(b, l7 + 1560)) { goto L75; }
 l19 = get64(b, l7 + 1584);
 l16 = get64(b, l7 + 1568);
@@ -115202,14 +115455,14 @@ put64(b, l7 + 1584, 0ull);
 put64(b, l7 + 1576, 0ull);
 put64(b, l7 + 1568, 0ull);
 put64(b, l7 + 1560, 0ull);
-f409(b, l7 + 1560ull, l7 + 872ull, l63, l4);
+f407(b, l7 + 1560ull, l7 + 872ull, l63, l4);
 l2 = get64(b, l7 + 1576);
 if (get8(b, l7 + 1560)) { goto L43; }
 l4 = get64(b, l7 + 1600);
 put64(b, l13, get64(b, l12));
 put64(b, l13 + 8, get64(b, l12 + 8));
 put64(b, l7 + 1632, l2);
-f178(b, l7 + 1632ull);
+f177(b, l7 + 1632ull);
 L92:;
 l63 = l63 + 2u;
 l1 = l1 + 120ull;
@@ -115244,7 +115497,7 @@ put64(b, l7 + 464, get64(b, l0));
 put64(b, l7 + 472, get64(b, l0 + 8));
 put64(b, l7 + 480, get64(b, l0 + 16));
 put64(b, l7 + 488, get64(b, l0 + 24));
-f418(b, l7 + 552ull, l64, l67, l7 + 440ull);
+f416(b, l7 + 552ull, l64, l67, l7 + 440ull);
 if (!get8(b, l7 + 552)) { goto L93; }
 l63 = 1u;
 l67 = 1u;
@@ -115272,7 +115525,7 @@ put64(b, l7 + 352, get64(b, l0));
 put64(b, l7 + 360, get64(b, l0 + 8));
 put64(b, l7 + 368, get64(b, l0 + 16));
 put64(b, l7 + 376, get64(b, l0 + 24));
-f440(b, l7 + 584ull, l64, l7 + 328ull, l7 + 80ull);
+f438(b, l7 + 584ull, l64, l7 + 328ull, l7 + 80ull);
 l5 = get64(b, l7 + 608);
 l62 = get8(b, l7 + 600);
 l65 = get8(b, l7 + 592);
@@ -115291,7 +115544,7 @@ put64(b, l7 + 192, 0ull);
 put64(b, l7 + 184, 0ull);
 put64(b, l7 + 176, 0ull);
 put64(b, l7 + 168, 0ull);
-f477(b, l7 + 168ull, l62);
+f475(b, l7 + 168ull, l62);
 if (!get8(b, l7 + 168)) { goto L94; }
 l67 = 1u;
 l62 = 0u;
@@ -115330,7 +115583,7 @@ l0 = 0ull;
 L100:;
 if (get64(b, l7 + 792) <= l0) { goto L41; }
 if (get64(b, get64(b, l7 + 784) + l1) != 186ull) { goto L101; }
-f409(b, l7 + 1560ull, l7 + 872ull, l63, l13);
+f407(b, l7 + 1560ull, l7 + 872ull, l63, l13);
 l62 = get32(b, l7 + 1568);
 if (get8(b, l7 + 1560)) { goto L98; }
 l13 = get64(b, l7 + 1600);
@@ -115339,7 +115592,7 @@ put64(b, l7 + 1664, get64(b, l15));
 put64(b, l7 + 1688, get64(b, l12 + 8));
 put64(b, l7 + 1680, get64(b, l12));
 if (get64(b, l7 + 1624) != l4) { goto L102; }
-t5 = f411(b, l7 + 1608ull);
+t5 = f409(b, l7 + 1608ull);
 if (!t5) { goto L99; }
 l11 = get64(b, l7 + 1608);
 l4 = get64(b, l7 + 1616);
@@ -115372,7 +115625,7 @@ put64(b, l7 + 1652, l1);
 put64(b, l7 + 1696, l1);
 put64(b, l7 + 1688, l0);
 put64(b, l7 + 1680, get64(b, l7 + 1636));
-f178(b, l7 + 1680ull);
+f177(b, l7 + 1680ull);
 l3 = get64(b, l7 + 1624);
 l4 = get64(b, l7 + 1608);
 l1 = get64(b, l7 + 1616);
@@ -115383,7 +115636,7 @@ put64(b, l7 + 1648, get64(b, l0 + 16));
 put64(b, l7 + 1640, get64(b, l0 + 8));
 put64(b, l7 + 1632, get64(b, l0));
 l0 = l0 + 32ull;
-f178(b, l7 + 1632ull);
+f177(b, l7 + 1632ull);
 l1 = l1 + 18446744073709551615ull;
 if (l1 != 0ull) { goto L104; }
 L103:;
@@ -115404,7 +115657,7 @@ put64(b, l7 + 1648, get64(b, l0 + 16));
 put64(b, l7 + 1640, get64(b, l0 + 8));
 put64(b, l7 + 1632, get64(b, l0));
 l0 = l0 + 32ull;
-f178(b, l7 + 1632ull);
+f177(b, l7 + 1632ull);
 l4 = l4 + 18446744073709551615ull;
 if (l4 != 0ull) { goto L106; }
 L105:;
@@ -115623,7 +115876,7 @@ put64(b, l7 + 872, get64(b, l0));
 if (!l11) { goto L144; }
 rattle_dealloc(b, l16);
 L144:;
-f405(b, l7 + 880ull);
+f403(b, l7 + 880ull);
 if (!l15) { goto L145; }
 rattle_dealloc(b, l14);
 L145:;
@@ -115634,7 +115887,7 @@ put64(b, l7 + 1576, get64(b, l0 + 16));
 put64(b, l7 + 1568, get64(b, l0 + 8));
 put64(b, l7 + 1560, get64(b, l0));
 l0 = l0 + 24ull;
-f405(b, l7 + 1560ull);
+f403(b, l7 + 1560ull);
 l1 = l1 + 18446744073709551615ull;
 if (l1 != 0ull) { goto L147; }
 L146:;
@@ -115647,14 +115900,14 @@ put64(b, l7 + 880, 0ull);
 put64(b, l7 + 896, 0ull);
 put64(b, l7 + 904, 0ull);
 put64(b, l7 + 872, l7 + 1704ull);
-t6 = f413(b, l7 + 872ull, 2u);
+t6 = f411(b, l7 + 872ull, 2u);
 if (t6 & 255u) { goto L149; }
 l63 = (u32)(!l2);
 if (l63) { goto L148; }
 l0 = l4;
 l1 = l2;
 L151:;
-t7 = f414(b, l7 + 872ull, l0);
+t7 = f412(b, l7 + 872ull, l0);
 if (t7 & 255u) { goto L150; }
 l0 = l0 + 32ull;
 l1 = l1 + 18446744073709551615ull;
@@ -115728,7 +115981,7 @@ put64(b, l7 + 888, get64(b, l0 + 16));
 put64(b, l7 + 880, get64(b, l0 + 8));
 put64(b, l7 + 872, get64(b, l0));
 l0 = l0 + 32ull;
-f417(b, l7 + 872ull);
+f415(b, l7 + 872ull);
 l2 = l2 + 18446744073709551615ull;
 if (l2 != 0ull) { goto L162; }
 L161:;
@@ -115812,7 +116065,7 @@ L174:;
 put64(b, l7 + 704, get64(b, l7 + 776));
 put64(b, l7 + 696, get64(b, l7 + 768));
 put64(b, l7 + 688, get64(b, l7 + 760));
-f405(b, l7 + 688ull);
+f403(b, l7 + 688ull);
 l3 = get64(b, l7 + 824);
 l4 = get64(b, l7 + 816);
 l2 = get64(b, l7 + 808);
@@ -115826,7 +116079,7 @@ put64(b, l7 + 888, get64(b, l0 + 16));
 put64(b, l7 + 880, get64(b, l0 + 8));
 put64(b, l7 + 872, get64(b, l0));
 l0 = l0 + 24ull;
-f405(b, l7 + 872ull);
+f403(b, l7 + 872ull);
 l4 = l4 + 18446744073709551615ull;
 if (l4 != 0ull) { goto L177; }
 L176:;
@@ -115836,14 +116089,14 @@ goto L28;
 L166:;
 put64(b, l7 + 716, l2);
 put32(b, l7 + 712, l67);
-f412(b, l7 + 840ull, l62, l7 + 712ull);
+f410(b, l7 + 840ull, l62, l7 + 712ull);
 if (!get64(b, l7 + 744)) { goto L178; }
 rattle_dealloc(b, get64(b, l7 + 728));
 L178:;
 put64(b, l7 + 680, get64(b, l7 + 776));
 put64(b, l7 + 672, get64(b, l7 + 768));
 put64(b, l7 + 664, get64(b, l7 + 760));
-f405(b, l7 + 664ull);
+f403(b, l7 + 664ull);
 l2 = get64(b, l7 + 824);
 l1 = get64(b, l7 + 816);
 l4 = get64(b, l7 + 808);
@@ -115857,7 +116110,7 @@ put64(b, l7 + 888, get64(b, l0 + 16));
 put64(b, l7 + 880, get64(b, l0 + 8));
 put64(b, l7 + 872, get64(b, l0));
 l0 = l0 + 24ull;
-f405(b, l7 + 872ull);
+f403(b, l7 + 872ull);
 l1 = l1 + 18446744073709551615ull;
 if (l1 != 0ull) { goto L181; }
 L180:;
@@ -115876,7 +116129,7 @@ L183:;
 put64(b, l7 + 656, get64(b, l7 + 776));
 put64(b, l7 + 648, get64(b, l7 + 768));
 put64(b, l7 + 640, get64(b, l7 + 760));
-f405(b, l7 + 640ull);
+f403(b, l7 + 640ull);
 l2 = get64(b, l7 + 824);
 l1 = get64(b, l7 + 816);
 l4 = get64(b, l7 + 808);
@@ -115890,7 +116143,7 @@ put64(b, l7 + 888, get64(b, l0 + 16));
 put64(b, l7 + 880, get64(b, l0 + 8));
 put64(b, l7 + 872, get64(b, l0));
 l0 = l0 + 24ull;
-f405(b, l7 + 872ull);
+f403(b, l7 + 872ull);
 l1 = l1 + 18446744073709551615ull;
 if (l1 != 0ull) { goto L186; }
 L185:;
@@ -115908,7 +116161,7 @@ L187:;
 put64(b, l7 + 632, get64(b, l7 + 776));
 put64(b, l7 + 624, get64(b, l7 + 768));
 put64(b, l7 + 616, get64(b, l7 + 760));
-f405(b, l7 + 616ull);
+f403(b, l7 + 616ull);
 l2 = get64(b, l7 + 824);
 l1 = get64(b, l7 + 816);
 l4 = get64(b, l7 + 808);
@@ -115922,7 +116175,7 @@ put64(b, l7 + 888, get64(b, l0 + 16));
 put64(b, l7 + 880, get64(b, l0 + 8));
 put64(b, l7 + 872, get64(b, l0));
 l0 = l0 + 24ull;
-f405(b, l7 + 872ull);
+f403(b, l7 + 872ull);
 l1 = l1 + 18446744073709551615ull;
 if (l1 != 0ull) { goto L190; }
 L189:;
@@ -115942,7 +116195,7 @@ put64(b, l7 + 888, get64(b, l0 + 16));
 put64(b, l7 + 880, get64(b, l0 + 8));
 put64(b, l7 + 872, get64(b, l0));
 l0 = l0 + 32ull;
-f417(b, l7 + 872ull);
+f415(b, l7 + 872ull);
 l2 = l2 + 18446744073709551615ull;
 if (l2 != 0ull) { goto L193; }
 L192:;
@@ -115977,7 +116230,7 @@ put64(b, l7 + 872, get64(b, l7 + 1560));
 if (!l11) { goto L194; }
 rattle_dealloc(b, l14);
 L194:;
-f405(b, l7 + 880ull);
+f403(b, l7 + 880ull);
 if (!l21) { goto L195; }
 rattle_dealloc(b, l22);
 L195:;
@@ -115988,7 +116241,7 @@ put64(b, l7 + 744, get64(b, l0 + 16));
 put64(b, l7 + 736, get64(b, l0 + 8));
 put64(b, l7 + 728, get64(b, l0));
 l0 = l0 + 24ull;
-f405(b, l7 + 728ull);
+f403(b, l7 + 728ull);
 l19 = l19 + 18446744073709551615ull;
 if (l19 != 0ull) { goto L197; }
 L196:;
@@ -116015,7 +116268,7 @@ l12 = l12 + 24ull;
 l11 = l11 + 18446744073709551615ull;
 if (!(u32)(!l11)) { goto L5; }
 L4:;
-f494(b, l7 + 136ull);
+f492(b, l7 + 136ull);
 l5 = get64(b, l7 + 160);
 l62 = get8(b, l7 + 152);
 l65 = get8(b, l7 + 144);
@@ -116026,7 +116279,7 @@ if (l63 & 255u) { goto L200; }
 put64(b, l7 + 128, l5);
 put8(b, l7 + 112, l65);
 put64(b, l7 + 120, ((u64)l62) & 255ull);
-t10 = f402(b, l7 + 48ull, l7 + 112ull);
+t10 = f400(b, l7 + 48ull, l7 + 112ull);
 l63 = t10;
 goto L199;
 L200:;
@@ -116289,7 +116542,7 @@ L33:;
 l10 = get64(b, l8 + 8ull);
 l9 = get64(b, l8);
 L32:;
-f479(b, l5 + 912ull, l9, l10);
+f477(b, l5 + 912ull, l9, l10);
 if (get8(b, l5 + 912)) { goto L12; }
 l11 = get64(b, l5 + 1040);
 l12 = get64(b, l5 + 1032);
@@ -116368,7 +116621,7 @@ l30 = (l30 ^ l31) - l31;
 l3 = (((l30 < 4294967296ull) ? l30 : 4294967296ull) << 32) | l3;
 L44:;
 if (get64(b, l5 + 1312) != l2) { goto L47; }
-t1 = f496(b, l5 + 1296ull);
+t1 = f494(b, l5 + 1296ull);
 if (!t1) { goto L37; }
 l29 = get64(b, l5 + 1296);
 l2 = get64(b, l5 + 1304);
@@ -116456,7 +116709,7 @@ put64(b, l5 + 488, ((l26 + l0) << 32) | (l0 & 4294967295ull));
 put8(b, l5 + 232, l32);
 put32(b, l5 + 228, l34);
 put32(b, l5 + 224, l33);
-f499(b, l5 + 240ull, l5 + 224ull, l5 + 360ull);
+f497(b, l5 + 240ull, l5 + 224ull, l5 + 360ull);
 if (get8(b, l5 + 240)) { goto L53; }
 l32 = get8(b, l5 + 256);
 l35 = get8(b, l5 + 248);
@@ -116481,7 +116734,7 @@ l26 = get64(b, l5 + 432);
 if (!get64(b, l5 + 392)) { goto L55; }
 rattle_dealloc(b, get64(b, l5 + 376));
 L55:;
-f547(b, l5 + 200ull);
+f545(b, l5 + 200ull);
 if (!l0) { goto L56; }
 rattle_dealloc(b, l26);
 L56:;
@@ -116492,7 +116745,7 @@ put64(b, l5 + 928, get64(b, l0 + 16));
 put64(b, l5 + 920, get64(b, l0 + 8));
 put64(b, l5 + 912, get64(b, l0));
 l0 = l0 + 24ull;
-f547(b, l5 + 912ull);
+f545(b, l5 + 912ull);
 l3 = l3 + 18446744073709551615ull;
 if (l3 != 0ull) { goto L58; }
 L57:;
@@ -116523,7 +116776,7 @@ l28 = get64(b, l5 + 432);
 if (!get64(b, l5 + 392)) { goto L61; }
 rattle_dealloc(b, get64(b, l5 + 376));
 L61:;
-f547(b, l5 + 200ull);
+f545(b, l5 + 200ull);
 if (!l0) { goto L62; }
 rattle_dealloc(b, l28);
 L62:;
@@ -116534,7 +116787,7 @@ put64(b, l5 + 928, get64(b, l0 + 16));
 put64(b, l5 + 920, get64(b, l0 + 8));
 put64(b, l5 + 912, get64(b, l0));
 l0 = l0 + 24ull;
-f547(b, l5 + 912ull);
+f545(b, l5 + 912ull);
 l2 = l2 + 18446744073709551615ull;
 if (l2 != 0ull) { goto L64; }
 L63:;
@@ -117229,10 +117482,10 @@ L175:;
 t19 = f46(b, l5 + 912ull, 1048715ull, 1ull);
 if (t19 & 255u) { goto L7; }
 L165:;
-t20 = f497(b, l5 + 912ull, l2, (l15 < 80ull) ? l15 : 80ull);
+t20 = f495(b, l5 + 912ull, l2, (l15 < 80ull) ? l15 : 80ull);
 l32 = t20 & 255u;
 if (l38 | l32) { goto L176; }
-t21 = f498(b, l5 + 912ull, l14, l17);
+t21 = f496(b, l5 + 912ull, l14, l17);
 if (!(t21 & 255u)) { goto L69; }
 goto L7;
 L176:;
@@ -117761,7 +118014,7 @@ L9:;
 put64(b, l5 + 184, l2);
 put64(b, l5 + 176, l0);
 put8(b, l5 + 168, l35);
-t34 = f402(b, l5 + 120ull, l5 + 168ull);
+t34 = f400(b, l5 + 120ull, l5 + 168ull);
 l32 = t34;
 l0 = get64(b, l5 + 136);
 l2 = get64(b, l5 + 120);
@@ -117777,10 +118030,10 @@ if (!get64(b, l5 + 928)) { goto L266; }
 rattle_dealloc(b, get64(b, l5 + 912));
 L266:;
 if (get8(b, l5 + 936) != 1u) { goto L267; }
-f546(b, get64(b, l5 + 944));
+f544(b, get64(b, l5 + 944));
 L267:;
 if (l36 != 1u) { goto L6; }
-f546(b, l12);
+f544(b, l12);
 L6:;
 if ((l35 & 255u) != 1u) { goto L5; }
 l2 = get64(b, l8);

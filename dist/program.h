@@ -5,8 +5,8 @@ typedef struct {
 } Row;
 
 #define VERSION "1.0"
-#define SOURCES "02c8cafa96734c47f5f55cb1608082236362b280568fc3be9b49101e53bf439b"
-#define KIT "rattle-kit-13f logic dac8208d650f15bf"
+#define SOURCES "5c781327c0cae98f1d17ddcf37a7420cc2beecf044a1358a5c664a76dd3cdaab"
+#define KIT "rattle-kit-13b logic dac8208d650f15bf"
 static const Row rows[] = {
     {"program", "igesolid", "all", "judges the solids of a file, and writes and checks certificates"},
     {"program", "igesolid-where", "rest", "reports where a solid fails"},
