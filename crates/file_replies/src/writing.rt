@@ -8,31 +8,42 @@ ghost use Rattle.std.specs.Prelude.{◌≡◌, ◌<◌, ◌≤◌, Err, IfOk, Li
 use command_replies::{Answer, Reply, too_large};
 use iges_base::{Bytes, FILE_LIMIT, NoMemory};
 use iges_params::File;
-use iges_write::{WriteFileFault, into_text, write_file};
+use iges_write::{WriteFileFault, into_text, records_room, write_file};
 use std::alloc::Global;
 
 // The memory of a file with so many entries serves for its text.
 const MANY_ENTRIES: usize = 10_000;
 
-// The text of a file that isn't needed any more: its memory serves for the text if it is to be freed, else it is left to the system.
-fn text_of(alloc: Global, file: File, freed: bool) -> Result<Bytes, WriteFileFault>
+// What becomes of the memory of a file that isn't needed any more.
+#[derive(Clone, Copy)]
+enum Left {
+    /// It serves for the text, of whose records so many bytes get room at once.
+    Freed(usize),
+    /// It is left to the system.
+    Kept,
+}
+
+// The text of a file that isn't needed any more.
+fn text_of(alloc: Global, file: File, left: Left) -> Result<Bytes, WriteFileFault>
     ensures found { IfOk result (IsText file) }
     ensures within { IfOk result (λ bytes. length bytes ≤ FILE_LIMIT) }
     ensures large { result ≡ Err WriteFileFault.TooLarge → (bytes : List ℕ) → IsText file bytes
         → FILE_LIMIT < length bytes }
 {
-    if freed {
-        return into_text(alloc, file, FILE_LIMIT);
+    match left {
+        Left::Freed(room) => into_text(alloc, file, FILE_LIMIT, room),
+        Left::Kept => {
+            let text = write_file(alloc, &file, FILE_LIMIT);
+            file.memory().release(file);
+            text
+        }
     }
-    let text = write_file(alloc, &file, FILE_LIMIT);
-    file.memory().release(file);
-    text
 }
 
-fn written_by(alloc: Global, file: File, freed: bool) -> Result<Reply, NoMemory>
+fn written_by(alloc: Global, file: File, left: Left) -> Result<Reply, NoMemory>
     ensures { IfOk result (λ reply. OfWritten file reply.answer reply.text) }
 {
-    match text_of(alloc, file, freed) {
+    match text_of(alloc, file, left) {
         Ok(text) => Ok(Reply {
             answer: Answer::Done,
             text,
@@ -46,13 +57,18 @@ fn written_by(alloc: Global, file: File, freed: bool) -> Result<Reply, NoMemory>
 pub fn written(alloc: Global, file: File) -> Result<Reply, NoMemory>
     ensures { IfOk result (λ reply. OfWritten file reply.answer reply.text) }
 {
-    let freed = file.entry_count() >= MANY_ENTRIES;
-    written_by(alloc, file, freed)
+    let left = if file.entry_count() >= MANY_ENTRIES {
+        Left::Freed(0)
+    } else {
+        Left::Kept
+    };
+    written_by(alloc, file, left)
 }
 
 /// The same of a file that may be many times as long as the one that was read.
 pub fn written_new(alloc: Global, file: File) -> Result<Reply, NoMemory>
     ensures { IfOk result (λ reply. OfWritten file reply.answer reply.text) }
 {
-    written_by(alloc, file, true)
+    let room = records_room(&file);
+    written_by(alloc, file, Left::Freed(room))
 }

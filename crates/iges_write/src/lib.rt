@@ -9,9 +9,11 @@ mod fault;
 mod law;
 mod line_text;
 mod page;
+mod room;
 mod start;
 mod writing;
 
 pub use fault::WriteFileFault;
 pub use law::{every_file_has_one_text, every_read_file_can_be_made, every_text_reads_back};
+pub use room::records_room;
 pub use writing::{into_text, write_file};

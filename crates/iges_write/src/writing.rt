@@ -18,13 +18,11 @@ use crate::counts::{Counts, put_terminate};
 use crate::entries::put_entries;
 use crate::fault::WriteFileFault;
 use crate::page::Page;
+use crate::room::LINE_SIZE;
 use crate::start::put_start;
 use iges_base::{Bytes, FILE_LIMIT};
 use iges_params::File;
 use std::alloc::Global;
-
-/// The bytes of a line, LF among them.
-const LINE_SIZE: usize = 81;
 
 /// So many entries are few.
 const FEW_ENTRIES: usize = 10_000;
@@ -94,7 +92,8 @@ fn put_pages(front: &mut Page, params: &mut Page, file: &File) -> Result<Counts,
     })
 }
 
-fn pages_of(alloc: Global, file: &File, limit: u64) -> Result<Pages, WriteFileFault>
+// The records' page has room for so many bytes.
+fn pages_of(alloc: Global, file: &File, limit: u64, room: usize) -> Result<Pages, WriteFileFault>
     requires { limit ≤ FILE_LIMIT }
     ensures made { IfOk result (λ pages. ArePages limit file.now pages.front pages.params pages.counts) }
     ensures fault { IfErr result (λ fault. Fails fault (file_sheet limit file.now)) }
@@ -102,6 +101,7 @@ fn pages_of(alloc: Global, file: &File, limit: u64) -> Result<Pages, WriteFileFa
 {
     let mut front = Page::new(alloc, limit, b'S', 72);
     let mut params = Page::new(alloc, limit, b'P', 64);
+    params.reserve(room);
     let counts = put_pages(&mut front, &mut params, file)?;
     Ok(Pages {
         front,
@@ -133,17 +133,17 @@ fn write(alloc: Global, file: &File, limit: u64) -> Result<Bytes, WriteFileFault
     ensures text { Writes limit result (text_of file.now) }
     ensures writable { OnOk result (IsWritable file.now) }
 {
-    let pages = pages_of(alloc, file, limit)?;
+    let pages = pages_of(alloc, file, limit, 0)?;
     joined(alloc, pages)
 }
 
 // The same of a file that isn't needed any more. Its memory serves for the whole text.
-fn write_taken(alloc: Global, file: File, limit: u64) -> Result<Bytes, WriteFileFault>
+fn write_taken(alloc: Global, file: File, limit: u64, room: usize) -> Result<Bytes, WriteFileFault>
     requires { limit ≤ FILE_LIMIT }
     ensures text { Writes limit result (text_of file) }
     ensures writable { OnOk result (IsWritable file) }
 {
-    let pages = pages_of(alloc, &file, limit);
+    let pages = pages_of(alloc, &file, limit, room);
     drop(file);
     joined(alloc, pages?)
 }
@@ -165,8 +165,14 @@ pub fn write_file(alloc: Global, file: &File, limit: u64) -> Result<Bytes, Write
     write(alloc, file, limit)
 }
 
-/// The same as `write_file`, of a file that isn't needed any more: its memory serves for the text.
-pub fn into_text(alloc: Global, file: File, limit: u64) -> Result<Bytes, WriteFileFault>
+/// The same as `write_file`, of a file that isn't needed any more: its memory serves for the text. If there is memory for it, room for
+/// so many bytes of records is taken at once, so that the text isn't moved as it grows.
+pub fn into_text(
+    alloc: Global,
+    file: File,
+    limit: u64,
+    room: usize,
+) -> Result<Bytes, WriteFileFault>
     requires { limit ≤ FILE_LIMIT }
     ensures found { IfOk result (IsText file) }
     ensures within { IfOk result (λ bytes. length bytes ≤ limit) }
@@ -178,5 +184,5 @@ pub fn into_text(alloc: Global, file: File, limit: u64) -> Result<Bytes, WriteFi
     ensures only_large { (bytes : List ℕ) → IsText file bytes → limit < length bytes
         → Gives result (Err WriteFileFault.TooLarge) }
 {
-    write_taken(alloc, file, limit)
+    write_taken(alloc, file, limit, room)
 }

@@ -1,5 +1,5 @@
 -- Remedies that are taken, one of each shell.
-use Rattle.std.specs.Prelude.{◌≡◌, ℕ, ◌+◌, ◌<◌, get_or, List, [], ◌∷◌, ◌++◌, All, length, take, Some, slice_get}
+use Rattle.std.specs.Prelude.{◌≡◌, ℕ, ◌+◌, ◌<◌, get_or, List, [], ◌∷◌, ◌++◌, All, IfSome, Option, None, length, take, Some, slice_get}
 use Rattle.std.specs.List.{AllByRecursion, AllZip, enumerate_from}
 use Rattle.std.proofs.Common.{refl, sym, ◌∙◌, ap, subst, inl, inr}
 use Rattle.std.proofs.lemmas.Option.{get_or_from_slice_get}
@@ -18,7 +18,8 @@ use Rattle.solid_geometry.specs.Known.{IsGeometryOf}
 use Rattle.changed_file.specs.Changed.{changed}
 use Rattle.iges_params.proofs.Copies.{one_more}
 use Rattle.solid_mend.specs.Failing.{AreOfFailing, OneEach}
-use Rattle.solid_mend.specs.Mended.{AreClosed, AreRemediesOf, AreTriedOf, IsMended, IsTakenOf, IsWhole, shell_of_change, shell_of_remedies}
+use Rattle.solid_mend.specs.Mended.{AreRemediesOf, AreTriedOf, IsMadeWith, IsMended, IsTakenOf, IsWhole, shell_of_change, shell_of_remedies}
+use Rattle.solid_mend.specs.declared.mending.Mended.{Mended}
 use Rattle.solid_mend.specs.declared.shells.ShellRemedies.{ShellRemedies}
 
 -- lists that are zipped, one more each
@@ -68,18 +69,23 @@ module _ (s : SolidData) (g : Geometry) where
   all_failing (h ∷ hs) (x ∷ xs) (c ∷ cs) tried are (inl (k, of)) = inl (k, all_failing hs (x ∷ xs) (c ∷ cs) tried are of)
   all_failing (h ∷ hs) (x ∷ xs) (c ∷ cs) tried are (inr (f, e, of)) = inr (f, shell_of x c tried.0 are.0 ∙ e, all_failing hs xs cs tried.1 are.1 of)
 
-pub mended_so : (f : Contents) (n : ℕ) (s : SolidData) (xs : List ShellRemedies) (cs : List Change) (new from : Contents) (m : ℕ) → s ≡ solid_of f n
-    → AreRemediesOf f s xs → AllZip IsTakenOf xs cs → new ≡ changed f s cs → from ≡ new → AreClosed new n m → m ≡ length f.entries → IsMended f n cs from
-mended_so f n s xs cs new from m es r are is same closed em = subst (λ (c : Contents). IsMended f n cs c) (sym same) made
-  where
-    made : IsMended f n cs new
-    made = record {
-      geometry = r.geometry;
-      known = subst (λ (t : SolidData). IsGeometryOf f t r.geometry) es r.known;
-      failing = subst (λ (t : SolidData). OneEach shell_of_change t cs) es
-          (all_failing s r.geometry (enumerate_from 0 s.shells) xs cs (recursion_from_All (AreTriedOf s r.geometry) xs r.tried) are r.failing);
-      whole = subst (λ (t : SolidData). All (IsWhole t r.geometry) cs) es
-          (All-from_recursion (IsWhole s r.geometry) cs (all_whole s r.geometry xs cs (recursion_from_All (AreTriedOf s r.geometry) xs r.tried) are));
-      is = is ∙ ap (λ (t : SolidData). changed f t cs) es;
-      closed = subst (AreClosed new n) em closed;
-    }
+module _ (f : Contents) (n : ℕ) (s : SolidData) (xs : List ShellRemedies) (cs : List Change) (es : s ≡ solid_of f n) (r : AreRemediesOf f s xs)
+    (are : AllZip IsTakenOf xs cs) where
+  mended_so : (m : Mended) → IsMadeWith f s n cs m → IsMended f n m.changes m.file
+  mended_so m w = subst (λ (ds : List Change). IsMended f n ds m.file) (sym w.changes) made
+    where
+      made : IsMended f n cs m.file
+      made = record {
+        geometry = r.geometry;
+        known = subst (λ (t : SolidData). IsGeometryOf f t r.geometry) es r.known;
+        failing = subst (λ (t : SolidData). OneEach shell_of_change t cs) es
+            (all_failing s r.geometry (enumerate_from 0 s.shells) xs cs (recursion_from_All (AreTriedOf s r.geometry) xs r.tried) are r.failing);
+        whole = subst (λ (t : SolidData). All (IsWhole t r.geometry) cs) es
+            (All-from_recursion (IsWhole s r.geometry) cs (all_whole s r.geometry xs cs (recursion_from_All (AreTriedOf s r.geometry) xs r.tried) are));
+        is = w.is ∙ ap (λ (t : SolidData). changed f t cs) es;
+        closed = w.closed;
+      }
+
+  pub mended_if : (o : Option Mended) → IfSome o (IsMadeWith f s n cs) → IfSome o (λ m. IsMended f n m.changes m.file)
+  mended_if None w = tt
+  mended_if (Some m) w = mended_so m w

@@ -1,6 +1,5 @@
 -- A mended file.
 use Rattle.std.specs.Prelude.{◌≡◌, ℕ, ◌+◌, ◌*◌, ◌≤◌, List, [], All, Contains, length, IsTrue}
-use Rattle.std.specs.List.{AllZip}
 use Rattle.solid_data.specs.SolidData.{SolidData}
 use Rattle.iges_params.specs.Contents.{Contents}
 use Rattle.iges_params.specs.Solids.{is_solid_at}
@@ -14,6 +13,7 @@ use Rattle.tried_remedies.specs.Tried.{AreTried}
 use Rattle.solid_geometry.specs.Known.{IsGeometryOf}
 use Rattle.changed_file.specs.Changed.{changed}
 use Rattle.solid_mend.specs.Failing.{OneEach}
+use Rattle.solid_mend.specs.declared.mending.Mended.{Mended}
 use Rattle.solid_mend.specs.declared.mending.Mending.{Mending}
 use Rattle.solid_mend.specs.declared.mending.Mending.TheVariants as mending
 use Rattle.solid_mend.specs.declared.shells.ShellRemedies.{ShellRemedies}
@@ -56,10 +56,11 @@ pub record IsTakenOf (x : ShellRemedies) (c : Change) : Type 0 where
   pub is : c ≡ remedy.change
   pub rims : c.rims ≡ []
 
--- the file with changes of remedies that were taken, one of each shell
-pub record IsDraftOf (f : Contents) (s : SolidData) (xs : List ShellRemedies) (cs : List Change) (new : Contents) : Type 0 where
-  pub taken : AllZip IsTakenOf xs cs
-  pub is : new ≡ changed f s cs
+-- what was made of solid n of f with these changes of its shells, in which all is closed
+pub record IsMadeWith (f : Contents) (s : SolidData) (n : ℕ) (cs : List Change) (m : Mended) : Type 0 where
+  pub changes : m.changes ≡ cs
+  pub is : m.file ≡ changed f s cs
+  pub closed : AreClosed m.file n (length f.entries)
 
 -- the remedies of the shells that fail, each tried under the geometry of the file's records
 pub record AreRemediesOf (f : Contents) (s : SolidData) (xs : List ShellRemedies) : Type 0 where

@@ -2,8 +2,10 @@
 
 ghost use Rattle.brep_walk.specs.SolidOf.{solid_of};
 ghost use Rattle.changed_file.specs.Changed.{changed as changed_contents};
-ghost use Rattle.solid_mend.specs.Mended.{AreClosed, AreRemediesOf, IsDraftOf, IsMendingOf};
-ghost use Rattle.std.specs.Prelude.{◌≡◌, IfOk, IfSome};
+ghost use Rattle.iges_params.specs.Contents.{Contents};
+ghost use Rattle.solid_mend.specs.Mended.{AreClosed, AreRemediesOf, IsMadeWith, IsMended, IsMendingOf, IsTakenOf};
+ghost use Rattle.std.specs.List.{AllZip};
+ghost use Rattle.std.specs.Prelude.{◌≡◌, ℕ, IfOk, IfSome};
 
 use crate::judging::are_closed;
 use crate::shells::{ShellRemedies, remedies_of};
@@ -71,51 +73,59 @@ fn new_file(
     }
 }
 
-// A file with changes that isn't judged yet: the fields of what was mended.
+// The changes that are taken, one of each shell, and their numbers.
 #[derive(Drop)]
-struct Draft {
-    file: File,
+struct Taken {
     changes: ItemList<Change>,
     numbers: Vec<usize>,
 }
 
-// The file with these remedies.
-fn drafted(
-    alloc: Global,
-    file: &File,
-    solid: &Solid,
-    found: &[ShellRemedies],
-    wanted: usize,
-) -> Result<Option<Draft>, NoMemory>
-    ensures { IfOk result (λ o. IfSome o (λ draft. IsDraftOf file.now solid.now found.now draft.changes draft.file)) }
+fn taken_of(alloc: Global, found: &[ShellRemedies], wanted: usize) -> Result<Option<Taken>, NoMemory>
+    ensures { IfOk result (λ o. IfSome o (λ taken. AllZip IsTakenOf found.now taken.changes)) }
 {
     let Some(changes) = changes_of(alloc, found, wanted)? else {
         return Ok(None);
     };
     let numbers = numbers_of(alloc, found, wanted)?;
-    match new_file(alloc, file, solid, changes.as_slice())? {
-        Some(file) => Ok(Some(Draft {
-            file,
-            changes,
-            numbers,
-        })),
-        None => Ok(None),
-    }
+    Ok(Some(Taken { changes, numbers }))
 }
 
-// The file, if all is closed in it.
-fn judged(alloc: Global, draft: Draft, no: EntryNo, from: usize) -> Result<Option<Mended>, NoMemory>
-    ensures { IfOk result (λ o. IfSome o (λ m. (m.file ≡ draft.file) × (m.changes ≡ draft.changes)
-        × AreClosed draft.file no.0 from)) }
+// The file with these changes, if all is closed in it.
+fn judged(
+    alloc: Global,
+    new: File,
+    taken: Taken,
+    no: EntryNo,
+    from: usize,
+) -> Result<Option<Mended>, NoMemory>
+    ensures { IfOk result (λ o. IfSome o (λ m. (m.file ≡ new) × (m.changes ≡ taken.changes) × AreClosed new no.0 from)) }
 {
-    if !are_closed(alloc, &draft.file, no, from)? {
+    if !are_closed(alloc, &new, no, from)? {
         return Ok(None);
     }
     Ok(Some(Mended {
-        file: draft.file,
-        changes: draft.changes,
-        numbers: draft.numbers,
+        file: new,
+        changes: taken.changes,
+        numbers: taken.numbers,
     }))
+}
+
+// The same, where the changes are those of a solid, which gives its memory back before the file is judged.
+fn made_with(
+    alloc: Global,
+    file: &File,
+    no: EntryNo,
+    solid: Solid,
+    taken: Taken,
+) -> Result<Option<Mended>, NoMemory>
+    ensures { IfOk result (λ o. IfSome o (IsMadeWith file.now solid no.0 taken.changes)) }
+{
+    let new = new_file(alloc, file, &solid, taken.changes.as_slice());
+    drop(solid);
+    match new? {
+        Some(new) => judged(alloc, new, taken, no, file.entry_count()),
+        None => Ok(None),
+    }
 }
 
 // Whether all is closed with these remedies.
@@ -127,8 +137,11 @@ fn is_made(
     found: &[ShellRemedies],
     wanted: usize,
 ) -> Result<bool, NoMemory> {
-    match drafted(alloc, file, solid, found, wanted)? {
-        Some(draft) => Ok(judged(alloc, draft, no, file.entry_count())?.is_some()),
+    let Some(taken) = taken_of(alloc, found, wanted)? else {
+        return Ok(false);
+    };
+    match new_file(alloc, file, solid, taken.changes.as_slice())? {
+        Some(new) => Ok(judged(alloc, new, taken, no, file.entry_count())?.is_some()),
         None => Ok(false),
     }
 }
@@ -183,7 +196,16 @@ fn unmended_by(
     Ok(None)
 }
 
-// The file with these remedies. The solid and they give their memory back before it is judged.
+fn mending_by(made: Option<Mended>) -> Mending
+    ensures { (f : Contents) (n : ℕ) → IfSome made (λ m. IsMended f n m.changes m.file) → IsMendingOf f n result }
+{
+    match made {
+        Some(mended) => Mending::Mended(mended),
+        None => Mending::Unmended(Unmended::Stuck),
+    }
+}
+
+// The file with these remedies, which give their memory back before it is made.
 fn made(
     alloc: Global,
     file: &File,
@@ -196,14 +218,10 @@ fn made(
     requires remedies { AreRemediesOf file.now solid found.items }
     ensures { IfOk result (IsMendingOf file.now no.0) }
 {
-    let draft = drafted(alloc, file, &solid, found.as_slice(), wanted);
+    let taken = taken_of(alloc, found.as_slice(), wanted);
     drop(found);
-    drop(solid);
-    let Some(draft) = draft? else {
-        return Ok(Mending::Unmended(Unmended::Stuck));
-    };
-    match judged(alloc, draft, no, file.entry_count())? {
-        Some(mended) => Ok(Mending::Mended(mended)),
+    match taken? {
+        Some(taken) => Ok(mending_by(made_with(alloc, file, no, solid, taken)?)),
         None => Ok(Mending::Unmended(Unmended::Stuck)),
     }
 }
