@@ -80,7 +80,11 @@ struct Taken {
     numbers: Vec<usize>,
 }
 
-fn taken_of(alloc: Global, found: &[ShellRemedies], wanted: usize) -> Result<Option<Taken>, NoMemory>
+fn taken_of(
+    alloc: Global,
+    found: &[ShellRemedies],
+    wanted: usize,
+) -> Result<Option<Taken>, NoMemory>
     ensures { IfOk result (λ o. IfSome o (λ taken. AllZip IsTakenOf found.now taken.changes)) }
 {
     let Some(changes) = changes_of(alloc, found, wanted)? else {
