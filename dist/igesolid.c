@@ -622,7 +622,7 @@ FN void f36(B b, u64 l0);
 FN u32 f37(B b, u64 l0);
 FN u32 f38(B b, u64 l0);
 FN void f39(B b, u64 l0, u64 l1);
-FN void f40(B b, u64 l0, u64 l1, u32 l2);
+FN void f40(B b, u64 l0, u64 l1, u32 l2, u64 l3);
 FN void f41(B b, u64 l0);
 FN void f42(B b, u64 l0);
 FN void f43(B b, u64 l0);
@@ -734,7 +734,7 @@ FN void f148(B b, u64 l0, u64 l1);
 FN void f149(B b, u64 l0, u64 l1, u64 l2, u64 l3, u64 l4, u64 l5);
 FN u32 f150(B b, u64 l0, u64 l1);
 FN void f151(B b, u64 l0);
-FN void f152(B b, u64 l0, u64 l1);
+FN void f152(B b, u64 l0, u64 l1, u64 l2);
 FN void f153(B b, u64 l0);
 FN void f154(B b, u64 l0, u64 l1);
 FN void f155(B b, u64 l0);
@@ -782,133 +782,133 @@ FN void f196(B b, u64 l0);
 FN void f197(B b, u64 l0, u64 l1, u64 l2, u32 l3, u64 l4);
 FN u32 f198(B b, u64 l0);
 FN void f199(B b, u64 l0);
-FN void f200(B b, u64 l0, u64 l1, u64 l2, u64 l3, u64 l4, u64 l5);
-FN void f201(B b, u64 l0, u64 l1, u32 l2, u64 l3);
-FN void f202(B b, u64 l0);
-FN u32 f203(B b, u64 l0);
+FN void f200(B b, u64 l0, u64 l1, u64 l2, u64 l3);
+FN void f201(B b, u64 l0, u64 l1, u64 l2, u64 l3, u64 l4);
+FN void f202(B b, u64 l0, u64 l1, u64 l2, u32 l3, u64 l4);
+FN void f203(B b, u64 l0);
 FN u32 f204(B b, u64 l0);
-FN u32 f205(B b, u64 l0, u64 l1);
-FN void f206(B b, u64 l0);
-FN void f207(B b, u64 l0, u64 l1, u64 l2);
-FN void f208(B b, u64 l0, u64 l1, u32 l2);
-FN void f209(B b, u64 l0, u64 l1, u64 l2);
-FN u32 f210(B b, u64 l0);
-FN void f211(B b, u64 l0, u64 l1, u64 l2);
-FN void f212(B b, u64 l0, u64 l1, u64 l2, u64 l3);
+FN u32 f205(B b, u64 l0);
+FN u32 f206(B b, u64 l0, u64 l1);
+FN void f207(B b, u64 l0);
+FN void f208(B b, u64 l0, u64 l1, u64 l2);
+FN void f209(B b, u64 l0, u64 l1, u32 l2);
+FN void f210(B b, u64 l0, u64 l1, u64 l2);
+FN u32 f211(B b, u64 l0);
+FN void f212(B b, u64 l0, u64 l1, u64 l2);
 FN void f213(B b, u64 l0, u64 l1, u64 l2, u64 l3);
-FN void f214(B b, u64 l0, u64 l1, u64 l2);
-FN void f215(B b, u64 l0, u32 l1, u32 l2);
-FN u32 f216(B b, u64 l0);
+FN void f214(B b, u64 l0, u64 l1, u64 l2, u64 l3);
+FN void f215(B b, u64 l0, u64 l1, u64 l2);
+FN void f216(B b, u64 l0, u32 l1, u32 l2);
 FN u32 f217(B b, u64 l0);
-FN void f218(B b, u64 l0);
-FN u32 f219(B b, u64 l0, u64 l1, u64 l2, u64 l3);
-FN u32 f220(B b, u64 l0, u64 l1, u64 l2);
-FN void f221(B b, u64 l0, u64 l1, u64 l2, u64 l3, u64 l4);
-FN u32 f222(B b, u64 l0);
-FN u32 f223(B b, u64 l0, u64 l1, u64 l2);
-FN u32 f224(B b, u64 l0, u64 l1);
-FN void f225(B b, u64 l0);
-FN void f226(B b, u64 l0, u64 l1, u64 l2);
-FN u32 f227(B b, u64 l0);
-FN void f228(B b, u64 l0, u64 l1, u64 l2);
-FN u32 f229(B b, u64 l0);
-FN u32 f230(B b, u64 l0, u64 l1);
-FN void f231(B b, u64 l0, u64 l1, u32 l2);
-FN void f232(B b, u64 l0, u64 l1);
-FN void f233(B b, u64 l0);
-FN u32 f234(B b, u64 l0);
+FN u32 f218(B b, u64 l0);
+FN void f219(B b, u64 l0);
+FN u32 f220(B b, u64 l0, u64 l1, u64 l2, u64 l3);
+FN u32 f221(B b, u64 l0, u64 l1, u64 l2);
+FN void f222(B b, u64 l0, u64 l1, u64 l2, u64 l3, u64 l4);
+FN u32 f223(B b, u64 l0);
+FN u32 f224(B b, u64 l0, u64 l1, u64 l2);
+FN u32 f225(B b, u64 l0, u64 l1);
+FN void f226(B b, u64 l0);
+FN void f227(B b, u64 l0, u64 l1, u64 l2);
+FN u32 f228(B b, u64 l0);
+FN void f229(B b, u64 l0, u64 l1, u64 l2);
+FN u32 f230(B b, u64 l0);
+FN u32 f231(B b, u64 l0, u64 l1);
+FN void f232(B b, u64 l0, u64 l1, u32 l2);
+FN void f233(B b, u64 l0, u64 l1);
+FN void f234(B b, u64 l0);
 FN u32 f235(B b, u64 l0);
-FN void f236(B b, u64 l0, u64 l1, u64 l2);
-FN u32 f237(B b, u64 l0);
+FN u32 f236(B b, u64 l0);
+FN void f237(B b, u64 l0, u64 l1, u64 l2);
 FN u32 f238(B b, u64 l0);
 FN u32 f239(B b, u64 l0);
-FN void f240(B b, u64 l0, u64 l1, u64 l2, u64 l3);
-FN u32 f241(B b, u64 l0);
-FN void f242(B b, u64 l0, u64 l1, u64 l2);
-FN void f243(B b, u64 l0, u64 l1, u64 l2, u64 l3);
-FN u32 f244(B b, u64 l0);
+FN u32 f240(B b, u64 l0);
+FN void f241(B b, u64 l0, u64 l1, u64 l2, u64 l3);
+FN u32 f242(B b, u64 l0);
+FN void f243(B b, u64 l0, u64 l1, u64 l2);
+FN void f244(B b, u64 l0, u64 l1, u64 l2, u64 l3);
 FN u32 f245(B b, u64 l0);
-FN u32 f246(B b, u64 l0, u64 l1);
+FN u32 f246(B b, u64 l0);
 FN u32 f247(B b, u64 l0, u64 l1);
-FN u32 f248(B b, u64 l0);
+FN u32 f248(B b, u64 l0, u64 l1);
 FN u32 f249(B b, u64 l0);
 FN u32 f250(B b, u64 l0);
-FN void f251(B b, u64 l0, u64 l1, u64 l2, u32 l3);
-FN u32 f252(B b, u64 l0);
-FN void f253(B b, u64 l0, u64 l1, u64 l2, u32 l3);
-FN u32 f254(B b, u64 l0, u64 l1);
+FN u32 f251(B b, u64 l0);
+FN void f252(B b, u64 l0, u64 l1, u64 l2, u32 l3);
+FN u32 f253(B b, u64 l0);
+FN void f254(B b, u64 l0, u64 l1, u64 l2, u32 l3);
 FN u32 f255(B b, u64 l0, u64 l1);
 FN u32 f256(B b, u64 l0, u64 l1);
-FN void f257(B b, u64 l0, u64 l1, u64 l2, u64 l3);
-FN void f258(B b, u64 l0, u64 l1, u64 l2, u64 l3, u64 l4);
-FN void f259(B b, u64 l0, u64 l1, u64 l2);
+FN u32 f257(B b, u64 l0, u64 l1);
+FN void f258(B b, u64 l0, u64 l1, u64 l2, u64 l3);
+FN void f259(B b, u64 l0, u64 l1, u64 l2, u64 l3, u64 l4);
 FN void f260(B b, u64 l0, u64 l1, u64 l2);
-FN void f261(B b, u64 l0, u64 l1, u64 l2, u64 l3, u64 l4);
-FN void f262(B b, u64 l0, u64 l1, u64 l2, u64 l3);
-FN void f263(B b, u64 l0, u64 l1, u64 l2, u64 l3, u64 l4);
-FN void f264(B b, u64 l0, u64 l1, u64 l2, u64 l3, u64 l4, u64 l5, u32 l6);
-FN u32 f265(B b, u64 l0);
-FN void f266(B b, u64 l0);
-FN void f267(B b, u64 l0, u64 l1, u64 l2, u64 l3, u64 l4, u64 l5);
-FN u32 f268(B b, u64 l0, u64 l1);
-FN u32 f269(B b, u64 l0);
-FN void f270(B b, u64 l0, u64 l1, u64 l2, u32 l3);
-FN u32 f271(B b, u64 l0);
-FN void f272(B b, u64 l0);
-FN u32 f273(B b, u64 l0);
-FN void f274(B b, u64 l0, u64 l1, u64 l2);
-FN void f275(B b, u64 l0, u64 l1, u64 l2, u64 l3);
-FN void f276(B b, u64 l0, u64 l1, u64 l2);
-FN void f277(B b, u64 l0, u64 l1, u64 l2, u32 l3, u64 l4);
-FN void f278(B b, u64 l0, u64 l1, u64 l2, u64 l3, u64 l4, u32 l5, u32 l6, u64 l7, u64 l8, u64 l9);
-FN void f279(B b, u64 l0, u64 l1, u64 l2);
-FN u64 f280(B b, u64 l0, u64 l1, u64 l2, u64 l3);
-FN u64 f281(B b, u64 l0, u64 l1, u64 l2, u64 l3, u64 l4);
-FN void f282(B b, u64 l0, u64 l1, u64 l2);
+FN void f261(B b, u64 l0, u64 l1, u64 l2);
+FN void f262(B b, u64 l0, u64 l1, u64 l2, u64 l3, u64 l4);
+FN void f263(B b, u64 l0, u64 l1, u64 l2, u64 l3);
+FN void f264(B b, u64 l0, u64 l1, u64 l2, u64 l3, u64 l4);
+FN void f265(B b, u64 l0, u64 l1, u64 l2, u64 l3, u64 l4, u64 l5, u32 l6);
+FN u32 f266(B b, u64 l0);
+FN void f267(B b, u64 l0);
+FN void f268(B b, u64 l0, u64 l1, u64 l2, u64 l3, u64 l4, u64 l5);
+FN u32 f269(B b, u64 l0, u64 l1);
+FN u32 f270(B b, u64 l0);
+FN void f271(B b, u64 l0, u64 l1, u64 l2, u32 l3);
+FN u32 f272(B b, u64 l0);
+FN void f273(B b, u64 l0);
+FN u32 f274(B b, u64 l0);
+FN void f275(B b, u64 l0, u64 l1, u64 l2);
+FN void f276(B b, u64 l0, u64 l1, u64 l2, u64 l3);
+FN void f277(B b, u64 l0, u64 l1, u64 l2);
+FN void f278(B b, u64 l0, u64 l1, u64 l2, u32 l3, u64 l4);
+FN void f279(B b, u64 l0, u64 l1, u64 l2, u64 l3, u64 l4, u32 l5, u32 l6, u64 l7, u64 l8, u64 l9);
+FN void f280(B b, u64 l0, u64 l1, u64 l2);
+FN u64 f281(B b, u64 l0, u64 l1, u64 l2, u64 l3);
+FN u64 f282(B b, u64 l0, u64 l1, u64 l2, u64 l3, u64 l4);
 FN void f283(B b, u64 l0, u64 l1, u64 l2);
-FN void f284(B b, u64 l0, u64 l1, u64 l2, u64 l3);
-FN void f285(B b, u64 l0, u64 l1, u64 l2);
-FN void f286(B b, u64 l0, u64 l1, u64 l2, u32 l3, u64 l4);
-FN void f287(B b, u64 l0, u64 l1, u64 l2, u64 l3, u64 l4, u32 l5, u32 l6, u64 l7, u64 l8, u64 l9);
-FN void f288(B b, u64 l0, u64 l1, u64 l2);
-FN u64 f289(B b, u64 l0, u64 l1, u64 l2, u64 l3, u64 l4);
-FN void f290(B b, u64 l0, u64 l1, u64 l2);
+FN void f284(B b, u64 l0, u64 l1, u64 l2);
+FN void f285(B b, u64 l0, u64 l1, u64 l2, u64 l3);
+FN void f286(B b, u64 l0, u64 l1, u64 l2);
+FN void f287(B b, u64 l0, u64 l1, u64 l2, u32 l3, u64 l4);
+FN void f288(B b, u64 l0, u64 l1, u64 l2, u64 l3, u64 l4, u32 l5, u32 l6, u64 l7, u64 l8, u64 l9);
+FN void f289(B b, u64 l0, u64 l1, u64 l2);
+FN u64 f290(B b, u64 l0, u64 l1, u64 l2, u64 l3, u64 l4);
 FN void f291(B b, u64 l0, u64 l1, u64 l2);
-FN void f292(B b, u64 l0, u64 l1, u64 l2, u64 l3);
-FN u32 f293(B b, u64 l0, u64 l1);
-FN void f294(B b, u64 l0, u64 l1, u64 l2, u64 l3);
-FN u32 f295(B b, u64 l0);
-FN void f296(B b, u64 l0, u64 l1, u64 l2, u64 l3);
-FN u32 f297(B b, u64 l0);
-FN u32 f298(B b, u64 l0, u64 l1);
+FN void f292(B b, u64 l0, u64 l1, u64 l2);
+FN void f293(B b, u64 l0, u64 l1, u64 l2, u64 l3);
+FN u32 f294(B b, u64 l0, u64 l1);
+FN void f295(B b, u64 l0, u64 l1, u64 l2, u64 l3);
+FN u32 f296(B b, u64 l0);
+FN void f297(B b, u64 l0, u64 l1, u64 l2, u64 l3);
+FN u32 f298(B b, u64 l0);
 FN u32 f299(B b, u64 l0, u64 l1);
-FN void f300(B b, u64 l0, u64 l1, u64 l2, u64 l3, u64 l4, u64 l5, u32 l6);
-FN u32 f301(B b, u64 l0);
-FN void f302(B b, u64 l0, u64 l1, u64 l2, u64 l3, u64 l4, u64 l5);
-FN u32 f303(B b, u64 l0);
-FN u32 f304(B b, u64 l0, u64 l1);
-FN void f305(B b, u64 l0, u64 l1, u64 l2, u64 l3, u32 l4, u32 l5, u32 l6);
-FN void f306(B b, u64 l0, u64 l1, u64 l2, u64 l3, u64 l4, u64 l5);
-FN void f307(B b, u64 l0, u64 l1, u32 l2);
-FN u32 f308(B b, u64 l0, u32 l1, u32 l2, u32 l3);
-FN void f309(B b, u64 l0, u64 l1, u64 l2, u64 l3);
-FN void f310(B b, u64 l0, u64 l1, u64 l2, u64 l3, u32 l4);
-FN u32 f311(B b, u64 l0);
-FN u32 f312(B b, u64 l0, u64 l1, u64 l2, u64 l3);
-FN u32 f313(B b, u64 l0, u32 l1, u32 l2, u32 l3);
-FN void f314(B b, u64 l0, u64 l1, u64 l2, u64 l3, u64 l4, u64 l5);
-FN void f315(B b, u64 l0, u64 l1, u64 l2, u64 l3, u64 l4);
-FN void f316(B b, u64 l0, u64 l1, u64 l2, u64 l3, u64 l4, u64 l5);
+FN u32 f300(B b, u64 l0, u64 l1);
+FN void f301(B b, u64 l0, u64 l1, u64 l2, u64 l3, u64 l4, u64 l5, u32 l6);
+FN u32 f302(B b, u64 l0);
+FN void f303(B b, u64 l0, u64 l1, u64 l2, u64 l3, u64 l4, u64 l5);
+FN u32 f304(B b, u64 l0);
+FN u32 f305(B b, u64 l0, u64 l1);
+FN void f306(B b, u64 l0, u64 l1, u64 l2, u64 l3, u32 l4, u32 l5, u32 l6);
+FN void f307(B b, u64 l0, u64 l1, u64 l2, u64 l3, u64 l4, u64 l5);
+FN void f308(B b, u64 l0, u64 l1, u32 l2);
+FN u32 f309(B b, u64 l0, u32 l1, u32 l2, u32 l3);
+FN void f310(B b, u64 l0, u64 l1, u64 l2, u64 l3);
+FN void f311(B b, u64 l0, u64 l1, u64 l2, u64 l3, u32 l4);
+FN u32 f312(B b, u64 l0);
+FN u32 f313(B b, u64 l0, u64 l1, u64 l2, u64 l3);
+FN u32 f314(B b, u64 l0, u32 l1, u32 l2, u32 l3);
+FN void f315(B b, u64 l0, u64 l1, u64 l2, u64 l3, u64 l4, u64 l5);
+FN void f316(B b, u64 l0, u64 l1, u64 l2, u64 l3, u64 l4);
 FN void f317(B b, u64 l0, u64 l1, u64 l2, u64 l3, u64 l4, u64 l5);
 FN void f318(B b, u64 l0, u64 l1, u64 l2, u64 l3, u64 l4, u64 l5);
-FN u32 f319(B b, u64 l0, u64 l1, u64 l2, u64 l3, u32 l4);
-FN u32 f320(B b, u64 l0);
-FN void f321(B b, u64 l0, u64 l1, u64 l2);
-FN u32 f322(B b, u64 l0);
-FN void f323(B b, u64 l0, u64 l1, u64 l2);
-FN u32 f324(B b, u64 l0);
-FN void f325(B b, u64 l0, u64 l1, u64 l2, u64 l3, u32 l4);
-FN u32 f326(B b, u64 l0);
+FN void f319(B b, u64 l0, u64 l1, u64 l2, u64 l3, u64 l4, u64 l5);
+FN u32 f320(B b, u64 l0, u64 l1, u64 l2, u64 l3, u32 l4);
+FN u32 f321(B b, u64 l0);
+FN void f322(B b, u64 l0, u64 l1, u64 l2);
+FN u32 f323(B b, u64 l0);
+FN void f324(B b, u64 l0, u64 l1, u64 l2);
+FN u32 f325(B b, u64 l0);
+FN void f326(B b, u64 l0, u64 l1, u64 l2, u64 l3, u32 l4);
 FN u32 f327(B b, u64 l0);
 FN u32 f328(B b, u64 l0);
 FN u32 f329(B b, u64 l0);
@@ -916,41 +916,41 @@ FN u32 f330(B b, u64 l0);
 FN u32 f331(B b, u64 l0);
 FN u32 f332(B b, u64 l0);
 FN u32 f333(B b, u64 l0);
-FN void f334(B b, u64 l0, u64 l1, u64 l2, u32 l3, u64 l4);
-FN void f335(B b, u64 l0, u64 l1, u64 l2, u64 l3, u64 l4, u32 l5, u32 l6, u64 l7, u64 l8, u64 l9);
-FN void f336(B b, u64 l0, u64 l1, u64 l2);
+FN u32 f334(B b, u64 l0);
+FN void f335(B b, u64 l0, u64 l1, u64 l2, u32 l3, u64 l4);
+FN void f336(B b, u64 l0, u64 l1, u64 l2, u64 l3, u64 l4, u32 l5, u32 l6, u64 l7, u64 l8, u64 l9);
 FN void f337(B b, u64 l0, u64 l1, u64 l2);
 FN void f338(B b, u64 l0, u64 l1, u64 l2);
-FN void f339(B b, u64 l0, u64 l1, u64 l2, u64 l3);
-FN u32 f340(B b, u64 l0);
+FN void f339(B b, u64 l0, u64 l1, u64 l2);
+FN void f340(B b, u64 l0, u64 l1, u64 l2, u64 l3);
 FN u32 f341(B b, u64 l0);
-FN void f342(B b, u64 l0, u64 l1, u32 l2, u32 l3, u64 l4);
-FN u32 f343(B b, u64 l0);
-FN void f344(B b, u64 l0, u64 l1, u32 l2, u32 l3, u32 l4);
-FN void f345(B b, u64 l0);
-FN u32 f346(B b, u64 l0, u32 l1, u32 l2, u64 l3);
-FN void f347(B b, u64 l0, u32 l1, u64 l2);
-FN void f348(B b, u64 l0);
+FN u32 f342(B b, u64 l0);
+FN void f343(B b, u64 l0, u64 l1, u32 l2, u32 l3, u64 l4);
+FN u32 f344(B b, u64 l0);
+FN void f345(B b, u64 l0, u64 l1, u32 l2, u32 l3, u32 l4);
+FN void f346(B b, u64 l0);
+FN u32 f347(B b, u64 l0, u32 l1, u32 l2, u64 l3);
+FN void f348(B b, u64 l0, u32 l1, u64 l2);
 FN void f349(B b, u64 l0);
 FN void f350(B b, u64 l0);
-FN u32 f351(B b, u64 l0);
+FN void f351(B b, u64 l0);
 FN u32 f352(B b, u64 l0);
 FN u32 f353(B b, u64 l0);
-FN u32 f354(B b, u64 l0, u64 l1);
+FN u32 f354(B b, u64 l0);
 FN u32 f355(B b, u64 l0, u64 l1);
-FN void f356(B b, u64 l0);
-FN u32 f357(B b, u64 l0);
+FN u32 f356(B b, u64 l0, u64 l1);
+FN void f357(B b, u64 l0);
 FN u32 f358(B b, u64 l0);
 FN u32 f359(B b, u64 l0);
 FN u32 f360(B b, u64 l0);
-FN void f361(B b, u64 l0);
-FN u32 f362(B b, u64 l0);
-FN u32 f363(B b, u64 l0, u32 l1, u32 l2);
-FN void f364(B b, u64 l0, u64 l1, u64 l2);
-FN u32 f365(B b, u64 l0, u32 l1, u32 l2);
-FN u32 f366(B b, u64 l0, u64 l1, u64 l2);
-FN void f367(B b, u64 l0, u64 l1, u64 l2, u64 l3);
-FN void f368(B b, u64 l0);
+FN u32 f361(B b, u64 l0);
+FN void f362(B b, u64 l0);
+FN u32 f363(B b, u64 l0);
+FN u32 f364(B b, u64 l0, u32 l1, u32 l2);
+FN void f365(B b, u64 l0, u64 l1, u64 l2);
+FN u32 f366(B b, u64 l0, u32 l1, u32 l2);
+FN u32 f367(B b, u64 l0, u64 l1, u64 l2);
+FN void f368(B b, u64 l0, u64 l1, u64 l2, u64 l3);
 FN u32 f369(B b, u64 l0, u64 l1, u64 l2, u64 l3);
 FN u32 f370(B b, u64 l0, u64 l1);
 FN void f371(B b, u64 l0, u64 l1);
@@ -3271,7 +3271,7 @@ put64(b, l3 + 1112, get64(b, l3 + 1728));
 put64(b, l3 + 1104, get64(b, l3 + 1720));
 put64(b, l3 + 1096, get64(b, l3 + 1712));
 put64(b, l3 + 1088, get64(b, l3 + 1704));
-f40(b, l3 + 328ull, l3 + 1016ull, (u32)(l1 > 9999ull));
+f40(b, l3 + 328ull, l3 + 1016ull, (u32)(l1 < 10000ull), 0ull);
 l4 = get64(b, l3 + 352);
 l36 = get8(b, l3 + 344);
 l35 = get8(b, l3 + 336);
@@ -6916,7 +6916,7 @@ L8:;
 FN void f23(B b, u64 l0, u64 l1, u32 l2, u64 l3, u64 l4, u32 l5, u32 l6) {
 u32 l31 = 0, l32 = 0, l33 = 0, l34 = 0, l35 = 0, l36 = 0;
 u64 l7 = 0, l8 = 0, l9 = 0, l10 = 0, l11 = 0, l12 = 0, l13 = 0, l14 = 0, l15 = 0, l16 = 0, l17 = 0, l18 = 0, l19 = 0, l20 = 0, l21 = 0, l22 = 0, l23 = 0, l24 = 0, l25 = 0, l26 = 0, l27 = 0, l28 = 0, l29 = 0, l30 = 0;
-l7 = SP - 640ull;
+l7 = SP - 672ull;
 SP = l7;
 put64(b, l7 + 120, get64(b, l3 + 4ull));
 put32(b, l7 + 128, get32(b, l3 + 12ull));
@@ -6924,327 +6924,414 @@ put64(b, l7 + 104, get64(b, l4 + 4ull));
 put32(b, l7 + 112, get32(b, l4 + 12ull));
 l31 = get8(b, l3);
 l32 = get8(b, l4);
-copy(b, l7 + 376ull, l1, 112u);
+copy(b, l7 + 408ull, l1, 112u);
 l33 = 0u;
-fill(b, l7 + 184ull, 0u, 128u);
-f32(b, l7 + 184ull, l7 + 376ull, l2);
-put64(b, l7 + 40, get64(b, l7 + 197));
-put64(b, l7 + 48, get64(b, l7 + 205));
-put64(b, l7 + 56, get64(b, l7 + 213));
-put64(b, l7 + 64, get64(b, l7 + 221));
-put64(b, l7 + 72, get64(b, l7 + 229));
-put64(b, l7 + 80, get64(b, l7 + 237));
-put64(b, l7 + 88, get64(b, l7 + 245));
-put32(b, l7 + 95, get32(b, l7 + 252));
-l34 = get8(b, l7 + 196);
-l35 = get32(b, l7 + 192);
-l36 = get8(b, l7 + 188);
-l2 = get8(b, l7 + 184);
-put64(b, l7, get64(b, l7 + 264));
-put64(b, l7 + 8, get64(b, l7 + 272));
-put64(b, l7 + 16, get64(b, l7 + 280));
-put64(b, l7 + 24, get64(b, l7 + 288));
-put64(b, l7 + 32, get64(b, l7 + 296));
-if (l2) { goto L2; }
-l3 = get64(b, l7 + 256);
-if (l31 & 255u) { goto L3; }
-put64(b, l7 + 376, 0ull);
-put64(b, l7 + 384, 0ull);
-put64(b, l7 + 392, 0ull);
-put64(b, l7 + 400, 0ull);
-put8(b, l7 + 188, l34);
-put32(b, l7 + 184, l35);
-put64(b, l7 + 189, get64(b, l7 + 40));
-put64(b, l7 + 197, get64(b, l7 + 48));
-put64(b, l7 + 205, get64(b, l7 + 56));
-put64(b, l7 + 213, get64(b, l7 + 64));
-put64(b, l7 + 221, get64(b, l7 + 72));
-put64(b, l7 + 229, get64(b, l7 + 80));
-put64(b, l7 + 237, get64(b, l7 + 88));
-put32(b, l7 + 244, get32(b, l7 + 95));
-put64(b, l7 + 256, get64(b, l7));
-put64(b, l7 + 264, get64(b, l7 + 8));
-put64(b, l7 + 272, get64(b, l7 + 16));
-put64(b, l7 + 280, get64(b, l7 + 24));
-put64(b, l7 + 288, get64(b, l7 + 32));
-put64(b, l7 + 248, l3);
-f40(b, l7 + 376ull, l7 + 184ull, (u32)(l3 > 9999ull));
-l8 = get64(b, l7 + 400);
-l33 = get8(b, l7 + 392);
-l2 = get8(b, l7 + 384);
-l31 = get8(b, l7 + 376);
+fill(b, l7 + 216ull, 0u, 128u);
+f32(b, l7 + 216ull, l7 + 408ull, l2);
+put64(b, l7 + 40, get64(b, l7 + 229));
+put64(b, l7 + 48, get64(b, l7 + 237));
+put64(b, l7 + 56, get64(b, l7 + 245));
+put64(b, l7 + 64, get64(b, l7 + 253));
+put64(b, l7 + 72, get64(b, l7 + 261));
+put64(b, l7 + 80, get64(b, l7 + 269));
+put64(b, l7 + 88, get64(b, l7 + 277));
+put32(b, l7 + 95, get32(b, l7 + 284));
+l34 = get8(b, l7 + 228);
+l35 = get32(b, l7 + 224);
+l36 = get8(b, l7 + 220);
+l2 = get8(b, l7 + 216);
+put64(b, l7, get64(b, l7 + 296));
+put64(b, l7 + 8, get64(b, l7 + 304));
+put64(b, l7 + 16, get64(b, l7 + 312));
+put64(b, l7 + 24, get64(b, l7 + 320));
+put64(b, l7 + 32, get64(b, l7 + 328));
+if (l2) { goto L3; }
+l3 = get64(b, l7 + 288);
+if (l31 & 255u) { goto L4; }
+put64(b, l7 + 408, 0ull);
+put64(b, l7 + 416, 0ull);
+put64(b, l7 + 424, 0ull);
+put64(b, l7 + 432, 0ull);
+put8(b, l7 + 220, l34);
+put32(b, l7 + 216, l35);
+put64(b, l7 + 221, get64(b, l7 + 40));
+put64(b, l7 + 229, get64(b, l7 + 48));
+put64(b, l7 + 237, get64(b, l7 + 56));
+put64(b, l7 + 245, get64(b, l7 + 64));
+put64(b, l7 + 253, get64(b, l7 + 72));
+put64(b, l7 + 261, get64(b, l7 + 80));
+put64(b, l7 + 269, get64(b, l7 + 88));
+put32(b, l7 + 276, get32(b, l7 + 95));
+put64(b, l7 + 288, get64(b, l7));
+put64(b, l7 + 296, get64(b, l7 + 8));
+put64(b, l7 + 304, get64(b, l7 + 16));
+put64(b, l7 + 312, get64(b, l7 + 24));
+put64(b, l7 + 320, get64(b, l7 + 32));
+put64(b, l7 + 280, l3);
+f40(b, l7 + 408ull, l7 + 216ull, (u32)(l3 < 10000ull), 0ull);
+l8 = get64(b, l7 + 432);
+l33 = get8(b, l7 + 424);
+l2 = get8(b, l7 + 416);
+l31 = get8(b, l7 + 408);
 goto L1;
-L3:;
-l4 = get64(b, l7 + 304);
-if ((l32 & 255u) != 1u) { goto L5; }
+L4:;
+l4 = get64(b, l7 + 336);
+if ((l32 & 255u) != 1u) { goto L6; }
 put32(b, l7 + 144, get32(b, l7 + 112));
 put64(b, l7 + 136, get64(b, l7 + 104));
-goto L4;
-L5:;
+goto L5;
+L6:;
 put32(b, l7 + 144, get32(b, l7 + 128));
 put64(b, l7 + 136, get64(b, l7 + 120));
-L4:;
-fill(b, l7 + 184ull, 0u, 176u);
-put64(b, l7 + 176, 0ull);
-put64(b, l7 + 168, 0ull);
-put64(b, l7 + 160, 0ull);
-put64(b, l7 + 152, 0ull);
-put8(b, l7 + 380, l34);
-put32(b, l7 + 376, l35);
-put64(b, l7 + 381, get64(b, l7 + 40));
-put64(b, l7 + 389, get64(b, l7 + 48));
-put64(b, l7 + 397, get64(b, l7 + 56));
-put64(b, l7 + 405, get64(b, l7 + 64));
-put64(b, l7 + 413, get64(b, l7 + 72));
-put64(b, l7 + 421, get64(b, l7 + 80));
-put64(b, l7 + 429, get64(b, l7 + 88));
-put32(b, l7 + 436, get32(b, l7 + 95));
-put64(b, l7 + 440, l3);
-put64(b, l7 + 488, l4);
-put64(b, l7 + 448, get64(b, l7));
-put64(b, l7 + 456, get64(b, l7 + 8));
-put64(b, l7 + 464, get64(b, l7 + 16));
-put64(b, l7 + 472, get64(b, l7 + 24));
-put64(b, l7 + 480, get64(b, l7 + 32));
-f192(b, l7 + 184ull, l7 + 376ull, l5, l6);
-if (get8(b, l7 + 184)) { goto L7; }
-l1 = get64(b, l7 + 208);
-l33 = get32(b, l7 + 204);
-l2 = get8(b, l7 + 200);
-if (get8(b, l7 + 192)) { goto L6; }
-l9 = get64(b, l7 + 352);
-l10 = get64(b, l7 + 336);
-l11 = get64(b, l7 + 328);
-l12 = get64(b, l7 + 320);
-l13 = get64(b, l7 + 312);
-l14 = get64(b, l7 + 472);
-l4 = get64(b, l7 + 464);
-l15 = get64(b, l7 + 456);
-l3 = get64(b, l7 + 448);
-l16 = get64(b, l7 + 432);
-l17 = get64(b, l7 + 376);
-l18 = get64(b, l7 + 392);
-put64(b, l7 + 520, get64(b, l7 + 424));
-put64(b, l7 + 512, get64(b, l7 + 416));
-put64(b, l7 + 504, get64(b, l7 + 408));
-put64(b, l7 + 496, get64(b, l7 + 400));
-if (!l18) { goto L8; }
-rattle_dealloc(b, l17);
-L8:;
-f22(b, l7 + 504ull);
-if (!l3) { goto L9; }
-rattle_dealloc(b, l16);
-L9:;
-if (!l4) { goto L10; }
-l3 = l15;
-L11:;
-put64(b, l7 + 624, get64(b, l3 + 16));
-put64(b, l7 + 616, get64(b, l3 + 8));
-put64(b, l7 + 608, get64(b, l3));
-l3 = l3 + 24ull;
-f22(b, l7 + 608ull);
-l4 = l4 + 18446744073709551615ull;
-if (l4 != 0ull) { goto L11; }
-L10:;
-l4 = l7 + 216ull;
-l3 = l7 + 201ull;
-if (!l14) { goto L12; }
-rattle_dealloc(b, l15);
-L12:;
-put8(b, l7 + 496, l2);
-put64(b, l7 + 504, l1);
-put32(b, l7 + 500, l33);
-put16(b, l7 + 497, get16(b, l3));
-put8(b, l7 + 499, get8(b, l3 + 2));
-copy(b, l7 + 512ull, l4, 96u);
-l19 = 0ull;
-put64(b, l7 + 632, 0ull);
-put64(b, l7 + 624, 0ull);
-put64(b, l7 + 616, 0ull);
-put64(b, l7 + 608, 0ull);
-f40(b, l7 + 608ull, l7 + 496ull, 1u);
-l8 = get64(b, l7 + 632);
-l33 = get8(b, l7 + 624);
-l2 = get8(b, l7 + 616);
-l31 = get8(b, l7 + 608);
-if (!l12) { goto L13; }
-L14:;
-l3 = l13 + (l19 * 152ull);
-l20 = get64(b, l3 + 144);
-l15 = get64(b, l3 + 136);
-l21 = get64(b, l3 + 128);
-l22 = get64(b, l3 + 120);
-l23 = get64(b, l3 + 104);
-l24 = get64(b, l3 + 96);
-l25 = get64(b, l3 + 80);
-l26 = get64(b, l3 + 72);
-l27 = get64(b, l3 + 56);
-l28 = get64(b, l3 + 48);
-l29 = get64(b, l3 + 32);
-l30 = get64(b, l3 + 24);
-l16 = get64(b, l3 + 8);
-l17 = get64(b, l3 + 16);
-if (!l17) { goto L15; }
-l1 = 0ull;
-L16:;
-l3 = l16 + (l1 * 40ull);
-if (!get8(b, l3)) { goto L17; }
-l18 = get64(b, l3 + 32ull);
-l14 = get64(b, l3 + 16ull);
-l4 = get64(b, l3 + 24ull);
-if (!l4) { goto L18; }
-l3 = l14 + 24ull;
-L19:;
-if (!get64(b, l3)) { goto L20; }
-rattle_dealloc(b, get64(b, l3 + 18446744073709551600ull));
-L20:;
-l3 = l3 + 32ull;
-l4 = l4 + 18446744073709551615ull;
-if (l4 != 0ull) { goto L19; }
-L18:;
-if (!l18) { goto L17; }
-rattle_dealloc(b, l14);
-L17:;
-l1 = l1 + 1ull;
-if (l1 != l17) { goto L16; }
-L15:;
-if (!l30) { goto L21; }
-rattle_dealloc(b, l16);
-L21:;
-if (!l28) { goto L22; }
-rattle_dealloc(b, l29);
-L22:;
-if (!l26) { goto L23; }
-rattle_dealloc(b, l27);
-L23:;
-if (!l24) { goto L24; }
-rattle_dealloc(b, l25);
-L24:;
-if (!l22) { goto L25; }
-rattle_dealloc(b, l23);
-L25:;
-if (!l15) { goto L26; }
-l3 = l21 + 24ull;
-L27:;
-if (!get64(b, l3)) { goto L28; }
-rattle_dealloc(b, get64(b, l3 + 18446744073709551600ull));
-L28:;
-l3 = l3 + 32ull;
-l15 = l15 + 18446744073709551615ull;
-if (l15 != 0ull) { goto L27; }
-L26:;
-if (!l20) { goto L29; }
-rattle_dealloc(b, l21);
-L29:;
-l19 = l19 + 1ull;
-if (l19 != l12) { goto L14; }
-L13:;
-if (!l11) { goto L30; }
-rattle_dealloc(b, l13);
-L30:;
-if (!l9) { goto L1; }
-rattle_dealloc(b, l10);
-goto L1;
-L7:;
-put64(b, l7 + 496, get64(b, l7 + 400));
-put64(b, l7 + 504, get64(b, l7 + 408));
-put64(b, l7 + 512, get64(b, l7 + 416));
-put64(b, l7 + 520, get64(b, l7 + 424));
-l15 = get64(b, l7 + 472);
-l4 = get64(b, l7 + 464);
-l1 = get64(b, l7 + 456);
-l3 = get64(b, l7 + 448);
-l14 = get64(b, l7 + 432);
-if (!get64(b, l7 + 392)) { goto L31; }
-rattle_dealloc(b, get64(b, l7 + 376));
-L31:;
-f22(b, l7 + 504ull);
-if (!l3) { goto L32; }
-rattle_dealloc(b, l14);
-L32:;
-if (!l4) { goto L33; }
-l3 = l1;
-L34:;
-put64(b, l7 + 624, get64(b, l3 + 16));
-put64(b, l7 + 616, get64(b, l3 + 8));
-put64(b, l7 + 608, get64(b, l3));
-l3 = l3 + 24ull;
-f22(b, l7 + 608ull);
-l4 = l4 + 18446744073709551615ull;
-if (l4 != 0ull) { goto L34; }
-L33:;
-l8 = 0ull;
-l2 = 0u;
-l31 = 1u;
-if (!(u32)(!l15)) { goto L35; }
-l33 = 0u;
-goto L1;
-L35:;
-rattle_dealloc(b, l1);
-l33 = 0u;
-goto L1;
-L6:;
-put64(b, l7 + 368, l1);
-put32(b, l7 + 364, l33);
-put32(b, l7 + 360, l2);
-l18 = get64(b, l7 + 376);
-l16 = get64(b, l7 + 432);
-l3 = get64(b, l7 + 448);
-l1 = get64(b, l7 + 456);
-l4 = get64(b, l7 + 464);
-l15 = get64(b, l7 + 472);
-l14 = get64(b, l7 + 392);
-put64(b, l7 + 520, get64(b, l7 + 424));
-put64(b, l7 + 512, get64(b, l7 + 416));
-put64(b, l7 + 504, get64(b, l7 + 408));
-put64(b, l7 + 496, get64(b, l7 + 400));
-if (!l14) { goto L36; }
-rattle_dealloc(b, l18);
-L36:;
-f22(b, l7 + 504ull);
-if (!l3) { goto L37; }
-rattle_dealloc(b, l16);
-L37:;
-if (!l4) { goto L38; }
-l3 = l1;
-L39:;
-put64(b, l7 + 624, get64(b, l3 + 16));
-put64(b, l7 + 616, get64(b, l3 + 8));
-put64(b, l7 + 608, get64(b, l3));
-l3 = l3 + 24ull;
-f22(b, l7 + 608ull);
-l4 = l4 + 18446744073709551615ull;
-if (l4 != 0ull) { goto L39; }
-L38:;
-if (!l15) { goto L40; }
-rattle_dealloc(b, l1);
-L40:;
-f193(b, l7 + 152ull, l7 + 136ull, l7 + 360ull);
-l8 = get64(b, l7 + 176);
-l33 = get8(b, l7 + 168);
-l2 = get8(b, l7 + 160);
-l31 = get8(b, l7 + 152);
-goto L1;
-L2:;
-l8 = 0ull;
+L5:;
+put64(b, l7 + 392, 0ull);
+put64(b, l7 + 400, 0ull);
+fill(b, l7 + 216ull, 0u, 176u);
 put64(b, l7 + 208, 0ull);
 put64(b, l7 + 200, 0ull);
 put64(b, l7 + 192, 0ull);
 put64(b, l7 + 184, 0ull);
-l31 = 1u;
-l2 = 0u;
-if (l36 & 255u) { goto L1; }
-f18(b, l7 + 184ull, l35, l34);
+put64(b, l7 + 152, 0ull);
+put64(b, l7 + 160, 0ull);
+put64(b, l7 + 168, 0ull);
+put64(b, l7 + 176, 0ull);
+put8(b, l7 + 412, l34);
+put32(b, l7 + 408, l35);
+put64(b, l7 + 413, get64(b, l7 + 40));
+put64(b, l7 + 421, get64(b, l7 + 48));
+put64(b, l7 + 429, get64(b, l7 + 56));
+put64(b, l7 + 437, get64(b, l7 + 64));
+put64(b, l7 + 445, get64(b, l7 + 72));
+put64(b, l7 + 453, get64(b, l7 + 80));
+put64(b, l7 + 461, get64(b, l7 + 88));
+put32(b, l7 + 468, get32(b, l7 + 95));
+put64(b, l7 + 472, l3);
+put64(b, l7 + 520, l4);
+put64(b, l7 + 480, get64(b, l7));
+put64(b, l7 + 488, get64(b, l7 + 8));
+put64(b, l7 + 496, get64(b, l7 + 16));
+put64(b, l7 + 504, get64(b, l7 + 24));
+put64(b, l7 + 512, get64(b, l7 + 32));
+f192(b, l7 + 216ull, l7 + 408ull, l5, l6);
+if (get8(b, l7 + 216)) { goto L2; }
+l9 = get64(b, l7 + 240);
+l33 = get32(b, l7 + 236);
+l2 = get8(b, l7 + 232);
+if (get8(b, l7 + 224)) { goto L7; }
+l10 = get64(b, l7 + 384);
+l11 = get64(b, l7 + 368);
+l12 = get64(b, l7 + 360);
+l13 = get64(b, l7 + 352);
+l14 = get64(b, l7 + 344);
+l8 = get64(b, l7 + 320);
+l15 = get64(b, l7 + 312);
+l16 = get64(b, l7 + 304);
+l17 = get64(b, l7 + 296);
+l18 = get64(b, l7 + 288);
+l19 = get64(b, l7 + 504);
+l4 = get64(b, l7 + 496);
+l1 = get64(b, l7 + 488);
+l3 = get64(b, l7 + 480);
+l20 = get64(b, l7 + 464);
+l21 = get64(b, l7 + 408);
+l22 = get64(b, l7 + 424);
+put64(b, l7 + 552, get64(b, l7 + 456));
+put64(b, l7 + 544, get64(b, l7 + 448));
+put64(b, l7 + 536, get64(b, l7 + 440));
+put64(b, l7 + 528, get64(b, l7 + 432));
+if (!l22) { goto L8; }
+rattle_dealloc(b, l21);
+L8:;
+f22(b, l7 + 536ull);
+if (!l3) { goto L9; }
+rattle_dealloc(b, l20);
+L9:;
+if (!l4) { goto L10; }
+l3 = l1;
+L11:;
+put64(b, l7 + 656, get64(b, l3 + 16));
+put64(b, l7 + 648, get64(b, l3 + 8));
+put64(b, l7 + 640, get64(b, l3));
+l3 = l3 + 24ull;
+f22(b, l7 + 640ull);
+l4 = l4 + 18446744073709551615ull;
+if (l4 != 0ull) { goto L11; }
+L10:;
+if (!l19) { goto L12; }
+rattle_dealloc(b, l1);
+L12:;
+l23 = l7 + 328ull;
+l21 = l7 + 248ull;
+l24 = l7 + 233ull;
+l20 = 0ull;
+put64(b, l7 + 640, 0ull);
+put64(b, l7 + 648, 0ull);
+put64(b, l7 + 656, 0ull);
+put64(b, l7 + 664, 0ull);
+if (!l17) { goto L13; }
+l20 = 0ull;
+l22 = 0ull;
+L14:;
+l3 = l22 & 2147483647ull;
+if (!get64(b, l18 + (l3 * 120ull))) { goto L15; }
+if (l8 <= l3) { goto L15; }
+l3 = l15 + (l3 * 24ull);
+l19 = get64(b, l3 + 8ull);
+if (!(u32)(!l19)) { goto L17; }
+l3 = 81ull;
+goto L16;
+L17:;
+l3 = get64(b, l3);
+l1 = 0ull;
+L18:;
+l4 = 0ull;
+switch ((u32)(u64)get8(b, l3)) {
+case 1: goto L22;
+case 2: goto L21;
+case 3: goto L20;
+default: goto L19;
+}
+L22:;
+l4 = 5ull;
+goto L19;
+L21:;
+l4 = 15ull;
+switch ((u32)(u64)get8(b, l3 + 8ull)) {
+case 1: goto L19;
+case 2: goto L24;
+case 3: goto L23;
+default: goto L25;
+}
+L25:;
+l4 = (u64)get8(b, l3 + 9ull);
+goto L19;
+L24:;
+l4 = (u64)get8(b, get64(b, l3 + 16ull));
+goto L19;
+L23:;
+l4 = get64(b, get64(b, l3 + 16ull) + 8ull);
+goto L19;
+L20:;
+l4 = 0ull;
+if (!get8(b, l3 + 8ull)) { goto L19; }
+l4 = get64(b, get64(b, l3 + 16ull) + 8ull);
+L19:;
+l4 = l4 + 1ull;
+l4 = (!l4) ? 18446744073709551615ull : l4;
+l1 = l4 + l1;
+l1 = (l1 < l4) ? 18446744073709551615ull : l1;
+l3 = l3 + 24ull;
+l19 = l19 + 18446744073709551615ull;
+if (l19 != 0ull) { goto L18; }
+l3 = (l1 > 14575205194042114815ull) ? 18446744073709551615ull : (((l1 >> 6) * 81ull) + 81ull);
+L16:;
+l4 = l3 + l20;
+l20 = (l4 < l3) ? 18446744073709551615ull : l4;
+L15:;
+l22 = l22 + 1ull;
+if (l22 != l17) { goto L14; }
+L13:;
+put8(b, l7 + 528, l2);
+put64(b, l7 + 536, l9);
+put32(b, l7 + 532, l33);
+put64(b, l7 + 584, l18);
+put64(b, l7 + 592, l17);
+put64(b, l7 + 600, l16);
+put64(b, l7 + 608, l15);
+put64(b, l7 + 616, l8);
+put16(b, l7 + 529, get16(b, l24));
+put8(b, l7 + 531, get8(b, l24 + 2));
+put64(b, l7 + 544, get64(b, l21));
+put64(b, l7 + 552, get64(b, l21 + 8));
+put64(b, l7 + 560, get64(b, l21 + 16));
+put64(b, l7 + 568, get64(b, l21 + 24));
+put64(b, l7 + 576, get64(b, l21 + 32));
+put64(b, l7 + 632, get64(b, l23 + 8));
+put64(b, l7 + 624, get64(b, l23));
+f40(b, l7 + 640ull, l7 + 528ull, 0u, l20);
+l8 = get64(b, l7 + 664);
+l33 = get8(b, l7 + 656);
+l2 = get8(b, l7 + 648);
+l31 = get8(b, l7 + 640);
+if (!l13) { goto L26; }
+l15 = 0ull;
+L27:;
+l3 = l14 + (l15 * 152ull);
+l9 = get64(b, l3 + 144);
+l19 = get64(b, l3 + 136);
+l21 = get64(b, l3 + 128);
+l23 = get64(b, l3 + 120);
+l25 = get64(b, l3 + 104);
+l24 = get64(b, l3 + 96);
+l26 = get64(b, l3 + 80);
+l16 = get64(b, l3 + 72);
+l27 = get64(b, l3 + 56);
+l28 = get64(b, l3 + 48);
+l29 = get64(b, l3 + 32);
+l30 = get64(b, l3 + 24);
+l20 = get64(b, l3 + 8);
+l18 = get64(b, l3 + 16);
+if (!l18) { goto L28; }
+l1 = 0ull;
+L29:;
+l3 = l20 + (l1 * 40ull);
+if (!get8(b, l3)) { goto L30; }
+l17 = get64(b, l3 + 32ull);
+l22 = get64(b, l3 + 16ull);
+l4 = get64(b, l3 + 24ull);
+if (!l4) { goto L31; }
+l3 = l22 + 24ull;
+L32:;
+if (!get64(b, l3)) { goto L33; }
+rattle_dealloc(b, get64(b, l3 + 18446744073709551600ull));
+L33:;
+l3 = l3 + 32ull;
+l4 = l4 + 18446744073709551615ull;
+if (l4 != 0ull) { goto L32; }
+L31:;
+if (!l17) { goto L30; }
+rattle_dealloc(b, l22);
+L30:;
+l1 = l1 + 1ull;
+if (l1 != l18) { goto L29; }
+L28:;
+if (!l30) { goto L34; }
+rattle_dealloc(b, l20);
+L34:;
+if (!l28) { goto L35; }
+rattle_dealloc(b, l29);
+L35:;
+if (!l16) { goto L36; }
+rattle_dealloc(b, l27);
+L36:;
+if (!l24) { goto L37; }
+rattle_dealloc(b, l26);
+L37:;
+if (!l23) { goto L38; }
+rattle_dealloc(b, l25);
+L38:;
+if (!l19) { goto L39; }
+l3 = l21 + 24ull;
+L40:;
+if (!get64(b, l3)) { goto L41; }
+rattle_dealloc(b, get64(b, l3 + 18446744073709551600ull));
+L41:;
+l3 = l3 + 32ull;
+l19 = l19 + 18446744073709551615ull;
+if (l19 != 0ull) { goto L40; }
+L39:;
+if (!l9) { goto L42; }
+rattle_dealloc(b, l21);
+L42:;
+l15 = l15 + 1ull;
+if (l15 != l13) { goto L27; }
+L26:;
+if (!l12) { goto L43; }
+rattle_dealloc(b, l14);
+L43:;
+if (!l10) { goto L1; }
+rattle_dealloc(b, l11);
+goto L1;
+L7:;
+put64(b, l7 + 400, l9);
+put32(b, l7 + 396, l33);
+put32(b, l7 + 392, l2);
+l17 = get64(b, l7 + 408);
+l20 = get64(b, l7 + 464);
+l3 = get64(b, l7 + 480);
+l1 = get64(b, l7 + 488);
+l4 = get64(b, l7 + 496);
+l19 = get64(b, l7 + 504);
+l22 = get64(b, l7 + 424);
+put64(b, l7 + 552, get64(b, l7 + 456));
+put64(b, l7 + 544, get64(b, l7 + 448));
+put64(b, l7 + 536, get64(b, l7 + 440));
+put64(b, l7 + 528, get64(b, l7 + 432));
+if (!l22) { goto L44; }
+rattle_dealloc(b, l17);
+L44:;
+f22(b, l7 + 536ull);
+if (!l3) { goto L45; }
+rattle_dealloc(b, l20);
+L45:;
+if (!l4) { goto L46; }
+l3 = l1;
+L47:;
+put64(b, l7 + 656, get64(b, l3 + 16));
+put64(b, l7 + 648, get64(b, l3 + 8));
+put64(b, l7 + 640, get64(b, l3));
+l3 = l3 + 24ull;
+f22(b, l7 + 640ull);
+l4 = l4 + 18446744073709551615ull;
+if (l4 != 0ull) { goto L47; }
+L46:;
+if (!l19) { goto L48; }
+rattle_dealloc(b, l1);
+L48:;
+f193(b, l7 + 184ull, l7 + 136ull, l7 + 392ull);
 l8 = get64(b, l7 + 208);
 l33 = get8(b, l7 + 200);
 l2 = get8(b, l7 + 192);
 l31 = get8(b, l7 + 184);
+goto L1;
+L3:;
+l8 = 0ull;
+put64(b, l7 + 240, 0ull);
+put64(b, l7 + 232, 0ull);
+put64(b, l7 + 224, 0ull);
+put64(b, l7 + 216, 0ull);
+l31 = 1u;
+l2 = 0u;
+if (l36 & 255u) { goto L1; }
+f18(b, l7 + 216ull, l35, l34);
+l8 = get64(b, l7 + 240);
+l33 = get8(b, l7 + 232);
+l2 = get8(b, l7 + 224);
+l31 = get8(b, l7 + 216);
+goto L1;
+L2:;
+put64(b, l7 + 152, get64(b, l7 + 432));
+put64(b, l7 + 160, get64(b, l7 + 440));
+put64(b, l7 + 168, get64(b, l7 + 448));
+put64(b, l7 + 176, get64(b, l7 + 456));
+l19 = get64(b, l7 + 504);
+l4 = get64(b, l7 + 496);
+l1 = get64(b, l7 + 488);
+l3 = get64(b, l7 + 480);
+l22 = get64(b, l7 + 464);
+if (!get64(b, l7 + 424)) { goto L49; }
+rattle_dealloc(b, get64(b, l7 + 408));
+L49:;
+f22(b, l7 + 160ull);
+if (!l3) { goto L50; }
+rattle_dealloc(b, l22);
+L50:;
+if (!l4) { goto L51; }
+l3 = l1;
+L52:;
+put64(b, l7 + 544, get64(b, l3 + 16));
+put64(b, l7 + 536, get64(b, l3 + 8));
+put64(b, l7 + 528, get64(b, l3));
+l3 = l3 + 24ull;
+f22(b, l7 + 528ull);
+l4 = l4 + 18446744073709551615ull;
+if (l4 != 0ull) { goto L52; }
+L51:;
+l8 = 0ull;
+l2 = 0u;
+l31 = 1u;
+if (!(u32)(!l19)) { goto L53; }
+l33 = 0u;
+goto L1;
+L53:;
+rattle_dealloc(b, l1);
+l33 = 0u;
 L1:;
 put8(b, l0, l31);
 put64(b, l0 + 24ull, l8);
 put8(b, l0 + 8ull, l2);
 put64(b, l0 + 16ull, ((u64)l33) & 255ull);
-SP = l7 + 640ull;
+SP = l7 + 672ull;
 }
 
 FN void f24(B b, u64 l0, u64 l1, u32 l2) {
@@ -9372,115 +9459,115 @@ L5:;
 SP = l2 + 112ull;
 }
 
-FN void f40(B b, u64 l0, u64 l1, u32 l2) {
+FN void f40(B b, u64 l0, u64 l1, u32 l2, u64 l3) {
 u32 l11 = 0, l12 = 0;
-u64 l3 = 0, l4 = 0, l5 = 0, l6 = 0, l7 = 0, l8 = 0, l9 = 0, l10 = 0;
-l3 = SP - 704ull;
-SP = l3;
-copy(b, l3 + 8ull, l1, 112u);
-if (!l2) { goto L2; }
-copy(b, l3 + 120ull, l1, 112u);
-put64(b, l3 + 232, 0ull);
-put64(b, l3 + 240, 0ull);
-put64(b, l3 + 248, 0ull);
-fill(b, l3 + 312ull, 0u, 392u);
-f152(b, l3 + 312ull, l3 + 120ull);
-l4 = get64(b, l3 + 120);
-l1 = get64(b, l3 + 136);
-put64(b, l3 + 280, get64(b, l3 + 168));
-put64(b, l3 + 272, get64(b, l3 + 160));
-put64(b, l3 + 264, get64(b, l3 + 152));
-put64(b, l3 + 256, get64(b, l3 + 144));
-l5 = get64(b, l3 + 216);
-l6 = get64(b, l3 + 208);
-l7 = get64(b, l3 + 200);
-l8 = get64(b, l3 + 192);
-l9 = get64(b, l3 + 176);
+u64 l4 = 0, l5 = 0, l6 = 0, l7 = 0, l8 = 0, l9 = 0, l10 = 0;
+l4 = SP - 704ull;
+SP = l4;
+copy(b, l4 + 8ull, l1, 112u);
+if (l2 & 1u) { goto L2; }
+copy(b, l4 + 120ull, l1, 112u);
+put64(b, l4 + 232, 0ull);
+put64(b, l4 + 240, 0ull);
+put64(b, l4 + 248, 0ull);
+fill(b, l4 + 312ull, 0u, 392u);
+f152(b, l4 + 312ull, l4 + 120ull, l3);
+l5 = get64(b, l4 + 120);
+l1 = get64(b, l4 + 136);
+put64(b, l4 + 280, get64(b, l4 + 168));
+put64(b, l4 + 272, get64(b, l4 + 160));
+put64(b, l4 + 264, get64(b, l4 + 152));
+put64(b, l4 + 256, get64(b, l4 + 144));
+l6 = get64(b, l4 + 216);
+l3 = get64(b, l4 + 208);
+l7 = get64(b, l4 + 200);
+l8 = get64(b, l4 + 192);
+l9 = get64(b, l4 + 176);
 if (!l1) { goto L3; }
-rattle_dealloc(b, l4);
+rattle_dealloc(b, l5);
 L3:;
-f153(b, l3 + 264ull);
+f153(b, l4 + 264ull);
 if (!l8) { goto L4; }
 rattle_dealloc(b, l9);
 L4:;
-if (!l6) { goto L5; }
+if (!l3) { goto L5; }
 l1 = l7;
 L6:;
-put64(b, l3 + 304, get64(b, l1 + 16));
-put64(b, l3 + 296, get64(b, l1 + 8));
-put64(b, l3 + 288, get64(b, l1));
+put64(b, l4 + 304, get64(b, l1 + 16));
+put64(b, l4 + 296, get64(b, l1 + 8));
+put64(b, l4 + 288, get64(b, l1));
 l1 = l1 + 24ull;
-f153(b, l3 + 288ull);
-l6 = l6 + 18446744073709551615ull;
-if (l6 != 0ull) { goto L6; }
+f153(b, l4 + 288ull);
+l3 = l3 + 18446744073709551615ull;
+if (l3 != 0ull) { goto L6; }
 L5:;
-if (!l5) { goto L7; }
+if (!l6) { goto L7; }
 rattle_dealloc(b, l7);
 L7:;
-if (get8(b, l3 + 312)) { goto L8; }
-f154(b, l3 + 232ull, l3 + 320ull);
-l7 = get64(b, l3 + 248);
-l2 = get8(b, l3 + 240);
-l11 = get8(b, l3 + 233);
-l12 = get8(b, l3 + 232);
+if (get8(b, l4 + 312)) { goto L8; }
+f154(b, l4 + 232ull, l4 + 320ull);
+l7 = get64(b, l4 + 248);
+l2 = get8(b, l4 + 240);
+l11 = get8(b, l4 + 233);
+l12 = get8(b, l4 + 232);
 goto L1;
 L8:;
 l7 = 0ull;
 l2 = 0u;
 l12 = 1u;
-l11 = get8(b, l3 + 313);
+l11 = get8(b, l4 + 313);
 goto L1;
 L2:;
 l7 = 0ull;
-put64(b, l3 + 120, 0ull);
-put64(b, l3 + 128, 0ull);
-put64(b, l3 + 136, 0ull);
+put64(b, l4 + 120, 0ull);
+put64(b, l4 + 128, 0ull);
+put64(b, l4 + 136, 0ull);
 l2 = 0u;
-fill(b, l3 + 312ull, 0u, 392u);
-f152(b, l3 + 312ull, l3 + 8ull);
-if (get8(b, l3 + 312)) { goto L10; }
-f154(b, l3 + 120ull, l3 + 320ull);
-l7 = get64(b, l3 + 136);
-l2 = get8(b, l3 + 128);
-l11 = get8(b, l3 + 121);
-l12 = get8(b, l3 + 120);
+fill(b, l4 + 312ull, 0u, 392u);
+f152(b, l4 + 312ull, l4 + 8ull, 0ull);
+if (get8(b, l4 + 312)) { goto L10; }
+f154(b, l4 + 120ull, l4 + 320ull);
+l7 = get64(b, l4 + 136);
+l2 = get8(b, l4 + 128);
+l11 = get8(b, l4 + 121);
+l12 = get8(b, l4 + 120);
 goto L9;
 L10:;
 l12 = 1u;
-l11 = get8(b, l3 + 313);
+l11 = get8(b, l4 + 313);
 L9:;
-if (get8(b, l3 + 112)) { goto L1; }
-l8 = get64(b, l3 + 104);
-l6 = get64(b, l3 + 96);
-l5 = get64(b, l3 + 88);
-l1 = get64(b, l3 + 80);
-l9 = get64(b, l3 + 64);
-l10 = get64(b, l3 + 8);
-l4 = get64(b, l3 + 24);
-put64(b, l3 + 336, get64(b, l3 + 56));
-put64(b, l3 + 328, get64(b, l3 + 48));
-put64(b, l3 + 320, get64(b, l3 + 40));
-put64(b, l3 + 312, get64(b, l3 + 32));
-if (!l4) { goto L11; }
+if (get8(b, l4 + 112)) { goto L1; }
+l8 = get64(b, l4 + 104);
+l3 = get64(b, l4 + 96);
+l6 = get64(b, l4 + 88);
+l1 = get64(b, l4 + 80);
+l9 = get64(b, l4 + 64);
+l10 = get64(b, l4 + 8);
+l5 = get64(b, l4 + 24);
+put64(b, l4 + 336, get64(b, l4 + 56));
+put64(b, l4 + 328, get64(b, l4 + 48));
+put64(b, l4 + 320, get64(b, l4 + 40));
+put64(b, l4 + 312, get64(b, l4 + 32));
+if (!l5) { goto L11; }
 rattle_dealloc(b, l10);
 L11:;
-f155(b, l3 + 320ull);
+f155(b, l4 + 320ull);
 if (!l1) { goto L12; }
 rattle_dealloc(b, l9);
 L12:;
-if (!l6) { goto L13; }
-l1 = l5;
+if (!l3) { goto L13; }
+l1 = l6;
 L14:;
-put64(b, l3 + 136, get64(b, l1 + 16));
-put64(b, l3 + 128, get64(b, l1 + 8));
-put64(b, l3 + 120, get64(b, l1));
+put64(b, l4 + 136, get64(b, l1 + 16));
+put64(b, l4 + 128, get64(b, l1 + 8));
+put64(b, l4 + 120, get64(b, l1));
 l1 = l1 + 24ull;
-f155(b, l3 + 120ull);
-l6 = l6 + 18446744073709551615ull;
-if (l6 != 0ull) { goto L14; }
+f155(b, l4 + 120ull);
+l3 = l3 + 18446744073709551615ull;
+if (l3 != 0ull) { goto L14; }
 L13:;
 if (!l8) { goto L1; }
-rattle_dealloc(b, l5);
+rattle_dealloc(b, l6);
 L1:;
 if (l12 & 255u) { goto L16; }
 l12 = 0u;
@@ -9497,7 +9584,7 @@ put8(b, l0, l12);
 put64(b, l0 + 24ull, l7);
 put8(b, l0 + 8ull, l11);
 put64(b, l0 + 16ull, ((u64)l2) & 255ull);
-SP = l3 + 704ull;
+SP = l4 + 704ull;
 }
 
 FN void f41(B b, u64 l0) {
@@ -26325,264 +26412,291 @@ rattle_dealloc(b, l1);
 L1:;
 }
 
-FN void f152(B b, u64 l0, u64 l1) {
+FN void f152(B b, u64 l0, u64 l1, u64 l2) {
 u32 l18 = 0, l19 = 0, l20 = 0, l21 = 0, l22 = 0, l23 = 0, l24 = 0, l25 = 0, l26 = 0;
-u64 l2 = 0, l3 = 0, l4 = 0, l5 = 0, l6 = 0, l7 = 0, l8 = 0, l9 = 0, l10 = 0, l11 = 0, l12 = 0, l13 = 0, l14 = 0, l15 = 0, l16 = 0, l17 = 0;
-l2 = SP - 976ull;
-SP = l2;
-fill(b, l2 + 216ull, 0u, 352u);
-l3 = 0ull;
-put64(b, l2 + 752, 0ull);
-put64(b, l2 + 760, 0ull);
-put32(b, l2 + 890, 0u);
-put16(b, l2 + 894, 0u);
-put64(b, l2 + 912, 164000000ull);
-put64(b, l2 + 576, 0ull);
-put64(b, l2 + 584, 0ull);
-put64(b, l2 + 744, l2 + 975ull);
-put64(b, l2 + 568, l2 + 975ull);
-l4 = (l2 + 568ull) + 24ull;
+u64 l3 = 0, l4 = 0, l5 = 0, l6 = 0, l7 = 0, l8 = 0, l9 = 0, l10 = 0, l11 = 0, l12 = 0, l13 = 0, l14 = 0, l15 = 0, l16 = 0, l17 = 0;
+l3 = SP - 1008ull;
+SP = l3;
+put64(b, l3 + 936, 0ull);
+fill(b, l3 + 248ull, 0u, 352u);
+put64(b, l3 + 784, 0ull);
+put64(b, l3 + 792, 0ull);
+put64(b, l3 + 776, l3 + 1007ull);
+l4 = (l3 + 776ull) + 24ull;
 fill(b, l4, 32u, 96u);
-put8(b, l2 + 704, 0u);
-put64(b, l2 + 696, 0ull);
-put64(b, l2 + 688, 0ull);
-put32(b, l2 + 714, 0u);
-put8(b, l2 + 713, 80u);
-put64(b, l2 + 705, 3539864629463228496ull);
-put16(b, l2 + 718, 0u);
-put64(b, l2 + 736, 164000000ull);
-put64(b, l2 + 728, 64ull);
-put64(b, l2 + 720, 1ull);
-l5 = (l2 + 744ull) + 24ull;
+put8(b, l3 + 912, 0u);
+put64(b, l3 + 904, 0ull);
+put64(b, l3 + 896, 0ull);
+put32(b, l3 + 922, 0u);
+put8(b, l3 + 921, 83u);
+put64(b, l3 + 913, 3539864629463228499ull);
+put16(b, l3 + 926, 0u);
+put64(b, l3 + 944, 164000000ull);
+put64(b, l3 + 928, 1ull);
+put64(b, l3 + 608, 0ull);
+put64(b, l3 + 616, 0ull);
+put64(b, l3 + 600, l3 + 1007ull);
+l5 = (l3 + 600ull) + 24ull;
 fill(b, l5, 32u, 96u);
-put8(b, l2 + 880, 0u);
-put64(b, l2 + 872, 0ull);
-put64(b, l2 + 864, 0ull);
-put64(b, l2 + 904, 72ull);
-put64(b, l2 + 896, 1ull);
-put8(b, l2 + 889, 83u);
-put64(b, l2 + 881, 3539864629463228499ull);
-l6 = get64(b, l1 + 8ull);
-if (!l6) { goto L6; }
-l7 = 0ull;
-L7:;
-if (get64(b, l1 + 8ull) <= l7) { goto L1; }
-l8 = get64(b, l2 + 864);
-l9 = l5 + l8;
-l10 = get64(b, l1);
-l11 = l10 + (l7 * 72ull);
-if ((l9 - l11) > 71ull) { goto L9; }
-l12 = l10 + l3;
-l13 = (l2 + 744ull) + l8;
-l9 = 18446744073709551544ull;
+put8(b, l3 + 736, 0u);
+put64(b, l3 + 728, 0ull);
+put64(b, l3 + 720, 0ull);
+put32(b, l3 + 746, 0u);
+put8(b, l3 + 745, 80u);
+put64(b, l3 + 737, 3539864629463228496ull);
+put16(b, l3 + 750, 0u);
+put64(b, l3 + 768, 164000000ull);
+put64(b, l3 + 760, 64ull);
+put64(b, l3 + 752, 1ull);
+l6 = l3 + 896ull;
+l7 = get64(b, l3 + 608);
+if (l2 > (l7 ^ 18446744073709551615ull)) { goto L1; }
+l8 = get64(b, l3 + 616);
+if (l2 <= (l8 - l7)) { goto L1; }
+l2 = l7 + l2;
+if ((s64)l2 < (s64)0ull) { goto L1; }
+if (!l8) { goto L3; }
+rattle_realloc(b, l3 + 232ull, l3 + 1007ull, l7, l2, 1ull);
+if (!(((u32)get64(b, l3 + 232)) & 1u)) { goto L1; }
+l7 = get64(b, l3 + 240);
+goto L2;
+L3:;
+rattle_alloc(b, l3 + 216ull, l2, 1ull);
+if (!(((u32)get64(b, l3 + 216)) & 1u)) { goto L1; }
+l7 = get64(b, l3 + 224);
+L2:;
+put64(b, l3 + 616, l2);
+put64(b, l3 + 600, l7);
+L1:;
+fill(b, l4, 32u, 96u);
+put8(b, l6 + 16, 0u);
+put64(b, l6 + 8, 0ull);
+put64(b, l6, 0ull);
+put64(b, l3 + 936, 72ull);
+put64(b, l3 + 928, 1ull);
+put8(b, l3 + 921, 83u);
+put64(b, l3 + 913, 3539864629463228499ull);
+l9 = get64(b, l1 + 8ull);
+if (!l9) { goto L9; }
+l10 = 0ull;
+l11 = 0ull;
 L10:;
-l10 = l13 + l9;
-l11 = l12 + l9;
-put8(b, l10 + 96ull, get8(b, l11 + 72ull));
-put8(b, l10 + 97ull, get8(b, l11 + 73ull));
-put8(b, l10 + 98ull, get8(b, l11 + 74ull));
-put8(b, l10 + 99ull, get8(b, l11 + 75ull));
-l9 = l9 + 4ull;
-if (l9 != 0ull) { goto L10; }
+if (get64(b, l1 + 8ull) <= l11) { goto L4; }
+l12 = get64(b, l3 + 896);
+l2 = l4 + l12;
+l7 = get64(b, l1);
+l8 = l7 + (l11 * 72ull);
+if ((l2 - l8) > 71ull) { goto L12; }
+l13 = l7 + l10;
+l14 = (l3 + 776ull) + l12;
+l2 = 18446744073709551544ull;
+L13:;
+l7 = l14 + l2;
+l8 = l13 + l2;
+put8(b, l7 + 96ull, get8(b, l8 + 72ull));
+put8(b, l7 + 97ull, get8(b, l8 + 73ull));
+put8(b, l7 + 98ull, get8(b, l8 + 74ull));
+put8(b, l7 + 99ull, get8(b, l8 + 75ull));
+l2 = l2 + 4ull;
+if (l2 != 0ull) { goto L13; }
+goto L11;
+L12:;
+copy(b, l2, l8, 72u);
+L11:;
+put64(b, l3 + 896, l12 + 72ull);
+f156(b, l3 + 208ull, l3 + 776ull);
+if (get8(b, l3 + 208)) { goto L14; }
+l10 = l10 + 72ull;
+l11 = l11 + 1ull;
+if (l11 == l9) { goto L9; }
+goto L10;
+L14:;
+l18 = get8(b, l3 + 209);
 goto L8;
 L9:;
-copy(b, l9, l11, 72u);
-L8:;
-put64(b, l2 + 864, l8 + 72ull);
-f156(b, l2 + 208ull, l2 + 744ull);
-if (get8(b, l2 + 208)) { goto L11; }
-l3 = l3 + 72ull;
-l7 = l7 + 1ull;
-if (l7 == l6) { goto L6; }
-goto L7;
-L11:;
-l18 = get8(b, l2 + 209);
-goto L5;
-L6:;
-fill(b, l5, 32u, 96u);
-l9 = l2 + 864ull;
-put8(b, l9 + 16, 0u);
-put64(b, l9 + 8, 0ull);
-put64(b, l9, 0ull);
-put64(b, l2 + 904, 72ull);
-put64(b, l2 + 896, 1ull);
-put8(b, l2 + 889, 71u);
-put64(b, l2 + 881, 3539864629463228487ull);
-l8 = l1 + 24ull;
-l10 = get64(b, l1 + 40ull);
-l19 = get8(b, l8 + ((u64)(!l10)));
-l11 = get64(b, l1 + 32ull);
-l18 = get8(b, l8);
-put8(b, l2 + 928, l18);
-f157(b, l2 + 200ull, l2 + 744ull, l2 + 928ull, 1ull, l18);
-if (get8(b, l2 + 200)) { goto L13; }
-put8(b, l2 + 927, get8(b, l1 + 25ull));
-f157(b, l2 + 192ull, l2 + 744ull, l2 + 927ull, 1ull, l19);
-l18 = get8(b, l2 + 193);
-l19 = get8(b, l2 + 192);
-goto L12;
-L13:;
-l18 = get8(b, l2 + 201);
-l19 = 1u;
-L12:;
-if (l19 & 255u) { goto L15; }
-f158(b, l2 + 184ull, l2 + 744ull, l11, l10, l8);
-if (get8(b, l2 + 184)) { goto L16; }
-f156(b, l2 + 176ull, l2 + 744ull);
-l18 = get8(b, l2 + 177);
-l19 = get8(b, l2 + 176);
-goto L14;
+fill(b, l4, 32u, 96u);
+put8(b, l6 + 16, 0u);
+put64(b, l6 + 8, 0ull);
+put64(b, l6, 0ull);
+put64(b, l3 + 936, 72ull);
+put64(b, l3 + 928, 1ull);
+put8(b, l3 + 921, 71u);
+put64(b, l3 + 913, 3539864629463228487ull);
+l10 = l1 + 24ull;
+l2 = get64(b, l1 + 40ull);
+l19 = get8(b, l10 + ((u64)(!l2)));
+l7 = get64(b, l1 + 32ull);
+l18 = get8(b, l10);
+put8(b, l3 + 960, l18);
+f157(b, l3 + 200ull, l3 + 776ull, l3 + 960ull, 1ull, l18);
+if (get8(b, l3 + 200)) { goto L16; }
+put8(b, l3 + 959, get8(b, l1 + 25ull));
+f157(b, l3 + 192ull, l3 + 776ull, l3 + 959ull, 1ull, l19);
+l18 = get8(b, l3 + 193);
+l19 = get8(b, l3 + 192);
+goto L15;
 L16:;
-l18 = get8(b, l2 + 185);
-L15:;
+l18 = get8(b, l3 + 201);
 l19 = 1u;
-L14:;
-if (l19 & 255u) { goto L5; }
-l14 = get64(b, l2 + 896);
-l10 = get64(b, l1 + 64ull);
-l18 = (u32)(l10 < 10000ull);
-l12 = (l10 << ((l18 ? 2ull : 1ull) & 63)) * 81ull;
-l11 = get64(b, l2 + 752);
-if (l12 > (l11 ^ 18446744073709551615ull)) { goto L17; }
-l13 = get64(b, l2 + 760);
-if (l12 <= (l13 - l11)) { goto L17; }
-l12 = l12 + l11;
-if ((s64)l12 < (s64)0ull) { goto L17; }
-if (!l13) { goto L19; }
-rattle_realloc(b, l2 + 160ull, get64(b, l2 + 744), l11, l12, 1ull);
-if (!(((u32)get64(b, l2 + 160)) & 1u)) { goto L17; }
-l11 = get64(b, l2 + 168);
-goto L18;
+L15:;
+if (l19 & 255u) { goto L18; }
+f158(b, l3 + 184ull, l3 + 776ull, l7, l2, l10);
+if (get8(b, l3 + 184)) { goto L19; }
+f156(b, l3 + 176ull, l3 + 776ull);
+l18 = get8(b, l3 + 177);
+l19 = get8(b, l3 + 176);
+goto L17;
 L19:;
-rattle_alloc(b, l2 + 144ull, l12, 1ull);
-if (!(((u32)get64(b, l2 + 144)) & 1u)) { goto L17; }
-l11 = get64(b, l2 + 152);
+l18 = get8(b, l3 + 185);
 L18:;
-put64(b, l2 + 760, l12);
-put64(b, l2 + 744, l11);
+l19 = 1u;
 L17:;
-l12 = 0ull;
-l11 = (l10 << ((l18 ? 2ull : 0ull) & 63)) * 81ull;
-l10 = get64(b, l2 + 576);
-if (l11 > (l10 ^ 18446744073709551615ull)) { goto L20; }
-l13 = get64(b, l2 + 584);
-if (l11 <= (l13 - l10)) { goto L20; }
-l11 = l10 + l11;
-if ((s64)l11 < (s64)0ull) { goto L20; }
+if (l19 & 255u) { goto L8; }
+l15 = get64(b, l3 + 928);
+l2 = get64(b, l1 + 64ull);
+l18 = (u32)(l2 < 10000ull);
+l8 = (l2 << ((l18 ? 2ull : 1ull) & 63)) * 81ull;
+l7 = get64(b, l3 + 784);
+if (l8 > (l7 ^ 18446744073709551615ull)) { goto L20; }
+l13 = get64(b, l3 + 792);
+if (l8 <= (l13 - l7)) { goto L20; }
+l8 = l8 + l7;
+if ((s64)l8 < (s64)0ull) { goto L20; }
 if (!l13) { goto L22; }
-rattle_realloc(b, l2 + 128ull, get64(b, l2 + 568), l10, l11, 1ull);
-if (!(((u32)get64(b, l2 + 128)) & 1u)) { goto L20; }
-l10 = get64(b, l2 + 136);
+rattle_realloc(b, l3 + 160ull, get64(b, l3 + 776), l7, l8, 1ull);
+if (!(((u32)get64(b, l3 + 160)) & 1u)) { goto L20; }
+l7 = get64(b, l3 + 168);
 goto L21;
 L22:;
-rattle_alloc(b, l2 + 112ull, l11, 1ull);
-if (!(((u32)get64(b, l2 + 112)) & 1u)) { goto L20; }
-l10 = get64(b, l2 + 120);
+rattle_alloc(b, l3 + 144ull, l8, 1ull);
+if (!(((u32)get64(b, l3 + 144)) & 1u)) { goto L20; }
+l7 = get64(b, l3 + 152);
 L21:;
-put64(b, l2 + 584, l11);
-put64(b, l2 + 568, l10);
+put64(b, l3 + 792, l8);
+put64(b, l3 + 776, l7);
 L20:;
-fill(b, l5, 32u, 96u);
-put8(b, l9 + 16, 0u);
-put64(b, l9 + 8, 0ull);
-put64(b, l9, 0ull);
-put64(b, l2 + 904, 72ull);
-put64(b, l2 + 896, 1ull);
-put8(b, l2 + 889, 68u);
-put64(b, l2 + 881, 3539864629463228484ull);
-l3 = get64(b, l1 + 64ull);
-if (!l3) { goto L3; }
-l11 = 0ull;
-l10 = 0ull;
-l9 = 0ull;
+l8 = 0ull;
+l7 = (l2 << ((l18 ? 2ull : 0ull) & 63)) * 81ull;
+l2 = get64(b, l3 + 608);
+if (l7 > (l2 ^ 18446744073709551615ull)) { goto L23; }
+l13 = get64(b, l3 + 616);
+if (l7 <= (l13 - l2)) { goto L23; }
+l7 = l2 + l7;
+if ((s64)l7 < (s64)0ull) { goto L23; }
+if (!l13) { goto L25; }
+rattle_realloc(b, l3 + 128ull, get64(b, l3 + 600), l2, l7, 1ull);
+if (!(((u32)get64(b, l3 + 128)) & 1u)) { goto L23; }
+l2 = get64(b, l3 + 136);
+goto L24;
+L25:;
+rattle_alloc(b, l3 + 112ull, l7, 1ull);
+if (!(((u32)get64(b, l3 + 112)) & 1u)) { goto L23; }
+l2 = get64(b, l3 + 120);
+L24:;
+put64(b, l3 + 616, l7);
+put64(b, l3 + 600, l2);
 L23:;
-if (get64(b, l1 + 64ull) <= l9) { goto L1; }
-l13 = get64(b, l1 + 56ull);
-l12 = l13 + l10;
-l7 = l9 & 2147483647ull;
-if (!get64(b, l13 + (l7 * 120ull))) { goto L25; }
-if (get64(b, l1 + 88ull) <= l7) { goto L25; }
-l13 = get64(b, l1 + 80ull) + (l7 * 24ull);
-l6 = get64(b, l13);
-l7 = get64(b, l13 + 8ull);
-l5 = get64(b, l2 + 720);
-f159(b, l2 + 928ull, 32u, (l11 & 4294967294ull) | 1ull);
-put8(b, l2 + 696, 1u);
-put64(b, l2 + 697, get64(b, l2 + 928));
-l20 = get8(b, l8 + ((u64)(!l7)));
-l13 = get64(b, l12);
-if ((s64)l13 < (s64)0ull) { goto L27; }
-l15 = get64(b, l2 + 728);
-if (l15 < 21ull) { goto L27; }
-if (l13 > 9ull) { goto L28; }
+fill(b, l4, 32u, 96u);
+put8(b, l6 + 16, 0u);
+put64(b, l6 + 8, 0ull);
+put64(b, l6, 0ull);
+put64(b, l3 + 936, 72ull);
+put64(b, l3 + 928, 1ull);
+put8(b, l3 + 921, 68u);
+put64(b, l3 + 913, 3539864629463228484ull);
+l12 = get64(b, l1 + 64ull);
+if (!l12) { goto L6; }
+l8 = 0ull;
+l7 = 0ull;
+l2 = 0ull;
+L26:;
+if (get64(b, l1 + 64ull) <= l2) { goto L4; }
+l14 = get64(b, l1 + 56ull);
+l13 = l14 + l7;
+l11 = l2 & 2147483647ull;
+if (!get64(b, l14 + (l11 * 120ull))) { goto L28; }
+if (get64(b, l1 + 88ull) <= l11) { goto L28; }
+l14 = get64(b, l1 + 80ull) + (l11 * 24ull);
+l9 = get64(b, l14);
+l11 = get64(b, l14 + 8ull);
+l4 = get64(b, l3 + 752);
+f159(b, l3 + 960ull, 32u, (l8 & 4294967294ull) | 1ull);
+put8(b, l3 + 728, 1u);
+put64(b, l3 + 729, get64(b, l3 + 960));
+l20 = get8(b, l10 + ((u64)(!l11)));
+l14 = get64(b, l13);
+if ((s64)l14 < (s64)0ull) { goto L30; }
+l6 = get64(b, l3 + 760);
+if (l6 < 21ull) { goto L30; }
+if (l14 > 9ull) { goto L31; }
 l18 = 0u;
 l19 = 0u;
-l16 = get64(b, l2 + 688);
+l16 = get64(b, l3 + 720);
 l17 = l16 + 2ull;
-if (l17 <= l15) { goto L29; }
-f156(b, l2 + 40ull, l2 + 568ull);
-l19 = get8(b, l2 + 40);
-if (!l19) { goto L30; }
-l18 = get8(b, l2 + 41);
-goto L26;
-L30:;
-l16 = get64(b, l2 + 688);
+if (l17 <= l6) { goto L32; }
+f156(b, l3 + 40ull, l3 + 600ull);
+l19 = get8(b, l3 + 40);
+if (!l19) { goto L33; }
+l18 = get8(b, l3 + 41);
+goto L29;
+L33:;
+l16 = get64(b, l3 + 720);
 l17 = l16 + 2ull;
-L29:;
-put16(b, l4 + l16, (l20 << 8) | ((((u32)l13) | 48u) & 255u));
-put64(b, l2 + 688, l17);
-goto L26;
-L28:;
-if (l13 > 99ull) { goto L31; }
-l21 = (u32)l13;
+L32:;
+put16(b, l5 + l16, (l20 << 8) | ((((u32)l14) | 48u) & 255u));
+put64(b, l3 + 720, l17);
+goto L29;
+L31:;
+if (l14 > 99ull) { goto L34; }
+l21 = (u32)l14;
 l22 = (l21 & 255u) / 10u;
 l18 = 0u;
 l19 = 0u;
-l13 = get64(b, l2 + 688);
-l16 = l13 + 3ull;
-if (l16 <= l15) { goto L32; }
-f156(b, l2 + 48ull, l2 + 568ull);
-l19 = get8(b, l2 + 48);
-if (!l19) { goto L33; }
-l18 = get8(b, l2 + 49);
-goto L26;
-L33:;
-l13 = get64(b, l2 + 688);
-l16 = l13 + 3ull;
-L32:;
-l13 = l4 + l13;
-put8(b, l13 + 2, l20);
-put8(b, l13 + 1, (l21 - (l22 * 10u)) | 48u);
-put8(b, l13, l22 | 48u);
-put64(b, l2 + 688, l16);
-goto L26;
-L31:;
-if (l13 > 999ull) { goto L34; }
-l22 = (u32)l13;
+l14 = get64(b, l3 + 720);
+l16 = l14 + 3ull;
+if (l16 <= l6) { goto L35; }
+f156(b, l3 + 48ull, l3 + 600ull);
+l19 = get8(b, l3 + 48);
+if (!l19) { goto L36; }
+l18 = get8(b, l3 + 49);
+goto L29;
+L36:;
+l14 = get64(b, l3 + 720);
+l16 = l14 + 3ull;
+L35:;
+l14 = l5 + l14;
+put8(b, l14 + 2, l20);
+put8(b, l14 + 1, (l21 - (l22 * 10u)) | 48u);
+put8(b, l14, l22 | 48u);
+put64(b, l3 + 720, l16);
+goto L29;
+L34:;
+if (l14 > 999ull) { goto L37; }
+l22 = (u32)l14;
 l18 = l22 & 65535u;
 l21 = l18 / 100u;
 l23 = l18 / 10u;
 l24 = (l23 & 255u) % 10u;
 l18 = 0u;
 l19 = 0u;
-l13 = get64(b, l2 + 688);
-l16 = l13 + 4ull;
-if (l16 <= l15) { goto L35; }
-f156(b, l2 + 56ull, l2 + 568ull);
-l19 = get8(b, l2 + 56);
-if (!l19) { goto L36; }
-l18 = get8(b, l2 + 57);
-goto L26;
-L36:;
-l13 = get64(b, l2 + 688);
-l16 = l13 + 4ull;
-L35:;
-put32(b, l4 + l13, (((l24 | 48u) << 8) | (((((l22 - (l23 * 10u)) | 48u) & 65535u) << 16) | (l20 << 24))) | (l21 | 48u));
-put64(b, l2 + 688, l16);
-goto L26;
-L34:;
-if (l13 > 9999ull) { goto L37; }
-l22 = (u32)l13;
+l14 = get64(b, l3 + 720);
+l16 = l14 + 4ull;
+if (l16 <= l6) { goto L38; }
+f156(b, l3 + 56ull, l3 + 600ull);
+l19 = get8(b, l3 + 56);
+if (!l19) { goto L39; }
+l18 = get8(b, l3 + 57);
+goto L29;
+L39:;
+l14 = get64(b, l3 + 720);
+l16 = l14 + 4ull;
+L38:;
+put32(b, l5 + l14, (((l24 | 48u) << 8) | (((((l22 - (l23 * 10u)) | 48u) & 65535u) << 16) | (l20 << 24))) | (l21 | 48u));
+put64(b, l3 + 720, l16);
+goto L29;
+L37:;
+if (l14 > 9999ull) { goto L40; }
+l22 = (u32)l14;
 l18 = l22 & 65535u;
 l21 = l18 / 1000u;
 l23 = l18 / 10u;
@@ -26590,29 +26704,29 @@ l24 = l23 % 10u;
 l25 = ((l18 / 100u) & 255u) % 10u;
 l18 = 0u;
 l19 = 0u;
-l13 = get64(b, l2 + 688);
-l16 = l13 + 5ull;
-if (l16 <= l15) { goto L38; }
-f156(b, l2 + 64ull, l2 + 568ull);
-l19 = get8(b, l2 + 64);
-if (!l19) { goto L39; }
-l18 = get8(b, l2 + 65);
-goto L26;
-L39:;
-l13 = get64(b, l2 + 688);
-l16 = l13 + 5ull;
-L38:;
-l13 = l4 + l13;
-put8(b, l13 + 4, l20);
-put8(b, l13 + 3, (l22 - (l23 * 10u)) | 48u);
-put8(b, l13 + 2, l24 | 48u);
-put8(b, l13 + 1, l25 | 48u);
-put8(b, l13, l21 | 48u);
-put64(b, l2 + 688, l16);
-goto L26;
-L37:;
-if (l13 > 99999ull) { goto L40; }
-l22 = (u32)l13;
+l14 = get64(b, l3 + 720);
+l16 = l14 + 5ull;
+if (l16 <= l6) { goto L41; }
+f156(b, l3 + 64ull, l3 + 600ull);
+l19 = get8(b, l3 + 64);
+if (!l19) { goto L42; }
+l18 = get8(b, l3 + 65);
+goto L29;
+L42:;
+l14 = get64(b, l3 + 720);
+l16 = l14 + 5ull;
+L41:;
+l14 = l5 + l14;
+put8(b, l14 + 4, l20);
+put8(b, l14 + 3, (l22 - (l23 * 10u)) | 48u);
+put8(b, l14 + 2, l24 | 48u);
+put8(b, l14 + 1, l25 | 48u);
+put8(b, l14, l21 | 48u);
+put64(b, l3 + 720, l16);
+goto L29;
+L40:;
+if (l14 > 99999ull) { goto L43; }
+l22 = (u32)l14;
 l21 = l22 / 10000u;
 l23 = l22 / 10u;
 l24 = (l23 & 65535u) % 10u;
@@ -26620,104 +26734,104 @@ l25 = ((l22 / 100u) & 65535u) % 10u;
 l26 = ((l22 / 1000u) & 255u) % 10u;
 l18 = 0u;
 l19 = 0u;
-l13 = get64(b, l2 + 688);
-l16 = l13 + 6ull;
-if (l16 <= l15) { goto L41; }
-f156(b, l2 + 72ull, l2 + 568ull);
-l19 = get8(b, l2 + 72);
-if (!l19) { goto L42; }
-l18 = get8(b, l2 + 73);
-goto L26;
-L42:;
-l13 = get64(b, l2 + 688);
-l16 = l13 + 6ull;
-L41:;
-l13 = l4 + l13;
-put8(b, l13 + 5, l20);
-put8(b, l13 + 4, (l22 - (l23 * 10u)) | 48u);
-put8(b, l13 + 3, l24 | 48u);
-put8(b, l13 + 2, l25 | 48u);
-put8(b, l13 + 1, l26 | 48u);
-put8(b, l13, l21 | 48u);
-put64(b, l2 + 688, l16);
-goto L26;
-L40:;
-f160(b, l2 + 80ull, l2 + 568ull, (l13 >> 63) ^ l13, l20);
-l18 = get8(b, l2 + 81);
-l19 = get8(b, l2 + 80);
-goto L26;
-L27:;
-put64(b, l2 + 960, 0ull);
-put64(b, l2 + 952, 0ull);
-put64(b, l2 + 944, 0ull);
-put64(b, l2 + 936, 0ull);
-put64(b, l2 + 928, 0ull);
-f161(b, l2 + 96ull, l2 + 928ull, l13);
-f162(b, l2 + 88ull, l2 + 568ull, get64(b, l2 + 96), get64(b, l2 + 104), l20);
-l18 = get8(b, l2 + 89);
-l19 = get8(b, l2 + 88);
-L26:;
-if (l19 & 255u) { goto L44; }
-f158(b, l2 + 32ull, l2 + 568ull, l6, l7, l8);
-if (get8(b, l2 + 32)) { goto L45; }
-f156(b, l2 + 24ull, l2 + 568ull);
-l18 = get8(b, l2 + 25);
-l19 = get8(b, l2 + 24);
-goto L43;
+l14 = get64(b, l3 + 720);
+l16 = l14 + 6ull;
+if (l16 <= l6) { goto L44; }
+f156(b, l3 + 72ull, l3 + 600ull);
+l19 = get8(b, l3 + 72);
+if (!l19) { goto L45; }
+l18 = get8(b, l3 + 73);
+goto L29;
 L45:;
-l18 = get8(b, l2 + 33);
+l14 = get64(b, l3 + 720);
+l16 = l14 + 6ull;
 L44:;
-l19 = 1u;
+l14 = l5 + l14;
+put8(b, l14 + 5, l20);
+put8(b, l14 + 4, (l22 - (l23 * 10u)) | 48u);
+put8(b, l14 + 3, l24 | 48u);
+put8(b, l14 + 2, l25 | 48u);
+put8(b, l14 + 1, l26 | 48u);
+put8(b, l14, l21 | 48u);
+put64(b, l3 + 720, l16);
+goto L29;
 L43:;
-if (l19 & 255u) { goto L46; }
-put64(b, l2 + 697, 0ull);
-put8(b, l2 + 696, 0u);
-f163(b, l2 + 16ull, l2 + 744ull, l12, l5, get64(b, l2 + 720) - l5);
-l18 = get8(b, l2 + 17);
-l19 = get8(b, l2 + 16);
-goto L24;
-L46:;
-l19 = 1u;
-goto L24;
-L25:;
-f163(b, l2 + 8ull, l2 + 744ull, l12, 0ull, 0ull);
-l18 = get8(b, l2 + 9);
-l19 = get8(b, l2 + 8);
-L24:;
-if (l19 & 255u) { goto L5; }
-l11 = l11 + 2ull;
-l10 = l10 + 120ull;
-l9 = l9 + 1ull;
-if (l3 == l9) { goto L4; }
-goto L23;
-L5:;
-if (!get64(b, l2 + 584)) { goto L47; }
-rattle_dealloc(b, get64(b, l2 + 568));
-L47:;
-if (!get64(b, l2 + 760)) { goto L48; }
-rattle_dealloc(b, get64(b, l2 + 744));
+f160(b, l3 + 80ull, l3 + 600ull, (l14 >> 63) ^ l14, l20);
+l18 = get8(b, l3 + 81);
+l19 = get8(b, l3 + 80);
+goto L29;
+L30:;
+put64(b, l3 + 992, 0ull);
+put64(b, l3 + 984, 0ull);
+put64(b, l3 + 976, 0ull);
+put64(b, l3 + 968, 0ull);
+put64(b, l3 + 960, 0ull);
+f161(b, l3 + 96ull, l3 + 960ull, l14);
+f162(b, l3 + 88ull, l3 + 600ull, get64(b, l3 + 96), get64(b, l3 + 104), l20);
+l18 = get8(b, l3 + 89);
+l19 = get8(b, l3 + 88);
+L29:;
+if (l19 & 255u) { goto L47; }
+f158(b, l3 + 32ull, l3 + 600ull, l9, l11, l10);
+if (get8(b, l3 + 32)) { goto L48; }
+f156(b, l3 + 24ull, l3 + 600ull);
+l18 = get8(b, l3 + 25);
+l19 = get8(b, l3 + 24);
+goto L46;
 L48:;
+l18 = get8(b, l3 + 33);
+L47:;
+l19 = 1u;
+L46:;
+if (l19 & 255u) { goto L49; }
+put64(b, l3 + 729, 0ull);
+put8(b, l3 + 728, 0u);
+f163(b, l3 + 16ull, l3 + 776ull, l13, l4, get64(b, l3 + 752) - l4);
+l18 = get8(b, l3 + 17);
+l19 = get8(b, l3 + 16);
+goto L27;
+L49:;
+l19 = 1u;
+goto L27;
+L28:;
+f163(b, l3 + 8ull, l3 + 776ull, l13, 0ull, 0ull);
+l18 = get8(b, l3 + 9);
+l19 = get8(b, l3 + 8);
+L27:;
+if (l19 & 255u) { goto L8; }
+l8 = l8 + 2ull;
+l7 = l7 + 120ull;
+l2 = l2 + 1ull;
+if (l12 == l2) { goto L7; }
+goto L26;
+L8:;
+if (!get64(b, l3 + 616)) { goto L50; }
+rattle_dealloc(b, get64(b, l3 + 600));
+L50:;
+if (!get64(b, l3 + 792)) { goto L51; }
+rattle_dealloc(b, get64(b, l3 + 776));
+L51:;
 put8(b, l0, 1u);
 put8(b, l0 + 1ull, l18);
 fill(b, l0 + 8ull, 0u, 384u);
-goto L2;
-L4:;
-l12 = get64(b, l2 + 896) + 18446744073709551615ull;
-L3:;
-l9 = get64(b, l1 + 8ull);
-l10 = get64(b, l2 + 720);
-copy(b, l2 + 216ull, l2 + 744ull, 176u);
-copy(b, (l2 + 216ull) + 176ull, l2 + 568ull, 176u);
+goto L5;
+L7:;
+l8 = get64(b, l3 + 928) + 18446744073709551615ull;
+L6:;
+l2 = get64(b, l1 + 8ull);
+l7 = get64(b, l3 + 752);
+copy(b, l3 + 248ull, l3 + 776ull, 176u);
+copy(b, (l3 + 248ull) + 176ull, l3 + 600ull, 176u);
 put16(b, l0, 0u);
-copy(b, l0 + 8ull, l2 + 216ull, 352u);
-put64(b, l0 + 384ull, l10 + 18446744073709551615ull);
-put64(b, l0 + 376ull, l12);
-put64(b, l0 + 368ull, l14 + 18446744073709551615ull);
-put64(b, l0 + 360ull, l9);
-L2:;
-SP = l2 + 976ull;
+copy(b, l0 + 8ull, l3 + 248ull, 352u);
+put64(b, l0 + 384ull, l7 + 18446744073709551615ull);
+put64(b, l0 + 376ull, l8);
+put64(b, l0 + 368ull, l15 + 18446744073709551615ull);
+put64(b, l0 + 360ull, l2);
+L5:;
+SP = l3 + 1008ull;
 return;
-L1:;
+L4:;
 abort();
 }
 
@@ -32858,231 +32972,231 @@ SP = l5 + 192ull;
 FN void f192(B b, u64 l0, u64 l1, u32 l2, u32 l3) {
 u32 l21 = 0, l22 = 0, l23 = 0, l24 = 0, l25 = 0, t0;
 u64 l4 = 0, l5 = 0, l6 = 0, l7 = 0, l8 = 0, l9 = 0, l10 = 0, l11 = 0, l12 = 0, l13 = 0, l14 = 0, l15 = 0, l16 = 0, l17 = 0, l18 = 0, l19 = 0, l20 = 0;
-l4 = SP - 2464ull;
+l4 = SP - 2736ull;
 SP = l4;
-fill(b, l4 + 88ull, 0u, 144u);
-fill(b, l4 + 1ull, 0u, 87u);
+fill(b, l4 + 96ull, 0u, 144u);
+fill(b, l4 + 9ull, 0u, 87u);
 l5 = l1 + 112ull;
 l21 = get32(b, l5);
-fill(b, l4 + 2304ull, 0u, 88u);
-put64(b, l4 + 248, 0ull);
-put64(b, l4 + 232, l1);
+fill(b, l4 + 2232ull, 0u, 88u);
 put64(b, l4 + 256, 0ull);
-put64(b, l4 + 272, 0ull);
+put64(b, l4 + 240, l1);
+put64(b, l4 + 264, 0ull);
 put64(b, l4 + 280, 0ull);
-put64(b, l4 + 296, 0ull);
+put64(b, l4 + 288, 0ull);
 put64(b, l4 + 304, 0ull);
-put64(b, l4 + 320, 0ull);
+put64(b, l4 + 312, 0ull);
 put64(b, l4 + 328, 0ull);
-put64(b, l4 + 344, 0ull);
+put64(b, l4 + 336, 0ull);
 put64(b, l4 + 352, 0ull);
+put64(b, l4 + 360, 0ull);
+put64(b, l4 + 384, 0ull);
 put64(b, l4 + 376, 0ull);
-put64(b, l4 + 368, 0ull);
-put64(b, l4 + 240, l4 + 2456ull);
-put64(b, l4 + 264, l4 + 2456ull);
-put64(b, l4 + 288, l4 + 2456ull);
-put64(b, l4 + 312, l4 + 2456ull);
-put64(b, l4 + 336, l4 + 2456ull);
-put64(b, l4 + 360, l4 + 2456ull);
-put64(b, l4 + 392, 0ull);
+put64(b, l4 + 248, l4 + 2728ull);
+put64(b, l4 + 272, l4 + 2728ull);
+put64(b, l4 + 296, l4 + 2728ull);
+put64(b, l4 + 320, l4 + 2728ull);
+put64(b, l4 + 344, l4 + 2728ull);
+put64(b, l4 + 368, l4 + 2728ull);
 put64(b, l4 + 400, 0ull);
-put64(b, l4 + 416, 0ull);
+put64(b, l4 + 408, 0ull);
 put64(b, l4 + 424, 0ull);
-put64(b, l4 + 440, 0ull);
+put64(b, l4 + 432, 0ull);
 put64(b, l4 + 448, 0ull);
-put64(b, l4 + 464, 0ull);
+put64(b, l4 + 456, 0ull);
 put64(b, l4 + 472, 0ull);
-put64(b, l4 + 488, 0ull);
+put64(b, l4 + 480, 0ull);
 put64(b, l4 + 496, 0ull);
 put64(b, l4 + 504, 0ull);
-put64(b, l4 + 512, 2611923443488327891ull);
-put64(b, l4 + 384, l4 + 2456ull);
-put64(b, l4 + 408, l4 + 2456ull);
-put64(b, l4 + 432, l4 + 2456ull);
-put64(b, l4 + 456, l4 + 2456ull);
-put64(b, l4 + 480, l4 + 2456ull);
-put64(b, l4 + 520, l4 + 2456ull);
+put64(b, l4 + 512, 0ull);
+put64(b, l4 + 520, 2611923443488327891ull);
+put64(b, l4 + 392, l4 + 2728ull);
+put64(b, l4 + 416, l4 + 2728ull);
+put64(b, l4 + 440, l4 + 2728ull);
+put64(b, l4 + 464, l4 + 2728ull);
+put64(b, l4 + 488, l4 + 2728ull);
+put64(b, l4 + 528, l4 + 2728ull);
+put64(b, l4 + 544, 0ull);
 put64(b, l4 + 536, 0ull);
-put64(b, l4 + 528, 0ull);
+put64(b, l4 + 568, 0ull);
 put64(b, l4 + 560, 0ull);
-put64(b, l4 + 552, 0ull);
+put64(b, l4 + 592, 0ull);
 put64(b, l4 + 584, 0ull);
-put64(b, l4 + 576, 0ull);
+put64(b, l4 + 616, 0ull);
 put64(b, l4 + 608, 0ull);
-put64(b, l4 + 600, 0ull);
+put64(b, l4 + 640, 0ull);
 put64(b, l4 + 632, 0ull);
-put64(b, l4 + 624, 0ull);
+put64(b, l4 + 664, 0ull);
 put64(b, l4 + 656, 0ull);
-put64(b, l4 + 648, 0ull);
-put64(b, l4 + 544, l4 + 2456ull);
-put64(b, l4 + 568, l4 + 2456ull);
-put64(b, l4 + 592, l4 + 2456ull);
-put64(b, l4 + 616, l4 + 2456ull);
-put64(b, l4 + 640, l4 + 2456ull);
-put64(b, l4 + 664, l4 + 2456ull);
+put64(b, l4 + 552, l4 + 2728ull);
+put64(b, l4 + 576, l4 + 2728ull);
+put64(b, l4 + 600, l4 + 2728ull);
+put64(b, l4 + 624, l4 + 2728ull);
+put64(b, l4 + 648, l4 + 2728ull);
+put64(b, l4 + 672, l4 + 2728ull);
+put64(b, l4 + 696, 0ull);
 put64(b, l4 + 688, 0ull);
 put64(b, l4 + 680, 0ull);
-put64(b, l4 + 672, 0ull);
-put64(b, l4 + 696, 2611923443488327891ull);
-put64(b, l4 + 704, l4 + 2456ull);
+put64(b, l4 + 704, 2611923443488327891ull);
+put64(b, l4 + 712, l4 + 2728ull);
+put64(b, l4 + 728, 0ull);
 put64(b, l4 + 720, 0ull);
-put64(b, l4 + 712, 0ull);
-put64(b, l4 + 728, l4 + 2456ull);
+put64(b, l4 + 736, l4 + 2728ull);
+put64(b, l4 + 752, 0ull);
 put64(b, l4 + 744, 0ull);
-put64(b, l4 + 736, 0ull);
-put64(b, l4 + 752, l4 + 2456ull);
+put64(b, l4 + 760, l4 + 2728ull);
+put64(b, l4 + 776, 0ull);
 put64(b, l4 + 768, 0ull);
-put64(b, l4 + 760, 0ull);
-put64(b, l4 + 776, l4 + 2456ull);
+put64(b, l4 + 784, l4 + 2728ull);
+put64(b, l4 + 800, 0ull);
 put64(b, l4 + 792, 0ull);
-put64(b, l4 + 784, 0ull);
-put64(b, l4 + 800, l4 + 2456ull);
+put64(b, l4 + 808, l4 + 2728ull);
+put64(b, l4 + 824, 0ull);
 put64(b, l4 + 816, 0ull);
-put64(b, l4 + 808, 0ull);
-put64(b, l4 + 824, l4 + 2456ull);
+put64(b, l4 + 832, l4 + 2728ull);
+put64(b, l4 + 848, 0ull);
 put64(b, l4 + 840, 0ull);
-put64(b, l4 + 832, 0ull);
-put64(b, l4 + 848, l4 + 2456ull);
+put64(b, l4 + 856, l4 + 2728ull);
+put64(b, l4 + 872, 0ull);
 put64(b, l4 + 864, 0ull);
-put64(b, l4 + 856, 0ull);
-put64(b, l4 + 872, l4 + 2456ull);
+put64(b, l4 + 880, l4 + 2728ull);
+put64(b, l4 + 896, 0ull);
 put64(b, l4 + 888, 0ull);
-put64(b, l4 + 880, 0ull);
-put64(b, l4 + 896, l4 + 2456ull);
+put64(b, l4 + 904, l4 + 2728ull);
+put64(b, l4 + 920, 0ull);
 put64(b, l4 + 912, 0ull);
-put64(b, l4 + 904, 0ull);
-f24(b, l4 + 2304ull, l4 + 232ull, l21);
-copy(b, l4 + 920ull, l4 + 232ull, 688u);
-f25(b, l4 + 920ull);
-l21 = get8(b, l4 + 2304);
-copy(b, l4 + 2000ull, (l4 + 2304ull) + 8ull, 80u);
-if (l21) { goto L8; }
-l6 = l4 + 8ull;
-copy(b, l6, l4 + 2000ull, 80u);
+f24(b, l4 + 2232ull, l4 + 240ull, l21);
+copy(b, l4 + 928ull, l4 + 240ull, 688u);
+f25(b, l4 + 928ull);
+l21 = get8(b, l4 + 2232);
+copy(b, l4 + 2088ull, (l4 + 2232ull) + 8ull, 80u);
+if (l21) { goto L7; }
+l6 = l4 + 16ull;
+copy(b, l6, l4 + 2088ull, 80u);
 l22 = get32(b, l5);
-fill(b, l4 + 1712ull, 0u, 144u);
+fill(b, l4 + 1720ull, 0u, 144u);
+put64(b, l4 + 1632, 0ull);
 put64(b, l4 + 1624, 0ull);
 put64(b, l4 + 1616, 0ull);
-put64(b, l4 + 1608, 0ull);
-copy(b, l4 + 1632ull, l6, 80u);
-fill(b, l4 + 2000ull, 0u, 104u);
-f194(b, l4 + 2000ull, l1, l4 + 1632ull);
-if (get8(b, l4 + 2000)) { goto L12; }
-copy(b, l4 + 1856ull, (l4 + 2000ull) + 8ull, 96u);
-fill(b, l4 + 2304ull, 0u, 128u);
-fill(b, l4 + 232ull, 0u, 136u);
+copy(b, l4 + 1640ull, l6, 80u);
+fill(b, l4 + 2088ull, 0u, 104u);
+f194(b, l4 + 2088ull, l1, l4 + 1640ull);
+if (get8(b, l4 + 2088)) { goto L11; }
+copy(b, l4 + 1864ull, (l4 + 2088ull) + 8ull, 96u);
+fill(b, l4 + 2232ull, 0u, 128u);
+fill(b, l4 + 240ull, 0u, 136u);
 l7 = 0ull;
-put64(b, l4 + 2152, 0ull);
-put64(b, l4 + 2160, 0ull);
-put64(b, l4 + 2144, l4 + 2456ull);
-l8 = get64(b, l4 + 1648);
-if (!(u32)(!l8)) { goto L17; }
-l9 = l4 + 2456ull;
+put64(b, l4 + 2656, 0ull);
+put64(b, l4 + 2664, 0ull);
+put64(b, l4 + 2648, l4 + 2728ull);
+l8 = get64(b, l4 + 1656);
+if (!(u32)(!l8)) { goto L16; }
+l9 = l4 + 2728ull;
 l23 = 1u;
-goto L16;
-L17:;
-l10 = (l4 + 232ull) + 8ull;
-l11 = l4 + 2456ull;
+goto L15;
+L16:;
+l10 = (l4 + 240ull) + 8ull;
+l11 = l4 + 2728ull;
 l7 = 0ull;
 l12 = 0ull;
 l13 = 0ull;
-L18:;
+L17:;
 l21 = (u32)l13;
-f124(b, l4 + 232ull, l4 + 1632ull, l21);
-if (get8(b, l4 + 232)) { goto L21; }
-copy(b, l4 + 2304ull, l10, 128u);
-put64(b, l4 + 2248, 0ull);
-put64(b, l4 + 2240, 0ull);
-put64(b, l4 + 2232, 0ull);
-put64(b, l4 + 2224, 0ull);
+f124(b, l4 + 240ull, l4 + 1640ull, l21);
+if (get8(b, l4 + 240)) { goto L20; }
+copy(b, l4 + 2232ull, l10, 128u);
+put64(b, l4 + 2544, 0ull);
+put64(b, l4 + 2536, 0ull);
+put64(b, l4 + 2528, 0ull);
+put64(b, l4 + 2520, 0ull);
 l24 = 0u;
-fill(b, l4 + 920ull, 0u, 160u);
-f195(b, l4 + 920ull, l4 + 1632ull, l21, l4 + 2304ull, l12);
-if (get8(b, l4 + 920)) { goto L14; }
-l23 = get8(b, l4 + 1000);
-l9 = get64(b, l4 + 976);
-if ((get64(b, l4 + 936) | get64(b, l4 + 960)) != 0ull) { goto L19; }
-l14 = get64(b, l4 + 1064);
-l15 = get64(b, l4 + 1040);
+fill(b, l4 + 928ull, 0u, 160u);
+f195(b, l4 + 928ull, l4 + 1640ull, l21, l4 + 2232ull, l12);
+if (get8(b, l4 + 928)) { goto L13; }
+l23 = get8(b, l4 + 1008);
+l9 = get64(b, l4 + 984);
+if ((get64(b, l4 + 944) | get64(b, l4 + 968)) != 0ull) { goto L18; }
+l14 = get64(b, l4 + 1072);
+l15 = get64(b, l4 + 1048);
 l5 = l9;
-l6 = get64(b, l4 + 984);
-if (!l6) { goto L20; }
-L22:;
-if (get32(b, l5)) { goto L19; }
+l6 = get64(b, l4 + 992);
+if (!l6) { goto L19; }
+L21:;
+if (get32(b, l5)) { goto L18; }
 l5 = l5 + 4ull;
 l6 = l6 + 18446744073709551615ull;
-if (!l6) { goto L20; }
-goto L22;
-L21:;
-l9 = get64(b, l4 + 2160);
-if (!l7) { goto L23; }
+if (!l6) { goto L19; }
+goto L21;
+L20:;
+l9 = get64(b, l4 + 2664);
+if (!l7) { goto L22; }
 l12 = 0ull;
-L24:;
+L23:;
 l5 = l11 + (l12 << 5);
 l13 = get64(b, l5 + 24);
 l1 = get64(b, l5 + 8);
 l6 = get64(b, l5 + 16);
-if (!l6) { goto L25; }
+if (!l6) { goto L24; }
 l5 = l1;
-L26:;
-copy(b, l4 + 920ull, l5, 152u);
-l5 = l5 + 160ull;
-f196(b, l4 + 920ull);
-l6 = l6 + 18446744073709551615ull;
-if (l6 != 0ull) { goto L26; }
 L25:;
-if (!l13) { goto L27; }
+copy(b, l4 + 928ull, l5, 152u);
+l5 = l5 + 160ull;
+f196(b, l4 + 928ull);
+l6 = l6 + 18446744073709551615ull;
+if (l6 != 0ull) { goto L25; }
+L24:;
+if (!l13) { goto L26; }
 rattle_dealloc(b, l1);
-L27:;
+L26:;
 l12 = l12 + 1ull;
-if (l12 != l7) { goto L24; }
-L23:;
-if (!l9) { goto L13; }
+if (l12 != l7) { goto L23; }
+L22:;
+if (!l9) { goto L12; }
 rattle_dealloc(b, l11);
-goto L13;
-L20:;
-l24 = (u32)(!(l15 | l14)) & (u32)((l23 & 255u) != 0u);
+goto L12;
 L19:;
-l5 = get64(b, l4 + 1072);
-l15 = get64(b, l4 + 1056);
-l16 = get64(b, l4 + 1048);
-l17 = get64(b, l4 + 1032);
-l18 = get64(b, l4 + 1024);
-l19 = get64(b, l4 + 1008);
-l6 = get64(b, l4 + 992);
-l14 = get64(b, l4 + 968);
-l20 = get64(b, l4 + 952);
-if (!get64(b, l4 + 944)) { goto L28; }
-rattle_dealloc(b, get64(b, l4 + 928));
-L28:;
-if (!l14) { goto L29; }
+l24 = (u32)(!(l15 | l14)) & (u32)((l23 & 255u) != 0u);
+L18:;
+l5 = get64(b, l4 + 1080);
+l15 = get64(b, l4 + 1064);
+l16 = get64(b, l4 + 1056);
+l17 = get64(b, l4 + 1040);
+l18 = get64(b, l4 + 1032);
+l19 = get64(b, l4 + 1016);
+l6 = get64(b, l4 + 1000);
+l14 = get64(b, l4 + 976);
+l20 = get64(b, l4 + 960);
+if (!get64(b, l4 + 952)) { goto L27; }
+rattle_dealloc(b, get64(b, l4 + 936));
+L27:;
+if (!l14) { goto L28; }
 rattle_dealloc(b, l20);
-L29:;
-if (!l6) { goto L30; }
+L28:;
+if (!l6) { goto L29; }
 rattle_dealloc(b, l9);
-L30:;
-if ((l23 & 255u) != 1u) { goto L31; }
-if (!l18) { goto L32; }
+L29:;
+if ((l23 & 255u) != 1u) { goto L30; }
+if (!l18) { goto L31; }
 rattle_dealloc(b, l19);
-L32:;
-if (!l16) { goto L31; }
-rattle_dealloc(b, l17);
 L31:;
-if (!l5) { goto L33; }
+if (!l16) { goto L30; }
+rattle_dealloc(b, l17);
+L30:;
+if (!l5) { goto L32; }
 rattle_dealloc(b, l15);
-L33:;
-if (l24) { goto L34; }
-f197(b, l4 + 2224ull, l4 + 1632ull, l4 + 1856ull, l21, l12);
-if (get8(b, l4 + 2224)) { goto L14; }
-l14 = get64(b, l4 + 2248);
-l6 = get64(b, l4 + 2240);
-l9 = get64(b, l4 + 2232);
-if (get64(b, l4 + 2160) != l7) { goto L35; }
-t0 = f198(b, l4 + 2144ull);
-if (!t0) { goto L15; }
-l11 = get64(b, l4 + 2144);
-l7 = get64(b, l4 + 2152);
-L35:;
+L32:;
+if (l24) { goto L33; }
+f197(b, l4 + 2520ull, l4 + 1640ull, l4 + 1864ull, l21, l12);
+if (get8(b, l4 + 2520)) { goto L13; }
+l14 = get64(b, l4 + 2544);
+l6 = get64(b, l4 + 2536);
+l9 = get64(b, l4 + 2528);
+if (get64(b, l4 + 2664) != l7) { goto L34; }
+t0 = f198(b, l4 + 2648ull);
+if (!t0) { goto L14; }
+l11 = get64(b, l4 + 2648);
+l7 = get64(b, l4 + 2656);
+L34:;
 l5 = l11 + (l7 << 5);
 put64(b, l5 + 24, l14);
 put64(b, l5 + 16, l6);
@@ -33090,146 +33204,144 @@ put64(b, l5 + 8, l9);
 put32(b, l5 + 4, 0u);
 put32(b, l5, l21);
 l7 = l7 + 1ull;
-put64(b, l4 + 2152, l7);
-L34:;
-l5 = get64(b, l4 + 2392);
-if (!l5) { goto L36; }
-l5 = (u64)get32(b, (get64(b, l4 + 2384) + (l5 << 2)) + 18446744073709551612ull) + 1ull;
+put64(b, l4 + 2656, l7);
+L33:;
+l5 = get64(b, l4 + 2320);
+if (!l5) { goto L35; }
+l5 = (u64)get32(b, (get64(b, l4 + 2312) + (l5 << 2)) + 18446744073709551612ull) + 1ull;
 l12 = (l5 > l12) ? l5 : l12;
+L35:;
+if (!get64(b, l4 + 2248)) { goto L36; }
+rattle_dealloc(b, get64(b, l4 + 2232));
 L36:;
-if (!get64(b, l4 + 2320)) { goto L37; }
-rattle_dealloc(b, get64(b, l4 + 2304));
+if (!get64(b, l4 + 2272)) { goto L37; }
+rattle_dealloc(b, get64(b, l4 + 2256));
 L37:;
-if (!get64(b, l4 + 2344)) { goto L38; }
-rattle_dealloc(b, get64(b, l4 + 2328));
+if (!get64(b, l4 + 2304)) { goto L38; }
+rattle_dealloc(b, get64(b, l4 + 2288));
 L38:;
-if (!get64(b, l4 + 2376)) { goto L39; }
-rattle_dealloc(b, get64(b, l4 + 2360));
+if (!get64(b, l4 + 2328)) { goto L39; }
+rattle_dealloc(b, get64(b, l4 + 2312));
 L39:;
-if (!get64(b, l4 + 2400)) { goto L40; }
-rattle_dealloc(b, get64(b, l4 + 2384));
+if (!get64(b, l4 + 2352)) { goto L40; }
+rattle_dealloc(b, get64(b, l4 + 2336));
 L40:;
-if (!get64(b, l4 + 2424)) { goto L41; }
-rattle_dealloc(b, get64(b, l4 + 2408));
-L41:;
 l13 = l13 + 1ull;
-if (l13 != l8) { goto L18; }
-l23 = (u32)(!get64(b, l4 + 2160));
-l9 = get64(b, l4 + 2144);
-L16:;
-l5 = get64(b, l4 + 1896);
-l6 = get64(b, l4 + 1880);
-if (!get64(b, l4 + 1872)) { goto L42; }
-rattle_dealloc(b, get64(b, l4 + 1856));
-L42:;
-if (!l5) { goto L43; }
+if (l13 != l8) { goto L17; }
+l23 = (u32)(!get64(b, l4 + 2664));
+l9 = get64(b, l4 + 2648);
+L15:;
+l5 = get64(b, l4 + 1904);
+l6 = get64(b, l4 + 1888);
+if (!get64(b, l4 + 1880)) { goto L41; }
+rattle_dealloc(b, get64(b, l4 + 1864));
+L41:;
+if (!l5) { goto L42; }
 rattle_dealloc(b, l6);
+L42:;
+if (!get64(b, l4 + 1928)) { goto L43; }
+rattle_dealloc(b, get64(b, l4 + 1912));
 L43:;
-if (!get64(b, l4 + 1920)) { goto L44; }
-rattle_dealloc(b, get64(b, l4 + 1904));
+if (!get64(b, l4 + 1952)) { goto L44; }
+rattle_dealloc(b, get64(b, l4 + 1936));
 L44:;
-if (!get64(b, l4 + 1944)) { goto L45; }
-rattle_dealloc(b, get64(b, l4 + 1928));
-L45:;
-fill(b, l4 + 2000ull, 0u, 144u);
-fill(b, l4 + 1856ull, 0u, 144u);
-copy(b, l4 + 2144ull, l4 + 1632ull, 80u);
+fill(b, l4 + 1864ull, 0u, 144u);
+copy(b, l4 + 2008ull, l4 + 1640ull, 80u);
 l25 = (u32)(!l7);
-if (l25) { goto L10; }
+if (l25) { goto L9; }
 l5 = l9 + 16ull;
 l6 = l7;
-goto L11;
-L15:;
-if (!l6) { goto L46; }
-l5 = l9;
-L47:;
-copy(b, l4 + 920ull, l5, 152u);
-l5 = l5 + 160ull;
-f196(b, l4 + 920ull);
-l6 = l6 + 18446744073709551615ull;
-if (l6 != 0ull) { goto L47; }
-L46:;
-if (!l14) { goto L14; }
-rattle_dealloc(b, l9);
+goto L10;
 L14:;
-if (!get64(b, l4 + 2320)) { goto L48; }
-rattle_dealloc(b, get64(b, l4 + 2304));
+if (!l6) { goto L45; }
+l5 = l9;
+L46:;
+copy(b, l4 + 928ull, l5, 152u);
+l5 = l5 + 160ull;
+f196(b, l4 + 928ull);
+l6 = l6 + 18446744073709551615ull;
+if (l6 != 0ull) { goto L46; }
+L45:;
+if (!l14) { goto L13; }
+rattle_dealloc(b, l9);
+L13:;
+if (!get64(b, l4 + 2248)) { goto L47; }
+rattle_dealloc(b, get64(b, l4 + 2232));
+L47:;
+if (!get64(b, l4 + 2272)) { goto L48; }
+rattle_dealloc(b, get64(b, l4 + 2256));
 L48:;
-if (!get64(b, l4 + 2344)) { goto L49; }
-rattle_dealloc(b, get64(b, l4 + 2328));
+if (!get64(b, l4 + 2304)) { goto L49; }
+rattle_dealloc(b, get64(b, l4 + 2288));
 L49:;
-if (!get64(b, l4 + 2376)) { goto L50; }
-rattle_dealloc(b, get64(b, l4 + 2360));
+if (!get64(b, l4 + 2328)) { goto L50; }
+rattle_dealloc(b, get64(b, l4 + 2312));
 L50:;
-if (!get64(b, l4 + 2400)) { goto L51; }
-rattle_dealloc(b, get64(b, l4 + 2384));
+if (!get64(b, l4 + 2352)) { goto L51; }
+rattle_dealloc(b, get64(b, l4 + 2336));
 L51:;
-if (!get64(b, l4 + 2424)) { goto L52; }
-rattle_dealloc(b, get64(b, l4 + 2408));
-L52:;
-l14 = get64(b, l4 + 2160);
-l13 = get64(b, l4 + 2144);
-l9 = get64(b, l4 + 2152);
-if (!l9) { goto L53; }
+l14 = get64(b, l4 + 2664);
+l13 = get64(b, l4 + 2648);
+l9 = get64(b, l4 + 2656);
+if (!l9) { goto L52; }
 l12 = 0ull;
-L54:;
+L53:;
 l5 = l13 + (l12 << 5);
 l1 = get64(b, l5 + 24);
 l7 = get64(b, l5 + 8);
 l6 = get64(b, l5 + 16);
-if (!l6) { goto L55; }
+if (!l6) { goto L54; }
 l5 = l7;
-L56:;
-copy(b, l4 + 920ull, l5, 152u);
-l5 = l5 + 160ull;
-f196(b, l4 + 920ull);
-l6 = l6 + 18446744073709551615ull;
-if (l6 != 0ull) { goto L56; }
 L55:;
-if (!l1) { goto L57; }
+copy(b, l4 + 928ull, l5, 152u);
+l5 = l5 + 160ull;
+f196(b, l4 + 928ull);
+l6 = l6 + 18446744073709551615ull;
+if (l6 != 0ull) { goto L55; }
+L54:;
+if (!l1) { goto L56; }
 rattle_dealloc(b, l7);
-L57:;
+L56:;
 l12 = l12 + 1ull;
-if (l12 != l9) { goto L54; }
-L53:;
-if (!l14) { goto L13; }
+if (l12 != l9) { goto L53; }
+L52:;
+if (!l14) { goto L12; }
 rattle_dealloc(b, l13);
-L13:;
-l5 = get64(b, l4 + 1896);
-l6 = get64(b, l4 + 1880);
-if (!get64(b, l4 + 1872)) { goto L58; }
-rattle_dealloc(b, get64(b, l4 + 1856));
-L58:;
-if (!l5) { goto L59; }
-rattle_dealloc(b, l6);
-L59:;
-if (!get64(b, l4 + 1920)) { goto L60; }
-rattle_dealloc(b, get64(b, l4 + 1904));
-L60:;
-if (!get64(b, l4 + 1944)) { goto L12; }
-rattle_dealloc(b, get64(b, l4 + 1928));
 L12:;
-put64(b, l4 + 1608, get64(b, l4 + 1640));
+l5 = get64(b, l4 + 1904);
+l6 = get64(b, l4 + 1888);
+if (!get64(b, l4 + 1880)) { goto L57; }
+rattle_dealloc(b, get64(b, l4 + 1864));
+L57:;
+if (!l5) { goto L58; }
+rattle_dealloc(b, l6);
+L58:;
+if (!get64(b, l4 + 1928)) { goto L59; }
+rattle_dealloc(b, get64(b, l4 + 1912));
+L59:;
+if (!get64(b, l4 + 1952)) { goto L11; }
+rattle_dealloc(b, get64(b, l4 + 1936));
+L11:;
 put64(b, l4 + 1616, get64(b, l4 + 1648));
 put64(b, l4 + 1624, get64(b, l4 + 1656));
-f199(b, l4 + 1608ull);
-if (!get64(b, l4 + 1680)) { goto L61; }
-rattle_dealloc(b, get64(b, l4 + 1664));
+put64(b, l4 + 1632, get64(b, l4 + 1664));
+f199(b, l4 + 1616ull);
+if (!get64(b, l4 + 1688)) { goto L60; }
+rattle_dealloc(b, get64(b, l4 + 1672));
+L60:;
+if (!get64(b, l4 + 1712)) { goto L61; }
+rattle_dealloc(b, get64(b, l4 + 1696));
 L61:;
-if (!get64(b, l4 + 1704)) { goto L62; }
-rattle_dealloc(b, get64(b, l4 + 1688));
-L62:;
 l24 = 0u;
-fill(b, l4 + 88ull, 0u, 144u);
+fill(b, l4 + 96ull, 0u, 144u);
 l5 = 0ull;
 l23 = 1u;
 l21 = 0u;
 l14 = 0ull;
 goto L2;
-L11:;
+L10:;
 L65:;
 l12 = 0ull;
-l21 = 0u;
 if (!get64(b, l5)) { goto L64; }
 l5 = l5 + 32ull;
 l6 = l6 + 18446744073709551615ull;
@@ -33237,8 +33349,9 @@ if (!l6) { goto L63; }
 goto L65;
 L64:;
 l24 = 0u;
+l21 = 0u;
 l14 = 0ull;
-goto L5;
+goto L62;
 L63:;
 l16 = (u64)l3;
 l6 = (l2 & 255u) ? l16 : 1ull;
@@ -33259,8 +33372,9 @@ l5 = l5 + 32ull;
 l13 = l13 + 18446744073709551615ull;
 if (l13 != 0ull) { goto L66; }
 l24 = 1u;
-if (l14 != 0ull) { goto L5; }
-if (l2 & 255u) { goto L9; }
+l21 = 0u;
+if (l14 != 0ull) { goto L62; }
+if (l2 & 255u) { goto L8; }
 l5 = l9 + 8ull;
 l6 = l7;
 L69:;
@@ -33268,302 +33382,397 @@ if (!get64(b, l5 + 8ull)) { goto L68; }
 if (!get8(b, get64(b, l5) + 156ull)) { goto L68; }
 l5 = l5 + 32ull;
 l6 = l6 + 18446744073709551615ull;
-if (!l6) { goto L9; }
+if (!l6) { goto L8; }
 goto L69;
 L68:;
-fill(b, l4 + 920ull, 0u, 176u);
-fill(b, l4 + 232ull, 0u, 176u);
-f200(b, l4 + 920ull, l1, l4 + 2144ull, l9, l7, 1ull);
-if (get8(b, l4 + 920)) { goto L71; }
-l5 = l4 + 936ull;
-if (get8(b, l4 + 928) != 1u) { goto L72; }
-f201(b, l4 + 232ull, l5, l22, get64(b, l1 + 64ull));
-if (get8(b, l4 + 232)) { goto L71; }
-l21 = 1u;
-if (get8(b, l4 + 240) == 1u) { goto L6; }
-L72:;
-fill(b, l4 + 920ull, 0u, 176u);
-fill(b, l4 + 232ull, 0u, 176u);
-f200(b, l4 + 920ull, l1, l4 + 2144ull, l9, l7, 2ull);
-if (get8(b, l4 + 920)) { goto L71; }
-if (get8(b, l4 + 928) != 1u) { goto L73; }
-f201(b, l4 + 232ull, l5, l22, get64(b, l1 + 64ull));
-if (get8(b, l4 + 232)) { goto L71; }
-if (get8(b, l4 + 240) != 1u) { goto L73; }
-l21 = 2u;
-goto L6;
-L73:;
-fill(b, l4 + 920ull, 0u, 176u);
-fill(b, l4 + 232ull, 0u, 176u);
-f200(b, l4 + 920ull, l1, l4 + 2144ull, l9, l7, 3ull);
-if (get8(b, l4 + 920)) { goto L71; }
-if (get8(b, l4 + 928) != 1u) { goto L74; }
-f201(b, l4 + 232ull, l5, l22, get64(b, l1 + 64ull));
-if (get8(b, l4 + 232)) { goto L71; }
-if (get8(b, l4 + 240) != 1u) { goto L74; }
-l21 = 3u;
-goto L6;
-L74:;
-fill(b, l4 + 920ull, 0u, 176u);
-fill(b, l4 + 232ull, 0u, 176u);
-f200(b, l4 + 920ull, l1, l4 + 2144ull, l9, l7, 4ull);
-if (get8(b, l4 + 920)) { goto L71; }
-if (get8(b, l4 + 928) != 1u) { goto L75; }
-f201(b, l4 + 232ull, l5, l22, get64(b, l1 + 64ull));
-if (get8(b, l4 + 232)) { goto L71; }
-if (get8(b, l4 + 240) != 1u) { goto L75; }
-l21 = 4u;
-goto L6;
+l17 = l4 + 2248ull;
+l15 = 1ull;
+L70:;
+l13 = 0ull;
+put64(b, l4 + 2088, 0ull);
+put64(b, l4 + 2096, 0ull);
+put64(b, l4 + 2104, 0ull);
+put64(b, l4 + 2112, 0ull);
+put64(b, l4 + 2120, 0ull);
+put64(b, l4 + 2128, 0ull);
+put64(b, l4 + 2136, 0ull);
+put64(b, l4 + 2144, 0ull);
+fill(b, l4 + 2232ull, 0u, 128u);
+fill(b, l4 + 928ull, 0u, 176u);
+f200(b, l4 + 2088ull, l9, l7, l15);
+if (get8(b, l4 + 2088)) { goto L73; }
+if (get8(b, l4 + 2096) != 1u) { goto L71; }
+l20 = get64(b, l4 + 2144);
+l5 = get64(b, l4 + 2136);
+l18 = get64(b, l4 + 2128);
+l16 = get64(b, l4 + 2120);
+l14 = get64(b, l4 + 2104);
+l6 = get64(b, l4 + 2112);
+f201(b, l4 + 2232ull, l1, l4 + 2008ull, l14, l6);
+if (get8(b, l4 + 2232)) { goto L74; }
+if (get8(b, l4 + 2240) != 1u) { goto L72; }
+put64(b, l4 + 2560, l20);
+put64(b, l4 + 2552, l5);
+put64(b, l4 + 2544, l18);
+put64(b, l4 + 2536, l16);
+put64(b, l4 + 2528, l6);
+put64(b, l4 + 2520, l14);
+f202(b, l4 + 928ull, l17, l4 + 2520ull, l22, get64(b, l1 + 64ull));
+if (get8(b, l4 + 928)) { goto L73; }
+if (get8(b, l4 + 936) != 1u) { goto L71; }
+l13 = get64(b, l4 + 1096);
+l20 = get64(b, l4 + 1080);
+l5 = get64(b, l4 + 1016);
+l6 = get64(b, l4 + 1000);
+if (!get64(b, l4 + 960)) { goto L75; }
+rattle_dealloc(b, get64(b, l4 + 944));
 L75:;
-fill(b, l4 + 920ull, 0u, 176u);
-fill(b, l4 + 232ull, 0u, 176u);
-f200(b, l4 + 920ull, l1, l4 + 2144ull, l9, l7, 5ull);
-if (get8(b, l4 + 920)) { goto L71; }
-if (get8(b, l4 + 928) != 1u) { goto L76; }
-f201(b, l4 + 232ull, l5, l22, get64(b, l1 + 64ull));
-if (get8(b, l4 + 232)) { goto L71; }
-if (get8(b, l4 + 240) != 1u) { goto L76; }
-l21 = 5u;
-goto L6;
+f203(b, l4 + 976ull);
+if (!l5) { goto L76; }
+rattle_dealloc(b, l6);
 L76:;
-fill(b, l4 + 920ull, 0u, 176u);
-fill(b, l4 + 232ull, 0u, 176u);
-f200(b, l4 + 920ull, l1, l4 + 2144ull, l9, l7, 6ull);
-if (get8(b, l4 + 920)) { goto L71; }
-if (get8(b, l4 + 928) != 1u) { goto L70; }
-f201(b, l4 + 232ull, l5, l22, get64(b, l1 + 64ull));
-if (get8(b, l4 + 232)) { goto L71; }
-if (get8(b, l4 + 240) != 1u) { goto L70; }
-l21 = 6u;
-goto L6;
-L71:;
-l12 = 0ull;
-L77:;
-l5 = l9 + (l12 << 5);
-l13 = get64(b, l5 + 24);
-l1 = get64(b, l5 + 8);
-l6 = get64(b, l5 + 16);
-if (!l6) { goto L78; }
+l14 = get64(b, l4 + 1040);
+l1 = get64(b, l4 + 1024);
+l6 = get64(b, l4 + 1032);
+if (!l6) { goto L77; }
 l5 = l1;
-L79:;
-copy(b, l4 + 920ull, l5, 152u);
-l5 = l5 + 160ull;
-f196(b, l4 + 920ull);
-l6 = l6 + 18446744073709551615ull;
-if (l6 != 0ull) { goto L79; }
 L78:;
-if (!l13) { goto L80; }
+put64(b, l4 + 256, get64(b, l5 + 16));
+put64(b, l4 + 248, get64(b, l5 + 8));
+put64(b, l4 + 240, get64(b, l5));
+l5 = l5 + 24ull;
+f203(b, l4 + 240ull);
+l6 = l6 + 18446744073709551615ull;
+if (l6 != 0ull) { goto L78; }
+L77:;
+if (!l14) { goto L79; }
 rattle_dealloc(b, l1);
-L80:;
-l12 = l12 + 1ull;
-if (l12 != l7) { goto L77; }
-if (l23) { goto L81; }
-rattle_dealloc(b, l9);
+L79:;
+l14 = get64(b, l4 + 1072);
+l1 = get64(b, l4 + 1056);
+l6 = get64(b, l4 + 1064);
+if (!l6) { goto L80; }
+l5 = l1;
 L81:;
-f199(b, l4 + 2152ull);
-if (!get64(b, l4 + 2192)) { goto L82; }
-rattle_dealloc(b, get64(b, l4 + 2176));
+copy(b, l4 + 240ull, l5, 152u);
+l5 = l5 + 152ull;
+f196(b, l4 + 240ull);
+l6 = l6 + 18446744073709551615ull;
+if (l6 != 0ull) { goto L81; }
+L80:;
+if (!l14) { goto L82; }
+rattle_dealloc(b, l1);
 L82:;
-if (!get64(b, l4 + 2216)) { goto L83; }
-rattle_dealloc(b, get64(b, l4 + 2200));
+if (!l13) { goto L83; }
+rattle_dealloc(b, l20);
 L83:;
+l21 = (u32)l15;
+l14 = 0ull;
+l24 = 2u;
+goto L62;
+L74:;
+if (!l6) { goto L84; }
+l5 = l14;
+L85:;
+copy(b, l4 + 240ull, l5, 152u);
+l5 = l5 + 152ull;
+f196(b, l4 + 240ull);
+l6 = l6 + 18446744073709551615ull;
+if (l6 != 0ull) { goto L85; }
+L84:;
+if (!l16) { goto L86; }
+rattle_dealloc(b, l14);
+L86:;
+if (!l20) { goto L73; }
+rattle_dealloc(b, l18);
+L73:;
+L87:;
+l5 = l9 + (l13 << 5);
+l1 = get64(b, l5 + 24);
+l12 = get64(b, l5 + 8);
+l6 = get64(b, l5 + 16);
+if (!l6) { goto L88; }
+l5 = l12;
+L89:;
+copy(b, l4 + 928ull, l5, 152u);
+l5 = l5 + 160ull;
+f196(b, l4 + 928ull);
+l6 = l6 + 18446744073709551615ull;
+if (l6 != 0ull) { goto L89; }
+L88:;
+if (!l1) { goto L90; }
+rattle_dealloc(b, l12);
+L90:;
+l13 = l13 + 1ull;
+if (l13 != l7) { goto L87; }
+if (l23) { goto L91; }
+rattle_dealloc(b, l9);
+L91:;
+f199(b, l4 + 2016ull);
+if (!get64(b, l4 + 2056)) { goto L92; }
+rattle_dealloc(b, get64(b, l4 + 2040));
+L92:;
+if (!get64(b, l4 + 2080)) { goto L93; }
+rattle_dealloc(b, get64(b, l4 + 2064));
+L93:;
 l24 = 0u;
-fill(b, l4 + 1712ull, 0u, 144u);
+fill(b, l4 + 1720ull, 0u, 144u);
 l5 = 0ull;
 l23 = 1u;
 l21 = 0u;
 l14 = 0ull;
 goto L3;
-L70:;
-l14 = 0ull;
-l24 = 0u;
-l21 = 0u;
-goto L5;
-L10:;
-l16 = (u64)l3;
-L9:;
-fill(b, l4 + 920ull, 0u, 176u);
-fill(b, l4 + 232ull, 0u, 176u);
-copy(b, l4 + 2224ull, l4 + 1632ull, 80u);
-f200(b, l4 + 920ull, l1, l4 + 2224ull, l9, l7, (l2 & 255u) ? l16 : 1ull);
-if (l25) { goto L84; }
-l12 = 0ull;
-L85:;
-l5 = l9 + (l12 << 5);
-l14 = get64(b, l5 + 24);
-l13 = get64(b, l5 + 8);
-l6 = get64(b, l5 + 16);
-if (!l6) { goto L86; }
-l5 = l13;
-L87:;
-copy(b, l4 + 2304ull, l5, 152u);
-l5 = l5 + 160ull;
-f196(b, l4 + 2304ull);
-l6 = l6 + 18446744073709551615ull;
-if (l6 != 0ull) { goto L87; }
-L86:;
-if (!l14) { goto L88; }
-rattle_dealloc(b, l13);
-L88:;
-l12 = l12 + 1ull;
-if (l12 != l7) { goto L85; }
-L84:;
-if (l23) { goto L89; }
-rattle_dealloc(b, l9);
-L89:;
-l5 = get64(b, l4 + 2296);
-l12 = get64(b, l4 + 2280);
-l7 = get64(b, l4 + 2256);
-l6 = get64(b, l4 + 2272);
-f199(b, l4 + 2232ull);
-if (!l6) { goto L90; }
-rattle_dealloc(b, l7);
-L90:;
-if (!l5) { goto L91; }
-rattle_dealloc(b, l12);
-L91:;
-if (get8(b, l4 + 920)) { goto L96; }
-if (get8(b, l4 + 928) != 1u) { goto L95; }
-f201(b, l4 + 232ull, l4 + 936ull, l22, get64(b, l1 + 64ull));
-if (get8(b, l4 + 232)) { goto L94; }
-if (get8(b, l4 + 240) != 1u) { goto L93; }
-l24 = get32(b, l4 + 248);
-l21 = get32(b, l4 + 252);
-l14 = get64(b, l4 + 256);
-copy(b, l4 + 2304ull, l4 + 264ull, 144u);
-l5 = 0ull;
-goto L92;
-L96:;
-l24 = 0u;
-fill(b, l4 + 2000ull, 0u, 144u);
-goto L7;
-L95:;
-l23 = 0u;
-fill(b, l4 + 2000ull, 0u, 144u);
-l14 = 0ull;
-l5 = 1ull;
-l24 = 0u;
-l21 = 0u;
-goto L4;
-L94:;
-l24 = 0u;
-fill(b, l4 + 2000ull, 0u, 144u);
-goto L7;
-L93:;
-l24 = 0u;
-fill(b, l4 + 2304ull, 0u, 144u);
-l14 = 0ull;
-l5 = 1ull;
-l21 = 0u;
-L92:;
-copy(b, l4 + 2000ull, l4 + 2304ull, 144u);
-l23 = 0u;
-goto L4;
-L8:;
-put8(b, l0, 1u);
-fill(b, l0 + 8ull, 0u, 168u);
-goto L1;
-L7:;
-l5 = 0ull;
-l23 = 1u;
-l21 = 0u;
-l14 = 0ull;
-goto L4;
-L6:;
-l15 = get64(b, l4 + 400);
-l18 = get64(b, l4 + 384);
-l20 = get64(b, l4 + 376);
-l6 = get64(b, l4 + 368);
-l13 = get64(b, l4 + 360);
-l16 = get64(b, l4 + 344);
-l1 = get64(b, l4 + 336);
-l14 = get64(b, l4 + 328);
-l5 = get64(b, l4 + 320);
-l17 = get64(b, l4 + 304);
-l19 = get64(b, l4 + 248);
-if (!get64(b, l4 + 264)) { goto L97; }
-rattle_dealloc(b, l19);
-L97:;
-f202(b, l4 + 280ull);
-if (!l5) { goto L98; }
-rattle_dealloc(b, l17);
-L98:;
-if (!l1) { goto L99; }
+L72:;
+if (!l6) { goto L94; }
 l5 = l14;
-L100:;
-put64(b, l4 + 2320, get64(b, l5 + 16));
-put64(b, l4 + 2312, get64(b, l5 + 8));
-put64(b, l4 + 2304, get64(b, l5));
-l5 = l5 + 24ull;
-f202(b, l4 + 2304ull);
-l1 = l1 + 18446744073709551615ull;
-if (l1 != 0ull) { goto L100; }
-L99:;
-if (!l16) { goto L101; }
-rattle_dealloc(b, l14);
-L101:;
-if (!l6) { goto L102; }
-l5 = l13;
-L103:;
-copy(b, l4 + 2304ull, l5, 152u);
+L95:;
+copy(b, l4 + 240ull, l5, 152u);
 l5 = l5 + 152ull;
-f196(b, l4 + 2304ull);
+f196(b, l4 + 240ull);
 l6 = l6 + 18446744073709551615ull;
-if (l6 != 0ull) { goto L103; }
-L102:;
-if (!l20) { goto L104; }
-rattle_dealloc(b, l13);
-L104:;
-if (!l15) { goto L105; }
+if (l6 != 0ull) { goto L95; }
+L94:;
+if (!l16) { goto L96; }
+rattle_dealloc(b, l14);
+L96:;
+if (!l20) { goto L71; }
 rattle_dealloc(b, l18);
-L105:;
+L71:;
 l14 = 0ull;
-l24 = 2u;
-L5:;
-copy(b, l4 + 2000ull, l4 + 1856ull, 144u);
-L106:;
+l24 = 0u;
+l21 = 0u;
+l15 = l15 + 1ull;
+if (l15 != 7ull) { goto L70; }
+L62:;
+fill(b, l4 + 1864ull, 0u, 144u);
+L97:;
 l5 = l9 + (l12 << 5);
 l13 = get64(b, l5 + 24);
 l1 = get64(b, l5 + 8);
 l6 = get64(b, l5 + 16);
-if (!l6) { goto L107; }
+if (!l6) { goto L98; }
 l5 = l1;
-L108:;
-copy(b, l4 + 920ull, l5, 152u);
+L99:;
+copy(b, l4 + 928ull, l5, 152u);
 l5 = l5 + 160ull;
-f196(b, l4 + 920ull);
+f196(b, l4 + 928ull);
 l6 = l6 + 18446744073709551615ull;
-if (l6 != 0ull) { goto L108; }
-L107:;
-if (!l13) { goto L109; }
+if (l6 != 0ull) { goto L99; }
+L98:;
+if (!l13) { goto L100; }
 rattle_dealloc(b, l1);
-L109:;
+L100:;
 l12 = l12 + 1ull;
-if (l12 != l7) { goto L106; }
-if (l23) { goto L110; }
+if (l12 != l7) { goto L97; }
+if (l23) { goto L101; }
 rattle_dealloc(b, l9);
-L110:;
-f199(b, l4 + 2152ull);
-if (!get64(b, l4 + 2192)) { goto L111; }
-rattle_dealloc(b, get64(b, l4 + 2176));
-L111:;
+L101:;
+f199(b, l4 + 2016ull);
+if (!get64(b, l4 + 2056)) { goto L102; }
+rattle_dealloc(b, get64(b, l4 + 2040));
+L102:;
 l5 = 1ull;
 l23 = 0u;
-if (!get64(b, l4 + 2216)) { goto L4; }
-rattle_dealloc(b, get64(b, l4 + 2200));
+if (!get64(b, l4 + 2080)) { goto L4; }
+rattle_dealloc(b, get64(b, l4 + 2064));
+goto L4;
+L9:;
+l16 = (u64)l3;
+L8:;
+l15 = get64(b, l4 + 2080);
+l19 = get64(b, l4 + 2072);
+l18 = get64(b, l4 + 2064);
+l20 = get64(b, l4 + 2056);
+l11 = get64(b, l4 + 2048);
+l17 = get64(b, l4 + 2040);
+put64(b, l4 + 2440, get64(b, l4 + 1640));
+put64(b, l4 + 2448, get64(b, l4 + 1648));
+put64(b, l4 + 2456, get64(b, l4 + 1656));
+put64(b, l4 + 2464, get64(b, l4 + 1664));
+l12 = 0ull;
+put64(b, l4 + 2376, 0ull);
+put64(b, l4 + 2384, 0ull);
+put64(b, l4 + 2392, 0ull);
+put64(b, l4 + 2400, 0ull);
+put64(b, l4 + 2408, 0ull);
+put64(b, l4 + 2416, 0ull);
+put64(b, l4 + 2424, 0ull);
+put64(b, l4 + 2432, 0ull);
+fill(b, l4 + 2232ull, 0u, 144u);
+fill(b, l4 + 2088ull, 0u, 144u);
+f200(b, l4 + 2376ull, l9, l7, (l2 & 255u) ? l16 : 1ull);
+if (l25) { goto L103; }
+L104:;
+l5 = l9 + (l12 << 5);
+l14 = get64(b, l5 + 24);
+l13 = get64(b, l5 + 8);
+l6 = get64(b, l5 + 16);
+if (!l6) { goto L105; }
+l5 = l13;
+L106:;
+copy(b, l4 + 928ull, l5, 152u);
+l5 = l5 + 160ull;
+f196(b, l4 + 928ull);
+l6 = l6 + 18446744073709551615ull;
+if (l6 != 0ull) { goto L106; }
+L105:;
+if (!l14) { goto L107; }
+rattle_dealloc(b, l13);
+L107:;
+l12 = l12 + 1ull;
+if (l12 != l7) { goto L104; }
+L103:;
+if (l23) { goto L108; }
+rattle_dealloc(b, l9);
+L108:;
+if (get8(b, l4 + 2376)) { goto L116; }
+if (get8(b, l4 + 2384) != 1u) { goto L110; }
+l7 = get64(b, l4 + 2432);
+l5 = get64(b, l4 + 2424);
+l9 = get64(b, l4 + 2416);
+l13 = get64(b, l4 + 2408);
+l6 = get64(b, l4 + 2400);
+l12 = get64(b, l4 + 2392);
+fill(b, l4 + 2520ull, 0u, 128u);
+fill(b, l4 + 928ull, 0u, 176u);
+put64(b, l4 + 2720, l15);
+put64(b, l4 + 2712, l19);
+put64(b, l4 + 2704, l18);
+put64(b, l4 + 2688, l11);
+put64(b, l4 + 2680, l17);
+put64(b, l4 + 2672, get64(b, l4 + 2464));
+put64(b, l4 + 2664, get64(b, l4 + 2456));
+put64(b, l4 + 2656, get64(b, l4 + 2448));
+put64(b, l4 + 2648, get64(b, l4 + 2440));
+put64(b, l4 + 2696, l20);
+f201(b, l4 + 2520ull, l1, l4 + 2648ull, l12, l6);
+f199(b, l4 + 2656ull);
+if (!l20) { goto L117; }
+rattle_dealloc(b, l17);
+L117:;
+if (!l15) { goto L118; }
+rattle_dealloc(b, l18);
+L118:;
+if (get8(b, l4 + 2520)) { goto L115; }
+if (get8(b, l4 + 2528) == 1u) { goto L114; }
+if (!l6) { goto L119; }
+l5 = l12;
+L120:;
+copy(b, l4 + 240ull, l5, 152u);
+l5 = l5 + 152ull;
+f196(b, l4 + 240ull);
+l6 = l6 + 18446744073709551615ull;
+if (l6 != 0ull) { goto L120; }
+L119:;
+if (!l13) { goto L121; }
+rattle_dealloc(b, l12);
+L121:;
+if (!l7) { goto L122; }
+rattle_dealloc(b, l9);
+L122:;
+l24 = 0u;
+fill(b, l4 + 928ull, 0u, 144u);
+goto L113;
+L116:;
+f199(b, l4 + 2448ull);
+if (!l20) { goto L123; }
+rattle_dealloc(b, l17);
+L123:;
+if (!l15) { goto L124; }
+rattle_dealloc(b, l18);
+L124:;
+l24 = 0u;
+fill(b, l4 + 1864ull, 0u, 144u);
+goto L5;
+L115:;
+if (!l6) { goto L125; }
+l5 = l12;
+L126:;
+copy(b, l4 + 240ull, l5, 152u);
+l5 = l5 + 152ull;
+f196(b, l4 + 240ull);
+l6 = l6 + 18446744073709551615ull;
+if (l6 != 0ull) { goto L126; }
+L125:;
+if (!l13) { goto L127; }
+rattle_dealloc(b, l12);
+L127:;
+if (!l7) { goto L6; }
+rattle_dealloc(b, l9);
+goto L6;
+L114:;
+put64(b, l4 + 2512, l7);
+put64(b, l4 + 2504, l5);
+put64(b, l4 + 2496, l9);
+put64(b, l4 + 2488, l13);
+put64(b, l4 + 2480, l6);
+put64(b, l4 + 2472, l12);
+f202(b, l4 + 928ull, l4 + 2536ull, l4 + 2472ull, l22, get64(b, l1 + 64ull));
+l14 = get64(b, l4 + 952);
+l21 = get32(b, l4 + 948);
+l2 = get32(b, l4 + 944);
+l23 = get8(b, l4 + 936);
+l24 = get8(b, l4 + 928);
+copy(b, l4 + 2088ull, l4 + 960ull, 144u);
+if (l24) { goto L6; }
+l24 = 0u;
+fill(b, l4 + 928ull, 0u, 144u);
+if ((l23 & 255u) == 1u) { goto L112; }
+L113:;
+l14 = 0ull;
+l5 = 1ull;
+l21 = 0u;
+goto L111;
+L112:;
+copy(b, l4 + 928ull, l4 + 2088ull, 144u);
+l5 = 0ull;
+l24 = l2;
+L111:;
+copy(b, l4 + 2232ull, l4 + 928ull, 144u);
+copy(b, l4 + 928ull, l4 + 2232ull, 144u);
+goto L109;
+L110:;
+l24 = 0u;
+fill(b, l4 + 928ull, 0u, 144u);
+f199(b, l4 + 2448ull);
+if (!l20) { goto L128; }
+rattle_dealloc(b, l17);
+L128:;
+l14 = 0ull;
+l5 = 1ull;
+if (!l15) { goto L129; }
+rattle_dealloc(b, l18);
+L129:;
+l21 = 0u;
+L109:;
+copy(b, l4 + 1864ull, l4 + 928ull, 144u);
+l23 = 0u;
+goto L4;
+L7:;
+put8(b, l0, 1u);
+fill(b, l0 + 8ull, 0u, 168u);
+goto L1;
+L6:;
+l24 = 0u;
+fill(b, l4 + 1864ull, 0u, 144u);
+L5:;
+l5 = 0ull;
+l23 = 1u;
+l21 = 0u;
+l14 = 0ull;
 L4:;
-copy(b, l4 + 1712ull, l4 + 2000ull, 144u);
+copy(b, l4 + 1720ull, l4 + 1864ull, 144u);
 L3:;
-copy(b, l4 + 88ull, l4 + 1712ull, 144u);
+copy(b, l4 + 96ull, l4 + 1720ull, 144u);
 L2:;
 put64(b, l0 + 24ull, l14);
 put32(b, l0 + 20ull, l21);
 put32(b, l0 + 16ull, l24);
 put64(b, l0 + 8ull, l5);
 put8(b, l0, l23);
-copy(b, l0 + 32ull, l4 + 88ull, 144u);
+copy(b, l0 + 32ull, l4 + 96ull, 144u);
 L1:;
-SP = l4 + 2464ull;
+SP = l4 + 2736ull;
 }
 
 FN void f193(B b, u64 l0, u64 l1, u64 l2) {
@@ -33957,7 +34166,7 @@ if (get8(b, l11) != 1u) { goto L33; }
 l10 = get64(b, l11 + 8ull);
 L33:;
 if (get64(b, l3 + 312) != l4) { goto L34; }
-t0 = f203(b, l3 + 296ull);
+t0 = f204(b, l3 + 296ull);
 if (!t0) { goto L29; }
 l7 = get64(b, l3 + 296);
 l4 = get64(b, l3 + 304);
@@ -34006,7 +34215,7 @@ if (get64(b, l2 + 64ull) <= l8) { goto L22; }
 l5 = get64(b, get64(b, l2 + 56ull) + l10);
 l16 = l9;
 if (get64(b, l3 + 312) != l9) { goto L38; }
-t1 = f204(b, l3 + 296ull);
+t1 = f205(b, l3 + 296ull);
 if (!t1) { goto L36; }
 l11 = get64(b, l3 + 296);
 l16 = get64(b, l3 + 304);
@@ -34062,14 +34271,14 @@ l11 = get64(b, l1 + 80ull) + (l9 * 24ull);
 l5 = l10 + 18446744073709551614ull;
 l5 = (l5 > l10) ? 0ull : l5;
 if (get64(b, l11 + 8ull) <= l5) { goto L52; }
-t2 = f205(b, l3 + 576ull, get64(b, l11) + (l5 * 24ull));
+t2 = f206(b, l3 + 576ull, get64(b, l11) + (l5 * 24ull));
 if (!(t2 & 255u)) { goto L51; }
 goto L48;
 L52:;
 put64(b, l3 + 312, 0ull);
 put64(b, l3 + 304, 0ull);
 put64(b, l3 + 296, 0ull);
-t3 = f205(b, l3 + 576ull, l3 + 296ull);
+t3 = f206(b, l3 + 576ull, l3 + 296ull);
 if (t3 & 255u) { goto L48; }
 L51:;
 l5 = l10 + 18446744073709551615ull;
@@ -34079,19 +34288,19 @@ L50:;
 put64(b, l3 + 312, 0ull);
 put64(b, l3 + 304, 0ull);
 put64(b, l3 + 296, 0ull);
-t4 = f205(b, l3 + 576ull, l3 + 296ull);
+t4 = f206(b, l3 + 576ull, l3 + 296ull);
 if (t4 & 255u) { goto L48; }
 put64(b, l3 + 312, 0ull);
 put64(b, l3 + 304, 0ull);
 put64(b, l3 + 296, 0ull);
-t5 = f205(b, l3 + 576ull, l3 + 296ull);
+t5 = f206(b, l3 + 576ull, l3 + 296ull);
 if (t5 & 255u) { goto L45; }
 goto L43;
 L49:;
 put64(b, l3 + 312, 0ull);
 put64(b, l3 + 304, 0ull);
 put64(b, l3 + 296, 0ull);
-t6 = f205(b, l3 + 576ull, l3 + 296ull);
+t6 = f206(b, l3 + 576ull, l3 + 296ull);
 if (!(t6 & 255u)) { goto L47; }
 L48:;
 if (!get64(b, l3 + 592)) { goto L41; }
@@ -34106,21 +34315,21 @@ if (!get64(b, get64(b, l1 + 56ull) + (l9 * 120ull))) { goto L53; }
 if (get64(b, l1 + 88ull) <= l9) { goto L53; }
 l11 = get64(b, l1 + 80ull) + (l9 * 24ull);
 if (get64(b, l11 + 8ull) <= l5) { goto L54; }
-t7 = f205(b, l3 + 576ull, get64(b, l11) + (l5 * 24ull));
+t7 = f206(b, l3 + 576ull, get64(b, l11) + (l5 * 24ull));
 if (!(t7 & 255u)) { goto L44; }
 goto L45;
 L54:;
 put64(b, l3 + 312, 0ull);
 put64(b, l3 + 304, 0ull);
 put64(b, l3 + 296, 0ull);
-t8 = f205(b, l3 + 576ull, l3 + 296ull);
+t8 = f206(b, l3 + 576ull, l3 + 296ull);
 if (t8 & 255u) { goto L45; }
 goto L44;
 L53:;
 put64(b, l3 + 312, 0ull);
 put64(b, l3 + 304, 0ull);
 put64(b, l3 + 296, 0ull);
-t9 = f205(b, l3 + 576ull, l3 + 296ull);
+t9 = f206(b, l3 + 576ull, l3 + 296ull);
 if (!(t9 & 255u)) { goto L44; }
 L45:;
 if (!get64(b, l3 + 592)) { goto L41; }
@@ -34132,21 +34341,21 @@ if (!get64(b, get64(b, l1 + 56ull) + (l9 * 120ull))) { goto L43; }
 if (get64(b, l1 + 88ull) <= l9) { goto L43; }
 l9 = get64(b, l1 + 80ull) + (l9 * 24ull);
 if (get64(b, l9 + 8ull) <= l10) { goto L55; }
-t10 = f205(b, l3 + 576ull, get64(b, l9) + (l7 * 72ull));
+t10 = f206(b, l3 + 576ull, get64(b, l9) + (l7 * 72ull));
 if (!(t10 & 255u)) { goto L40; }
 goto L42;
 L55:;
 put64(b, l3 + 312, 0ull);
 put64(b, l3 + 304, 0ull);
 put64(b, l3 + 296, 0ull);
-t11 = f205(b, l3 + 576ull, l3 + 296ull);
+t11 = f206(b, l3 + 576ull, l3 + 296ull);
 if (t11 & 255u) { goto L42; }
 goto L40;
 L43:;
 put64(b, l3 + 312, 0ull);
 put64(b, l3 + 304, 0ull);
 put64(b, l3 + 296, 0ull);
-t12 = f205(b, l3 + 576ull, l3 + 296ull);
+t12 = f206(b, l3 + 576ull, l3 + 296ull);
 if (!(t12 & 255u)) { goto L40; }
 L42:;
 if (!get64(b, l3 + 592)) { goto L41; }
@@ -34156,7 +34365,7 @@ if (!get64(b, l3 + 424)) { goto L56; }
 rattle_dealloc(b, l8);
 L56:;
 if (!(l43 & 1u)) { goto L4; }
-f206(b, get64(b, l3 + 544));
+f207(b, get64(b, l3 + 544));
 if (!(u32)(!l17)) { goto L3; }
 goto L2;
 L40:;
@@ -34584,9 +34793,9 @@ put64(b, l36, l10);
 put64(b, l3 + 440, get64(b, l3 + 576));
 put64(b, l3 + 448, get64(b, l3 + 584));
 put64(b, l3 + 456, get64(b, l3 + 592));
-f207(b, l3 + 296ull, l26, l3 + 440ull);
-f208(b, l19, l26, l49);
-f209(b, l20, l26 + 1ull, l7);
+f208(b, l3 + 296ull, l26, l3 + 440ull);
+f209(b, l19, l26, l49);
+f210(b, l20, l26 + 1ull, l7);
 l36 = get64(b, l3 + 368);
 put16(b, l36, (u32)get64(b, l3 + 304));
 put64(b, l27, l36);
@@ -34629,8 +34838,8 @@ l43 = get16(b, l9 + 2ull);
 put64(b, l3 + 360, l43 ? 16ull : 0ull);
 put64(b, l3 + 352, l43 ? (l8 + 1ull) : 0ull);
 l9 = l40 & 15ull;
-f207(b, l3 + 296ull, l9, l3 + 576ull);
-f208(b, l19, l9, l46);
+f208(b, l3 + 296ull, l9, l3 + 576ull);
+f209(b, l19, l9, l46);
 l9 = get64(b, l3 + 368);
 put16(b, l9, (u32)get64(b, l3 + 304));
 put64(b, l10, l9);
@@ -34656,7 +34865,7 @@ L58:;
 rattle_dealloc(b, l12);
 L57:;
 if (get64(b, l3 + 424) != l14) { goto L123; }
-t13 = f210(b, l3 + 408ull);
+t13 = f211(b, l3 + 408ull);
 if (!t13) { goto L25; }
 l14 = get64(b, l3 + 416);
 L123:;
@@ -34669,10 +34878,10 @@ l43 = 1u;
 l22 = l22 + 1ull;
 if (!l45) { goto L39; }
 l9 = get64(b, l3 + 424);
-f206(b, get64(b, l3 + 544));
+f207(b, get64(b, l3 + 544));
 l43 = (u32)(!l9);
 L26:;
-f211(b, l3 + 656ull, l8, l14);
+f212(b, l3 + 656ull, l8, l14);
 if (get8(b, l3 + 656)) { goto L24; }
 l30 = get64(b, l3 + 680);
 l16 = get64(b, l3 + 672);
@@ -34687,7 +34896,7 @@ put64(b, l3 + 400, 0ull);
 put64(b, l3 + 392, 0ull);
 put64(b, l3 + 384, 0ull);
 put64(b, l3 + 376, 0ull);
-f212(b, l3 + 376ull, l1, l6, l4);
+f213(b, l3 + 376ull, l1, l6, l4);
 if (get8(b, l3 + 376)) { goto L6; }
 put64(b, l3 + 296, 0ull);
 put64(b, l3 + 304, 0ull);
@@ -34708,7 +34917,7 @@ L25:;
 if (!get64(b, l3 + 424)) { goto L126; }
 rattle_dealloc(b, get64(b, l3 + 408));
 L126:;
-f206(b, get64(b, l3 + 544));
+f207(b, get64(b, l3 + 544));
 if (!(u32)(!l17)) { goto L3; }
 goto L2;
 L24:;
@@ -34752,14 +34961,14 @@ put64(b, l3 + 448, 0ull);
 put64(b, l3 + 456, 0ull);
 put64(b, l3 + 464, 0ull);
 put64(b, l3 + 408, 0ull);
-f213(b, l3 + 576ull, l1, l11, 0ull);
+f214(b, l3 + 576ull, l1, l11, 0ull);
 if (get8(b, l3 + 576)) { goto L9; }
-f214(b, l3 + 128ull, l3 + 296ull, l26);
+f215(b, l3 + 128ull, l3 + 296ull, l26);
 if (get8(b, l3 + 128)) { goto L9; }
 l43 = get32(b, l3 + 132);
-f213(b, l3 + 440ull, l1, l11, 3ull);
+f214(b, l3 + 440ull, l1, l11, 3ull);
 if (get8(b, l3 + 440)) { goto L9; }
-f214(b, l3 + 120ull, l3 + 296ull, l14);
+f215(b, l3 + 120ull, l3 + 296ull, l14);
 if (get8(b, l3 + 120)) { goto L9; }
 l45 = get32(b, l3 + 124);
 put64(b, l3 + 680, 0ull);
@@ -34767,10 +34976,10 @@ put64(b, l3 + 672, 0ull);
 put64(b, l3 + 664, 0ull);
 put64(b, l3 + 656, 0ull);
 if (l43 > l45) { goto L129; }
-f215(b, l3 + 656ull, l43, l45);
+f216(b, l3 + 656ull, l43, l45);
 goto L128;
 L129:;
-f215(b, l3 + 656ull, l45, l43);
+f216(b, l3 + 656ull, l45, l43);
 L128:;
 put64(b, l28, get64(b, l32));
 put64(b, l28 + 8, get64(b, l32 + 8));
@@ -34778,7 +34987,7 @@ put64(b, l28 + 16, get64(b, l32 + 16));
 l43 = get8(b, l3 + 656);
 put8(b, l3 + 408, l43);
 if (l43) { goto L9; }
-f214(b, l3 + 112ull, l40, l28);
+f215(b, l3 + 112ull, l40, l28);
 if (get8(b, l3 + 112)) { goto L9; }
 l45 = get32(b, l3 + 116);
 l11 = get64(b, l6);
@@ -34821,14 +35030,14 @@ put64(b, l3 + 448, 0ull);
 put64(b, l3 + 456, 0ull);
 put64(b, l3 + 464, 0ull);
 put64(b, l3 + 408, 0ull);
-f213(b, l3 + 576ull, l1, l8, 0ull);
+f214(b, l3 + 576ull, l1, l8, 0ull);
 if (get8(b, l3 + 576)) { goto L9; }
-f214(b, l3 + 104ull, l3 + 296ull, l26);
+f215(b, l3 + 104ull, l3 + 296ull, l26);
 if (get8(b, l3 + 104)) { goto L9; }
 l43 = get32(b, l3 + 108);
-f213(b, l3 + 440ull, l1, l8, 3ull);
+f214(b, l3 + 440ull, l1, l8, 3ull);
 if (get8(b, l3 + 440)) { goto L9; }
-f214(b, l3 + 96ull, l3 + 296ull, l14);
+f215(b, l3 + 96ull, l3 + 296ull, l14);
 if (get8(b, l3 + 96)) { goto L9; }
 l45 = get32(b, l3 + 100);
 put64(b, l3 + 680, 0ull);
@@ -34836,10 +35045,10 @@ put64(b, l3 + 672, 0ull);
 put64(b, l3 + 664, 0ull);
 put64(b, l3 + 656, 0ull);
 if (l43 > l45) { goto L134; }
-f215(b, l3 + 656ull, l43, l45);
+f216(b, l3 + 656ull, l43, l45);
 goto L133;
 L134:;
-f215(b, l3 + 656ull, l45, l43);
+f216(b, l3 + 656ull, l45, l43);
 L133:;
 put64(b, l28, get64(b, l32));
 put64(b, l28 + 8, get64(b, l32 + 8));
@@ -34847,7 +35056,7 @@ put64(b, l28 + 16, get64(b, l32 + 16));
 l43 = get8(b, l3 + 656);
 put8(b, l3 + 408, l43);
 if (l43) { goto L9; }
-f214(b, l3 + 88ull, l40, l28);
+f215(b, l3 + 88ull, l40, l28);
 if (get8(b, l3 + 88)) { goto L9; }
 l45 = get32(b, l3 + 92);
 l11 = get64(b, l10);
@@ -34858,7 +35067,7 @@ l11 = l8;
 l45 = 0u;
 L131:;
 if (get64(b, l3 + 560) != l9) { goto L135; }
-t14 = f216(b, l3 + 544ull);
+t14 = f217(b, l3 + 544ull);
 if (!t14) { goto L18; }
 l12 = get64(b, l3 + 544);
 l9 = get64(b, l3 + 552);
@@ -34898,7 +35107,7 @@ l43 = get32(b, l9 + 4ull);
 l45 = get8(b, l9);
 l49 = get32(b, l8);
 if (get64(b, l3 + 672) != l13) { goto L137; }
-t15 = f217(b, l3 + 656ull);
+t15 = f218(b, l3 + 656ull);
 if (!t15) { goto L15; }
 l7 = get64(b, l3 + 656);
 l13 = get64(b, l3 + 664);
@@ -34920,10 +35129,10 @@ if (l44) { goto L138; }
 rattle_dealloc(b, l12);
 L138:;
 if (get8(b, l3 + 296) != 1u) { goto L139; }
-f218(b, get64(b, l3 + 304));
+f219(b, get64(b, l3 + 304));
 L139:;
 if (get8(b, l3 + 320) != 1u) { goto L140; }
-f218(b, get64(b, l3 + 328));
+f219(b, get64(b, l3 + 328));
 L140:;
 if (!l31) { goto L141; }
 rattle_dealloc(b, l29);
@@ -34963,7 +35172,7 @@ if (get8(b, l11) != 1u) { goto L146; }
 l5 = get64(b, l11 + 8ull);
 L146:;
 if (get64(b, l3 + 592) != l9) { goto L147; }
-t16 = f203(b, l3 + 576ull);
+t16 = f204(b, l3 + 576ull);
 if (!t16) { goto L13; }
 l7 = get64(b, l3 + 576);
 l9 = get64(b, l3 + 584);
@@ -34980,11 +35189,11 @@ if (l12 != 4294967295ull) { goto L143; }
 L142:;
 l8 = get64(b, l3 + 592);
 l10 = get64(b, l3 + 576);
-f212(b, l3 + 656ull, l1, l10, l9);
+f213(b, l3 + 656ull, l1, l10, l9);
 if (get8(b, l3 + 656)) { goto L12; }
 l9 = get64(b, l3 + 680);
 l5 = get64(b, l3 + 664);
-f211(b, l3 + 296ull, l5, get64(b, l3 + 672));
+f212(b, l3 + 296ull, l5, get64(b, l3 + 672));
 if (!l9) { goto L148; }
 rattle_dealloc(b, l5);
 L148:;
@@ -35001,10 +35210,10 @@ if (l44) { goto L150; }
 rattle_dealloc(b, l12);
 L150:;
 if (get8(b, l3 + 296) != 1u) { goto L151; }
-f218(b, get64(b, l3 + 304));
+f219(b, get64(b, l3 + 304));
 L151:;
 if (get8(b, l3 + 320) != 1u) { goto L152; }
-f218(b, get64(b, l3 + 328));
+f219(b, get64(b, l3 + 328));
 L152:;
 if (!l31) { goto L6; }
 goto L7;
@@ -35091,11 +35300,11 @@ if (get64(b, (get64(b, l1 + 80ull) + (l5 * 24ull)) + 8ull) < 7ull) { goto L157; 
 put64(b, l40, 0ull);
 put64(b, l40 + 8, 0ull);
 put64(b, l3 + 720, l3 + 744ull);
-t17 = f219(b, l3 + 720ull, l1, l9, 0ull);
+t17 = f220(b, l3 + 720ull, l1, l9, 0ull);
 if (t17 & 255u) { goto L162; }
-t18 = f219(b, l3 + 720ull, l1, l9, 1ull);
+t18 = f220(b, l3 + 720ull, l1, l9, 1ull);
 if (t18 & 255u) { goto L162; }
-t19 = f219(b, l3 + 720ull, l1, l9, 2ull);
+t19 = f220(b, l3 + 720ull, l1, l9, 2ull);
 if (t19 & 255u) { goto L162; }
 put64(b, l32 + 16, get64(b, l3 + 736));
 put64(b, l32 + 8, get64(b, l3 + 728));
@@ -35109,7 +35318,7 @@ put64(b, l3 + 696, get64(b, l32));
 put64(b, l3 + 704, get64(b, l32 + 8));
 put64(b, l3 + 712, get64(b, l32 + 16));
 f161(b, l3 + 40ull, l3 + 296ull, get64(b, l29 + 72ull));
-t20 = f220(b, l3 + 696ull, get64(b, l3 + 40), get64(b, l3 + 48));
+t20 = f221(b, l3 + 696ull, get64(b, l3 + 40), get64(b, l3 + 48));
 if (t20 & 255u) { goto L161; }
 put64(b, l3 + 688, 0ull);
 put64(b, l3 + 680, 0ull);
@@ -35117,7 +35326,7 @@ put64(b, l3 + 672, 0ull);
 put64(b, l3 + 664, 0ull);
 put64(b, l3 + 656, 0ull);
 f161(b, l3 + 24ull, l3 + 656ull, get64(b, l29 + 40ull));
-t21 = f220(b, l3 + 696ull, get64(b, l3 + 24), get64(b, l3 + 32));
+t21 = f221(b, l3 + 696ull, get64(b, l3 + 24), get64(b, l3 + 32));
 if (!(t21 & 255u)) { goto L160; }
 if (!get64(b, l3 + 712)) { goto L159; }
 rattle_dealloc(b, get64(b, l3 + 696));
@@ -35137,15 +35346,15 @@ put64(b, l26, get64(b, l3 + 696));
 put64(b, l3 + 632, get64(b, l26));
 put64(b, l3 + 640, get64(b, l26 + 8));
 put64(b, l3 + 648, get64(b, l26 + 16));
-f214(b, l3 + 16ull, l3 + 520ull, l3 + 632ull);
+f215(b, l3 + 16ull, l3 + 520ull, l3 + 632ull);
 if (get8(b, l3 + 16)) { goto L159; }
 l43 = get32(b, l3 + 20);
 put64(b, l39, 0ull);
 put64(b, l39 + 8, 0ull);
 put64(b, l3 + 296, l3 + 744ull);
-t22 = f219(b, l3 + 296ull, l1, l9, 3ull);
+t22 = f220(b, l3 + 296ull, l1, l9, 3ull);
 if (t22 & 255u) { goto L163; }
-t23 = f219(b, l3 + 296ull, l1, l9, 4ull);
+t23 = f220(b, l3 + 296ull, l1, l9, 4ull);
 if (t23 & 255u) { goto L163; }
 put64(b, l14 + 16, get64(b, l3 + 312));
 put64(b, l14 + 8, get64(b, l3 + 304));
@@ -35153,12 +35362,12 @@ put64(b, l14, get64(b, l3 + 296));
 put64(b, l3 + 608, get64(b, l14));
 put64(b, l3 + 616, get64(b, l14 + 8));
 put64(b, l3 + 624, get64(b, l14 + 16));
-f214(b, l3 + 8ull, l3 + 496ull, l3 + 608ull);
+f215(b, l3 + 8ull, l3 + 496ull, l3 + 608ull);
 if (get8(b, l3 + 8)) { goto L159; }
 l45 = get32(b, l3 + 12);
-f221(b, l3 + 576ull, l1, l9, 5ull, 7ull);
+f222(b, l3 + 576ull, l1, l9, 5ull, 7ull);
 if (get8(b, l3 + 576)) { goto L159; }
-f214(b, l3, l3 + 496ull, l35);
+f215(b, l3, l3 + 496ull, l35);
 if (get8(b, l3)) { goto L159; }
 l44 = get32(b, l3 + 4);
 l49 = 1u;
@@ -35174,10 +35383,10 @@ if (!get64(b, l3 + 488)) { goto L164; }
 rattle_dealloc(b, l11);
 L164:;
 if (get8(b, l3 + 496) != 1u) { goto L165; }
-f218(b, get64(b, l3 + 504));
+f219(b, get64(b, l3 + 504));
 L165:;
 if (get8(b, l3 + 520) != 1u) { goto L153; }
-f218(b, get64(b, l3 + 528));
+f219(b, get64(b, l3 + 528));
 goto L153;
 L158:;
 l43 = 0u;
@@ -35185,7 +35394,7 @@ l45 = 0u;
 l44 = 0u;
 L157:;
 if (get64(b, l3 + 488) != l8) { goto L166; }
-t24 = f222(b, l3 + 472ull);
+t24 = f223(b, l3 + 472ull);
 if (!t24) { goto L167; }
 l11 = get64(b, l3 + 472);
 l8 = get64(b, l3 + 480);
@@ -35195,10 +35404,10 @@ if (!get64(b, l3 + 488)) { goto L168; }
 rattle_dealloc(b, get64(b, l3 + 472));
 L168:;
 if (get8(b, l3 + 496) != 1u) { goto L169; }
-f218(b, get64(b, l3 + 504));
+f219(b, get64(b, l3 + 504));
 L169:;
 if (get8(b, l3 + 520) != 1u) { goto L153; }
-f218(b, get64(b, l3 + 528));
+f219(b, get64(b, l3 + 528));
 goto L153;
 L166:;
 l9 = l11 + (l8 << 4);
@@ -35216,10 +35425,10 @@ put64(b, l3 + 559, get64(b, l3 + 480));
 put64(b, l3 + 567, get64(b, l3 + 488));
 l9 = (l3 + 544ull) | 7ull;
 if (get8(b, l3 + 496) != 1u) { goto L154; }
-f218(b, get64(b, l3 + 504));
+f219(b, get64(b, l3 + 504));
 L154:;
 if (get8(b, l3 + 520) != 1u) { goto L170; }
-f218(b, get64(b, l3 + 528));
+f219(b, get64(b, l3 + 528));
 L170:;
 put64(b, l3 + 287, get64(b, l9 + 16));
 put64(b, l3 + 279, get64(b, l9 + 8));
@@ -35276,10 +35485,10 @@ if (!get64(b, l3 + 560)) { goto L8; }
 rattle_dealloc(b, l12);
 L8:;
 if (get8(b, l3 + 296) != 1u) { goto L179; }
-f218(b, get64(b, l3 + 304));
+f219(b, get64(b, l3 + 304));
 L179:;
 if (get8(b, l3 + 320) != 1u) { goto L180; }
-f218(b, get64(b, l3 + 328));
+f219(b, get64(b, l3 + 328));
 L180:;
 if (!l31) { goto L6; }
 L7:;
@@ -35296,7 +35505,7 @@ if (!get64(b, l3 + 424)) { goto L182; }
 rattle_dealloc(b, get64(b, l3 + 408));
 L182:;
 if (!l48) { goto L4; }
-f206(b, get64(b, l3 + 544));
+f207(b, get64(b, l3 + 544));
 if (!(u32)(!l17)) { goto L3; }
 goto L2;
 L4:;
@@ -35391,7 +35600,7 @@ L25:;
 if (l2 == l37) { goto L26; }
 l2 = get32(b, l16);
 if (get64(b, l5 + 104) != l11) { goto L27; }
-t0 = f237(b, l5 + 88ull);
+t0 = f238(b, l5 + 88ull);
 if (!t0) { goto L12; }
 l12 = get64(b, l5 + 88);
 l11 = get64(b, l5 + 96);
@@ -35452,7 +35661,7 @@ if (l36 != 1u) { goto L33; }
 if (l2 == 1u) { goto L32; }
 L33:;
 if (get64(b, l5 + 192) != l1) { goto L34; }
-t1 = f238(b, l5 + 176ull);
+t1 = f239(b, l5 + 176ull);
 if (!t1) { goto L29; }
 l18 = get64(b, l5 + 176);
 l1 = get64(b, l5 + 184);
@@ -35507,7 +35716,7 @@ if (l37 != 1u) { goto L41; }
 if (l36 == 1u) { goto L40; }
 L41:;
 if (get64(b, l5 + 192) != l1) { goto L42; }
-t2 = f238(b, l5 + 176ull);
+t2 = f239(b, l5 + 176ull);
 if (!t2) { goto L29; }
 l14 = get64(b, l5 + 176);
 l1 = get64(b, l5 + 184);
@@ -35581,7 +35790,7 @@ l19 = (u64)get32(b, l16 + (l17 * 24ull)) << 32;
 L52:;
 l20 = (u64)get32(b, l18);
 if (get64(b, l5 + 224) != l21) { goto L53; }
-t3 = f239(b, l5 + 208ull);
+t3 = f240(b, l5 + 208ull);
 if (!t3) { goto L49; }
 l15 = get64(b, l5 + 208);
 l21 = get64(b, l5 + 216);
@@ -35637,7 +35846,7 @@ l7 = (u64)get32(b, l8 + (l19 * 24ull)) << 32;
 L59:;
 l19 = (u64)get32(b, l13);
 if (get64(b, l5 + 224) != l21) { goto L60; }
-t4 = f239(b, l5 + 208ull);
+t4 = f240(b, l5 + 208ull);
 if (!t4) { goto L49; }
 l25 = get64(b, l5 + 208);
 l21 = get64(b, l5 + 216);
@@ -35658,7 +35867,7 @@ goto L47;
 L48:;
 l7 = get64(b, l5 + 224);
 l19 = get64(b, l5 + 208);
-f240(b, l5 + 176ull, (u64)get32(b, l3 + 48ull), l19, l21);
+f241(b, l5 + 176ull, (u64)get32(b, l3 + 48ull), l19, l21);
 if (!l7) { goto L62; }
 rattle_dealloc(b, l19);
 L62:;
@@ -35735,7 +35944,7 @@ l17 = (u64)get32(b, l12 + (l18 << 2));
 if (get64(b, l19 + 32ull) <= l17) { goto L8; }
 l17 = (u64)get32(b, get64(b, l19 + 24ull) + (l17 << 2));
 if (get64(b, l5 + 224) != l7) { goto L72; }
-t5 = f239(b, l5 + 208ull);
+t5 = f240(b, l5 + 208ull);
 if (!t5) { goto L70; }
 l16 = get64(b, l5 + 208);
 l7 = get64(b, l5 + 216);
@@ -35747,7 +35956,7 @@ l20 = l20 + 1ull;
 if (l21 != l20) { goto L71; }
 l20 = get64(b, l5 + 224);
 l18 = get64(b, l5 + 208);
-f240(b, l5 + 176ull, get64(b, l19 + 8ull), l18, l7);
+f241(b, l5 + 176ull, get64(b, l19 + 8ull), l18, l7);
 if (!l20) { goto L73; }
 rattle_dealloc(b, l18);
 L73:;
@@ -36130,7 +36339,7 @@ L134:;
 if ((u32)(l35 == 1u) & (u32)(!l34)) { goto L139; }
 if ((u32)(!l35) & (u32)(l34 == 1u)) { goto L139; }
 if (get64(b, l5 + 192) != l14) { goto L140; }
-t6 = f241(b, l5 + 176ull);
+t6 = f242(b, l5 + 176ull);
 if (!t6) { goto L127; }
 l33 = get64(b, l5 + 176);
 l14 = get64(b, l5 + 184);
@@ -36195,7 +36404,7 @@ put8(b, l0, 1u);
 fill(b, l0 + 8ull, 0u, 152u);
 goto L1;
 L2:;
-f242(b, l5 + 32ull, l4, l3);
+f243(b, l5 + 32ull, l4, l3);
 if (get8(b, l5 + 32)) { goto L146; }
 put8(b, l0, 0u);
 put64(b, l0 + 128ull, l7);
@@ -36343,7 +36552,7 @@ copy(b, l5 + 168ull, l5 + 40ull, 128u);
 put64(b, l5 + 24, l4);
 put64(b, l5 + 8, l6);
 put64(b, l5 + 16, l5 + 168ull);
-f243(b, l5 + 296ull, l1, l2, l5 + 8ull);
+f244(b, l5 + 296ull, l1, l2, l5 + 8ull);
 if (!get64(b, l5 + 184)) { goto L4; }
 rattle_dealloc(b, get64(b, l5 + 168));
 L4:;
@@ -36457,3047 +36666,3039 @@ rattle_dealloc(b, l2);
 L11:;
 }
 
-FN void f200(B b, u64 l0, u64 l1, u64 l2, u64 l3, u64 l4, u64 l5) {
-u32 l40 = 0, l41 = 0, l42 = 0, l43 = 0, l44 = 0, l45 = 0, l46 = 0, l47 = 0, l48 = 0, l49 = 0, t0, t1, t2, t3, t4, t5, t6, t7, t8, t9, t10, t11, t12, t13, t14, t15, t16, t17, t18, t19, t20, t21, t22, t23, t24, t25, t26, t27, t28, t29, t30, t31, t32, t33, t34, t35, t36, t37, t38, t39, t40, t41, t42, t43;
-u64 l6 = 0, l7 = 0, l8 = 0, l9 = 0, l10 = 0, l11 = 0, l12 = 0, l13 = 0, l14 = 0, l15 = 0, l16 = 0, l17 = 0, l18 = 0, l19 = 0, l20 = 0, l21 = 0, l22 = 0, l23 = 0, l24 = 0, l25 = 0, l26 = 0, l27 = 0, l28 = 0, l29 = 0, l30 = 0, l31 = 0, l32 = 0, l33 = 0, l34 = 0, l35 = 0, l36 = 0, l37 = 0, l38 = 0, l39 = 0;
-l6 = SP - 2448ull;
-SP = l6;
-fill(b, l6 + 576ull, 0u, 112u);
-fill(b, l6 + 464ull, 0u, 112u);
-fill(b, l6 + 352ull, 0u, 112u);
-fill(b, l6 + 240ull, 0u, 112u);
-l7 = 0ull;
-put64(b, l6 + 232, 0ull);
-put64(b, l6 + 224, 0ull);
-put64(b, l6 + 216, 0ull);
-put64(b, l6 + 920, 0ull);
-put64(b, l6 + 928, 0ull);
-put64(b, l6 + 1992, 0ull);
-put64(b, l6 + 1984, 0ull);
-put64(b, l6 + 1976, 0ull);
-put64(b, l6 + 912, l6 + 2440ull);
-if (l4 != 0ull) { goto L12; }
-l8 = 0ull;
-l9 = 0ull;
-l10 = 0ull;
-l7 = 0ull;
-l5 = l6 + 2440ull;
-l11 = l5;
-goto L11;
-L12:;
-put64(b, l6 + 1048, 0ull);
-put64(b, l6 + 1040, 0ull);
-put64(b, l6 + 1032, 0ull);
-l12 = get64(b, l3 + 16ull);
-l13 = (l5 > l12) ? 1ull : l5;
-if (!(u32)(!l13)) { goto L13; }
-l11 = l6 + 2440ull;
+FN void f200(B b, u64 l0, u64 l1, u64 l2, u64 l3) {
+u32 l30 = 0, l31 = 0, l32 = 0, l33 = 0, l34 = 0, l35 = 0, t0, t1, t2, t3, t4, t5, t6, t7, t8, t9, t10;
+u64 l4 = 0, l5 = 0, l6 = 0, l7 = 0, l8 = 0, l9 = 0, l10 = 0, l11 = 0, l12 = 0, l13 = 0, l14 = 0, l15 = 0, l16 = 0, l17 = 0, l18 = 0, l19 = 0, l20 = 0, l21 = 0, l22 = 0, l23 = 0, l24 = 0, l25 = 0, l26 = 0, l27 = 0, l28 = 0, l29 = 0;
+l4 = SP - 560ull;
+SP = l4;
+l5 = 0ull;
+put64(b, l4 + 192, 0ull);
+put64(b, l4 + 184, 0ull);
+put64(b, l4 + 176, 0ull);
+put64(b, l4 + 144, 0ull);
+put64(b, l4 + 152, 0ull);
+put64(b, l4 + 160, 0ull);
+put64(b, l4 + 167, 0ull);
+put64(b, l4 + 232, 0ull);
+put64(b, l4 + 240, 0ull);
+put64(b, l4 + 216, 0ull);
+put64(b, l4 + 208, 0ull);
+put64(b, l4 + 200, 0ull);
+put64(b, l4 + 224, l4 + 552ull);
+if (l2 != 0ull) { goto L3; }
+l6 = 0ull;
+put64(b, l4 + 384, 0ull);
+put64(b, l4 + 392, 0ull);
+put64(b, l4 + 376, l4 + 552ull);
+l7 = l4 + 552ull;
+l5 = 0ull;
 goto L2;
-L13:;
-l14 = l6 + 1863ull;
-l11 = l6 + 2440ull;
-l7 = 0ull;
-l15 = l3;
-l16 = 0ull;
+L3:;
+put64(b, l4 + 264, 0ull);
+put64(b, l4 + 256, 0ull);
+put64(b, l4 + 248, 0ull);
+l6 = get64(b, l1 + 16ull);
+l8 = (l3 > l6) ? 1ull : l3;
+if (!(u32)(!l8)) { goto L5; }
+l7 = l4 + 552ull;
+goto L4;
+L5:;
+l9 = l4 + 303ull;
+l7 = l4 + 552ull;
+l5 = 0ull;
+l10 = l1;
+l11 = 0ull;
+L12:;
+l8 = l8 + 18446744073709551615ull;
+if (l6 <= l8) { goto L4; }
+l12 = 0ull;
+l13 = get64(b, l10 + 8ull) + (l8 * 160ull);
+if (get64(b, l13 + 136ull) != 0ull) { goto L4; }
+put64(b, l4 + 296, 0ull);
+put64(b, l4 + 304, 0ull);
+put64(b, l4 + 312, 0ull);
+put64(b, l4 + 319, 0ull);
+put64(b, l4 + 272, 0ull);
+put64(b, l4 + 280, 0ull);
+put64(b, l4 + 288, 0ull);
+l30 = get32(b, l13);
+l14 = 0ull;
+l15 = l4 + 552ull;
+l16 = l15;
+l17 = get64(b, l13 + 16ull);
+if (!l17) { goto L13; }
+if (l17 > 230584300921369395ull) { goto L7; }
+l18 = get64(b, l13 + 8ull);
+rattle_alloc(b, l4 + 128ull, l17 * 40ull, 8ull);
+if (!(((u32)get64(b, l4 + 128)) & 1u)) { goto L7; }
+l6 = get64(b, l4 + 136);
+put64(b, l4 + 344, l17);
+l14 = 0ull;
+put64(b, l4 + 336, 0ull);
+put64(b, l4 + 328, l6);
+l19 = 0ull;
 L14:;
-l13 = l13 + 18446744073709551615ull;
-if (l12 <= l13) { goto L2; }
-l17 = 0ull;
-l9 = get64(b, l15 + 8ull) + (l13 * 160ull);
-if (get64(b, l9 + 136ull) != 0ull) { goto L2; }
-put64(b, l6 + 1856, 0ull);
-put64(b, l6 + 1864, 0ull);
-put64(b, l6 + 1872, 0ull);
-put64(b, l6 + 1879, 0ull);
-put64(b, l6 + 1480, 0ull);
-put64(b, l6 + 1488, 0ull);
-put64(b, l6 + 1496, 0ull);
-l40 = get32(b, l9);
-l10 = 0ull;
-l18 = l6 + 2440ull;
-l19 = l18;
-l11 = get64(b, l9 + 16ull);
-if (!l11) { goto L15; }
-if (l11 > 230584300921369395ull) { goto L4; }
-l20 = get64(b, l9 + 8ull);
-rattle_alloc(b, l6 + 200ull, l11 * 40ull, 8ull);
-if (!(((u32)get64(b, l6 + 200)) & 1u)) { goto L4; }
-l7 = get64(b, l6 + 208);
-put64(b, l6 + 1376, l11);
-l10 = 0ull;
-put64(b, l6 + 1368, 0ull);
-put64(b, l6 + 1360, l7);
-l8 = 0ull;
+l6 = l18 + (l19 * 40ull);
+l31 = get8(b, l6);
+if (l31) { goto L16; }
+l32 = 0u;
+l7 = 0ull;
+l5 = 0ull;
+l20 = 0ull;
+l33 = 0u;
+goto L15;
 L16:;
-l7 = l20 + (l8 * 40ull);
-l41 = get8(b, l7);
-if (l41) { goto L18; }
-l42 = 0u;
-l13 = 0ull;
-l12 = 0ull;
-l21 = 0ull;
-l43 = 0u;
-goto L17;
-L18:;
-l42 = get8(b, l7 + 12ull);
-l43 = get32(b, l7 + 8ull);
-l22 = get64(b, l7 + 24ull);
-if (!(u32)(!l22)) { goto L19; }
-l21 = l6 + 2440ull;
-l13 = 0ull;
-l12 = 0ull;
-goto L17;
+l32 = get8(b, l6 + 12ull);
+l33 = get32(b, l6 + 8ull);
+l21 = get64(b, l6 + 24ull);
+if (!(u32)(!l21)) { goto L17; }
+l20 = l4 + 552ull;
+l7 = 0ull;
+l5 = 0ull;
+goto L15;
+L17:;
+if (l21 > 288230376151711743ull) { goto L18; }
+l22 = get64(b, l6 + 16ull);
+rattle_alloc(b, l4 + 112ull, l21 << 5, 8ull);
+if (!(((u32)get64(b, l4 + 112)) & 1u)) { goto L18; }
+l6 = get64(b, l4 + 120);
+put64(b, l4 + 368, l21);
+l5 = 0ull;
+put64(b, l4 + 360, 0ull);
+put64(b, l4 + 352, l6);
+l23 = 0ull;
 L19:;
-if (l22 > 288230376151711743ull) { goto L20; }
-l23 = get64(b, l7 + 16ull);
-rattle_alloc(b, l6 + 184ull, l22 << 5, 8ull);
-if (!(((u32)get64(b, l6 + 184)) & 1u)) { goto L20; }
-l7 = get64(b, l6 + 192);
-put64(b, l6 + 1616, l22);
-l12 = 0ull;
-put64(b, l6 + 1608, 0ull);
-put64(b, l6 + 1600, l7);
-l24 = 0ull;
-L21:;
-l7 = l23 + (l24 << 5);
-l44 = get8(b, l7);
-l15 = get64(b, l7 + 16ull);
-if (!(u32)(!l15)) { goto L27; }
-l25 = l6 + 2440ull;
-l15 = 0ull;
-l13 = 0ull;
-goto L26;
-L27:;
-if (l15 > 230584300921369395ull) { goto L24; }
-l7 = get64(b, l7 + 8ull);
-rattle_alloc(b, l6 + 168ull, l15 * 40ull, 4ull);
-if (!(((u32)get64(b, l6 + 168)) & 1u)) { goto L24; }
-l25 = get64(b, l6 + 176);
-put64(b, l6 + 1736, l15);
-l13 = 0ull;
-put64(b, l6 + 1728, 0ull);
-put64(b, l6 + 1720, l25);
-L28:;
-l45 = get8(b, l7);
-put32(b, l6 + 2320, get32(b, l7 + 36ull));
-put64(b, l6 + 2312, get64(b, l7 + 28ull));
-put64(b, l6 + 2304, get64(b, l7 + 20ull));
-put64(b, l6 + 2296, get64(b, l7 + 12ull));
-put64(b, l6 + 2288, get64(b, l7 + 4ull));
-if (get64(b, l6 + 1736) != l13) { goto L29; }
-t0 = f326(b, l6 + 1720ull);
-if (!t0) { goto L25; }
-l25 = get64(b, l6 + 1720);
-l13 = get64(b, l6 + 1728);
-L29:;
-l12 = l25 + (l13 * 40ull);
-put32(b, l12, l45);
-put64(b, l12 + 4ull, get64(b, l6 + 2288));
-put64(b, l12 + 12ull, get64(b, l6 + 2296));
-put64(b, l12 + 20ull, get64(b, l6 + 2304));
-put64(b, l12 + 28ull, get64(b, l6 + 2312));
-put32(b, l12 + 36ull, get32(b, l6 + 2320));
-l13 = l13 + 1ull;
-put64(b, l6 + 1728, l13);
-l7 = l7 + 40ull;
-l15 = l15 + 18446744073709551615ull;
-if (!(u32)(!l15)) { goto L28; }
-l12 = get64(b, l6 + 1608);
-l15 = get64(b, l6 + 1736);
-l25 = get64(b, l6 + 1720);
-L26:;
-if (get64(b, l6 + 1616) == l12) { goto L23; }
-goto L22;
+l6 = l22 + (l23 << 5);
+l34 = get8(b, l6);
+l8 = get64(b, l6 + 16ull);
+if (!(u32)(!l8)) { goto L25; }
+l10 = l4 + 552ull;
+l8 = 0ull;
+l7 = 0ull;
+goto L24;
 L25:;
-if (!get64(b, l6 + 1736)) { goto L24; }
-rattle_dealloc(b, get64(b, l6 + 1720));
+if (l8 > 230584300921369395ull) { goto L22; }
+l6 = get64(b, l6 + 8ull);
+rattle_alloc(b, l4 + 96ull, l8 * 40ull, 4ull);
+if (!(((u32)get64(b, l4 + 96)) & 1u)) { goto L22; }
+l10 = get64(b, l4 + 104);
+put64(b, l4 + 544, l8);
+l7 = 0ull;
+put64(b, l4 + 536, 0ull);
+put64(b, l4 + 528, l10);
+L26:;
+l35 = get8(b, l6);
+put32(b, l4 + 408, get32(b, l6 + 36ull));
+put64(b, l4 + 400, get64(b, l6 + 28ull));
+put64(b, l4 + 392, get64(b, l6 + 20ull));
+put64(b, l4 + 384, get64(b, l6 + 12ull));
+put64(b, l4 + 376, get64(b, l6 + 4ull));
+if (get64(b, l4 + 544) != l7) { goto L27; }
+t0 = f327(b, l4 + 528ull);
+if (!t0) { goto L23; }
+l10 = get64(b, l4 + 528);
+l7 = get64(b, l4 + 536);
+L27:;
+l5 = l10 + (l7 * 40ull);
+put32(b, l5, l35);
+put64(b, l5 + 4ull, get64(b, l4 + 376));
+put64(b, l5 + 12ull, get64(b, l4 + 384));
+put64(b, l5 + 20ull, get64(b, l4 + 392));
+put64(b, l5 + 28ull, get64(b, l4 + 400));
+put32(b, l5 + 36ull, get32(b, l4 + 408));
+l7 = l7 + 1ull;
+put64(b, l4 + 536, l7);
+l6 = l6 + 40ull;
+l8 = l8 + 18446744073709551615ull;
+if (!(u32)(!l8)) { goto L26; }
+l5 = get64(b, l4 + 360);
+l8 = get64(b, l4 + 544);
+l10 = get64(b, l4 + 528);
 L24:;
-l15 = get64(b, l6 + 1616);
-l13 = get64(b, l6 + 1600);
-l12 = get64(b, l6 + 1608);
-if (!l12) { goto L30; }
-l7 = l13 + 24ull;
-L31:;
-if (!get64(b, l7)) { goto L32; }
-rattle_dealloc(b, get64(b, l7 + 18446744073709551600ull));
-L32:;
-l7 = l7 + 32ull;
-l12 = l12 + 18446744073709551615ull;
-if (l12 != 0ull) { goto L31; }
-L30:;
-if (!l15) { goto L20; }
-rattle_dealloc(b, l13);
+if (get64(b, l4 + 368) == l5) { goto L21; }
 goto L20;
 L23:;
-t1 = f327(b, l6 + 1600ull);
-if (!t1) { goto L33; }
-l12 = get64(b, l6 + 1608);
-goto L22;
-L33:;
-if (!l15) { goto L34; }
-rattle_dealloc(b, l25);
-L34:;
-l15 = get64(b, l6 + 1616);
-l13 = get64(b, l6 + 1600);
-l12 = get64(b, l6 + 1608);
-if (!l12) { goto L35; }
-l7 = l13 + 24ull;
-L36:;
-if (!get64(b, l7)) { goto L37; }
-rattle_dealloc(b, get64(b, l7 + 18446744073709551600ull));
-L37:;
-l7 = l7 + 32ull;
-l12 = l12 + 18446744073709551615ull;
-if (l12 != 0ull) { goto L36; }
-L35:;
-if (!l15) { goto L20; }
-rattle_dealloc(b, l13);
-goto L20;
+if (!get64(b, l4 + 544)) { goto L22; }
+rattle_dealloc(b, get64(b, l4 + 528));
 L22:;
-l21 = get64(b, l6 + 1600);
-l7 = l21 + (l12 << 5);
-put32(b, l7 + 1, (u32)0ull);
-put64(b, l7 + 24, l15);
-put64(b, l7 + 16, l13);
-put64(b, l7 + 8, l25);
-put8(b, l7, l44);
-put8(b, l7 + 7ull, (u32)0ull);
-put16(b, l7 + 5ull, (u32)0ull);
-l12 = l12 + 1ull;
-put64(b, l6 + 1608, l12);
-l24 = l24 + 1ull;
-if (l24 != l22) { goto L21; }
-l10 = get64(b, l6 + 1368);
-l13 = get64(b, l6 + 1616);
-goto L17;
+l8 = get64(b, l4 + 368);
+l7 = get64(b, l4 + 352);
+l5 = get64(b, l4 + 360);
+if (!l5) { goto L28; }
+l6 = l7 + 24ull;
+L29:;
+if (!get64(b, l6)) { goto L30; }
+rattle_dealloc(b, get64(b, l6 + 18446744073709551600ull));
+L30:;
+l6 = l6 + 32ull;
+l5 = l5 + 18446744073709551615ull;
+if (l5 != 0ull) { goto L29; }
+L28:;
+if (!l8) { goto L18; }
+rattle_dealloc(b, l7);
+goto L18;
+L21:;
+t1 = f328(b, l4 + 352ull);
+if (!t1) { goto L31; }
+l5 = get64(b, l4 + 360);
+goto L20;
+L31:;
+if (!l8) { goto L32; }
+rattle_dealloc(b, l10);
+L32:;
+l8 = get64(b, l4 + 368);
+l7 = get64(b, l4 + 352);
+l5 = get64(b, l4 + 360);
+if (!l5) { goto L33; }
+l6 = l7 + 24ull;
+L34:;
+if (!get64(b, l6)) { goto L35; }
+rattle_dealloc(b, get64(b, l6 + 18446744073709551600ull));
+L35:;
+l6 = l6 + 32ull;
+l5 = l5 + 18446744073709551615ull;
+if (l5 != 0ull) { goto L34; }
+L33:;
+if (!l8) { goto L18; }
+rattle_dealloc(b, l7);
+goto L18;
 L20:;
-l21 = get64(b, l6 + 1376);
-l24 = get64(b, l6 + 1360);
-l22 = get64(b, l6 + 1368);
-if (!l22) { goto L38; }
-l13 = 0ull;
-L39:;
-l7 = l24 + (l13 * 40ull);
-if (!get8(b, l7)) { goto L40; }
-l25 = get64(b, l7 + 32ull);
-l15 = get64(b, l7 + 16ull);
-l12 = get64(b, l7 + 24ull);
-if (!l12) { goto L41; }
-l7 = l15 + 24ull;
-L42:;
-if (!get64(b, l7)) { goto L43; }
-rattle_dealloc(b, get64(b, l7 + 18446744073709551600ull));
-L43:;
-l7 = l7 + 32ull;
-l12 = l12 + 18446744073709551615ull;
-if (l12 != 0ull) { goto L42; }
-L41:;
-if (!l25) { goto L40; }
-rattle_dealloc(b, l15);
-L40:;
-l13 = l13 + 1ull;
-if (l13 != l22) { goto L39; }
-L38:;
-if (!l21) { goto L4; }
-rattle_dealloc(b, l24);
-goto L4;
-L17:;
-if (get64(b, l6 + 1376) != l10) { goto L44; }
-t2 = f328(b, l6 + 1360ull);
-if (!t2) { goto L45; }
-l10 = get64(b, l6 + 1368);
-goto L44;
-L45:;
-if (!l41) { goto L46; }
-if (!l12) { goto L47; }
-l7 = l21 + 24ull;
-L48:;
-if (!get64(b, l7)) { goto L49; }
-rattle_dealloc(b, get64(b, l7 + 18446744073709551600ull));
-L49:;
-l7 = l7 + 32ull;
-l12 = l12 + 18446744073709551615ull;
-if (l12 != 0ull) { goto L48; }
-L47:;
-if (!l13) { goto L46; }
-rattle_dealloc(b, l21);
-L46:;
-l21 = get64(b, l6 + 1376);
-l24 = get64(b, l6 + 1360);
-l22 = get64(b, l6 + 1368);
-if (!l22) { goto L50; }
-l13 = 0ull;
-L51:;
-l7 = l24 + (l13 * 40ull);
-if (!get8(b, l7)) { goto L52; }
-l25 = get64(b, l7 + 32ull);
-l15 = get64(b, l7 + 16ull);
-l12 = get64(b, l7 + 24ull);
-if (!l12) { goto L53; }
-l7 = l15 + 24ull;
-L54:;
-if (!get64(b, l7)) { goto L55; }
-rattle_dealloc(b, get64(b, l7 + 18446744073709551600ull));
-L55:;
-l7 = l7 + 32ull;
-l12 = l12 + 18446744073709551615ull;
-if (l12 != 0ull) { goto L54; }
-L53:;
-if (!l25) { goto L52; }
-rattle_dealloc(b, l15);
-L52:;
-l13 = l13 + 1ull;
-if (l13 != l22) { goto L51; }
-L50:;
-if (!l21) { goto L4; }
-rattle_dealloc(b, l24);
-goto L4;
-L44:;
-l19 = get64(b, l6 + 1360);
-l7 = l19 + (l10 * 40ull);
-put64(b, l7, (u64)l41);
-put8(b, l7 + 15ull, 0u);
-put16(b, l7 + 13ull, 0u);
-put64(b, l7 + 32ull, l13);
-put64(b, l7 + 24ull, l12);
-put64(b, l7 + 16ull, l21);
-put8(b, l7 + 12ull, l42);
-put32(b, l7 + 8ull, l43);
-l10 = l10 + 1ull;
-put64(b, l6 + 1368, l10);
-l8 = l8 + 1ull;
-if (l8 != l11) { goto L16; }
-l17 = get64(b, l6 + 1376);
-L15:;
-l26 = 0ull;
-l27 = 0ull;
-l24 = 0ull;
-l12 = get64(b, l9 + 40ull);
-if (!l12) { goto L68; }
-if (l12 > 2305843009213693951ull) { goto L66; }
-l7 = get64(b, l9 + 32ull);
-rattle_alloc(b, l6 + 152ull, l12 << 2, 4ull);
-if (!(((u32)get64(b, l6 + 152)) & 1u)) { goto L66; }
-l13 = get64(b, l6 + 160);
-put64(b, l6 + 2304, l12);
-l24 = 0ull;
-put64(b, l6 + 2296, 0ull);
-put64(b, l6 + 2288, l13);
-L69:;
-l45 = get32(b, l7);
-if (get64(b, l6 + 2304) != l24) { goto L70; }
-t3 = f330(b, l6 + 2288ull);
-if (!t3) { goto L67; }
-l13 = get64(b, l6 + 2288);
-l24 = get64(b, l6 + 2296);
-L70:;
-put32(b, l13 + (l24 << 2), l45);
-l24 = l24 + 1ull;
-put64(b, l6 + 2296, l24);
-l7 = l7 + 4ull;
-l12 = l12 + 18446744073709551615ull;
-if (!(u32)(!l12)) { goto L69; }
-l27 = get64(b, l6 + 2304);
-l18 = get64(b, l6 + 2288);
-L68:;
-l22 = 0ull;
-l28 = l6 + 2440ull;
-l8 = l28;
-l13 = get64(b, l9 + 64ull);
-if (!l13) { goto L71; }
-if (l13 > 256204778801521550ull) { goto L64; }
-l7 = get64(b, l9 + 56ull);
-rattle_alloc(b, l6 + 136ull, l13 * 36ull, 4ull);
-if (!(((u32)get64(b, l6 + 136)) & 1u)) { goto L64; }
-l8 = get64(b, l6 + 144);
-put64(b, l6 + 1736, l13);
-l22 = 0ull;
-put64(b, l6 + 1728, 0ull);
-put64(b, l6 + 1720, l8);
-L72:;
-put32(b, l6 + 2320, get32(b, l7 + 32));
-put64(b, l6 + 2312, get64(b, l7 + 24));
-put64(b, l6 + 2304, get64(b, l7 + 16));
-put64(b, l6 + 2296, get64(b, l7 + 8));
-put64(b, l6 + 2288, get64(b, l7));
-if (get64(b, l6 + 1736) != l22) { goto L73; }
-t4 = f329(b, l6 + 1720ull);
-if (!t4) { goto L65; }
-l8 = get64(b, l6 + 1720);
-l22 = get64(b, l6 + 1728);
-L73:;
-l12 = l8 + (l22 * 36ull);
-put64(b, l12 + 16, get64(b, l6 + 2304));
-put64(b, l12 + 8, get64(b, l6 + 2296));
-put64(b, l12, get64(b, l6 + 2288));
-put32(b, l12 + 32, get32(b, l6 + 2320));
-put64(b, l12 + 24, get64(b, l6 + 2312));
-l22 = l22 + 1ull;
-put64(b, l6 + 1728, l22);
-l7 = l7 + 36ull;
-l13 = l13 + 18446744073709551615ull;
-if (!(u32)(!l13)) { goto L72; }
-l26 = get64(b, l6 + 1736);
-L71:;
-l29 = 0ull;
-l30 = 0ull;
-l21 = 0ull;
-l12 = get64(b, l9 + 88ull);
-if (!l12) { goto L74; }
-if (l12 > 768614336404564650ull) { goto L62; }
-l7 = get64(b, l9 + 80ull);
-rattle_alloc(b, l6 + 120ull, l12 * 12ull, 4ull);
-if (!(((u32)get64(b, l6 + 120)) & 1u)) { goto L62; }
-l15 = get64(b, l6 + 128);
-put64(b, l6 + 2304, l12);
-l21 = 0ull;
-put64(b, l6 + 2296, 0ull);
-put64(b, l6 + 2288, l15);
-L75:;
-put32(b, l6 + 1728, get32(b, l7 + 8));
-put64(b, l6 + 1720, get64(b, l7));
-if (get64(b, l6 + 2304) != l21) { goto L76; }
-t5 = f324(b, l6 + 2288ull);
-if (!t5) { goto L63; }
-l15 = get64(b, l6 + 2288);
-l21 = get64(b, l6 + 2296);
-L76:;
-l13 = l15 + (l21 * 12ull);
-put32(b, l13 + 8, get32(b, l6 + 1728));
-put64(b, l13, get64(b, l6 + 1720));
-l21 = l21 + 1ull;
-put64(b, l6 + 2296, l21);
-l7 = l7 + 12ull;
-l12 = l12 + 18446744073709551615ull;
-if (!(u32)(!l12)) { goto L75; }
-l30 = get64(b, l6 + 2304);
-l28 = get64(b, l6 + 2288);
-L74:;
-l13 = get64(b, l9 + 112ull);
-if (!(u32)(!l13)) { goto L61; }
-l31 = l6 + 2440ull;
-l23 = 0ull;
-goto L60;
-L67:;
-if (!get64(b, l6 + 2304)) { goto L66; }
-rattle_dealloc(b, get64(b, l6 + 2288));
-L66:;
-if (!l10) { goto L77; }
-l13 = 0ull;
-L78:;
-l7 = l19 + (l13 * 40ull);
-if (!get8(b, l7)) { goto L79; }
-l25 = get64(b, l7 + 32ull);
-l15 = get64(b, l7 + 16ull);
-l12 = get64(b, l7 + 24ull);
-if (!l12) { goto L80; }
-l7 = l15 + 24ull;
-L81:;
-if (!get64(b, l7)) { goto L82; }
-rattle_dealloc(b, get64(b, l7 + 18446744073709551600ull));
-L82:;
-l7 = l7 + 32ull;
-l12 = l12 + 18446744073709551615ull;
-if (l12 != 0ull) { goto L81; }
-L80:;
-if (!l25) { goto L79; }
-rattle_dealloc(b, l15);
-L79:;
-l13 = l13 + 1ull;
-if (l13 != l10) { goto L78; }
-L77:;
-if (!l17) { goto L4; }
-rattle_dealloc(b, l19);
-goto L4;
-L65:;
-if (!get64(b, l6 + 1736)) { goto L64; }
-rattle_dealloc(b, get64(b, l6 + 1720));
-L64:;
-if (!l27) { goto L83; }
-rattle_dealloc(b, l18);
-L83:;
-if (!l10) { goto L84; }
-l13 = 0ull;
-L85:;
-l7 = l19 + (l13 * 40ull);
-if (!get8(b, l7)) { goto L86; }
-l25 = get64(b, l7 + 32ull);
-l15 = get64(b, l7 + 16ull);
-l12 = get64(b, l7 + 24ull);
-if (!l12) { goto L87; }
-l7 = l15 + 24ull;
-L88:;
-if (!get64(b, l7)) { goto L89; }
-rattle_dealloc(b, get64(b, l7 + 18446744073709551600ull));
-L89:;
-l7 = l7 + 32ull;
-l12 = l12 + 18446744073709551615ull;
-if (l12 != 0ull) { goto L88; }
-L87:;
-if (!l25) { goto L86; }
-rattle_dealloc(b, l15);
-L86:;
-l13 = l13 + 1ull;
-if (l13 != l10) { goto L85; }
-L84:;
-if (!l17) { goto L4; }
-rattle_dealloc(b, l19);
-goto L4;
-L63:;
-if (!get64(b, l6 + 2304)) { goto L62; }
-rattle_dealloc(b, get64(b, l6 + 2288));
-L62:;
-if (!l26) { goto L90; }
-rattle_dealloc(b, l8);
-L90:;
-if (!l27) { goto L91; }
-rattle_dealloc(b, l18);
-L91:;
-if (!l10) { goto L92; }
-l13 = 0ull;
-L93:;
-l7 = l19 + (l13 * 40ull);
-if (!get8(b, l7)) { goto L94; }
-l25 = get64(b, l7 + 32ull);
-l15 = get64(b, l7 + 16ull);
-l12 = get64(b, l7 + 24ull);
-if (!l12) { goto L95; }
-l7 = l15 + 24ull;
-L96:;
-if (!get64(b, l7)) { goto L97; }
-rattle_dealloc(b, get64(b, l7 + 18446744073709551600ull));
-L97:;
-l7 = l7 + 32ull;
-l12 = l12 + 18446744073709551615ull;
-if (l12 != 0ull) { goto L96; }
-L95:;
-if (!l25) { goto L94; }
-rattle_dealloc(b, l15);
-L94:;
-l13 = l13 + 1ull;
-if (l13 != l10) { goto L93; }
-L92:;
-if (!l17) { goto L4; }
-rattle_dealloc(b, l19);
-goto L4;
-L61:;
-if (l13 > 384307168202282325ull) { goto L58; }
-l7 = get64(b, l9 + 104ull);
-rattle_alloc(b, l6 + 104ull, l13 * 24ull, 4ull);
-if (!(((u32)get64(b, l6 + 104)) & 1u)) { goto L58; }
-l15 = get64(b, l6 + 112);
-put64(b, l6 + 1736, l13);
-l23 = 0ull;
-put64(b, l6 + 1728, 0ull);
-put64(b, l6 + 1720, l15);
-L98:;
-put64(b, l6 + 2304, get64(b, l7 + 16));
-put64(b, l6 + 2296, get64(b, l7 + 8));
-put64(b, l6 + 2288, get64(b, l7));
-if (get64(b, l6 + 1736) != l23) { goto L99; }
-t6 = f333(b, l6 + 1720ull);
-if (!t6) { goto L59; }
-l15 = get64(b, l6 + 1720);
-l23 = get64(b, l6 + 1728);
-L99:;
-l12 = l15 + (l23 * 24ull);
-put64(b, l12 + 16, get64(b, l6 + 2304));
-put64(b, l12 + 8, get64(b, l6 + 2296));
-put64(b, l12, get64(b, l6 + 2288));
+l20 = get64(b, l4 + 352);
+l6 = l20 + (l5 << 5);
+put32(b, l6 + 1, (u32)0ull);
+put64(b, l6 + 24, l8);
+put64(b, l6 + 16, l7);
+put64(b, l6 + 8, l10);
+put8(b, l6, l34);
+put8(b, l6 + 7ull, (u32)0ull);
+put16(b, l6 + 5ull, (u32)0ull);
+l5 = l5 + 1ull;
+put64(b, l4 + 360, l5);
 l23 = l23 + 1ull;
-put64(b, l6 + 1728, l23);
-l7 = l7 + 24ull;
-l13 = l13 + 18446744073709551615ull;
-if (!(u32)(!l13)) { goto L98; }
-l29 = get64(b, l6 + 1736);
-l31 = get64(b, l6 + 1720);
-L60:;
-l20 = get64(b, l9 + 128ull);
-l11 = get64(b, l9 + 136ull);
-put64(b, l6 + 1736, 0ull);
-put64(b, l6 + 1728, 0ull);
-put64(b, l6 + 1720, 0ull);
-if (l11 != 0ull) { goto L57; }
-put64(b, l6 + 1720, l6 + 2440ull);
-goto L56;
-L59:;
-if (!get64(b, l6 + 1736)) { goto L58; }
-rattle_dealloc(b, get64(b, l6 + 1720));
-L58:;
-if (!l30) { goto L100; }
-rattle_dealloc(b, l28);
-L100:;
-if (!l26) { goto L101; }
+if (l23 != l21) { goto L19; }
+l14 = get64(b, l4 + 336);
+l7 = get64(b, l4 + 368);
+goto L15;
+L18:;
+l20 = get64(b, l4 + 344);
+l23 = get64(b, l4 + 328);
+l21 = get64(b, l4 + 336);
+if (!l21) { goto L36; }
+l7 = 0ull;
+L37:;
+l6 = l23 + (l7 * 40ull);
+if (!get8(b, l6)) { goto L38; }
+l10 = get64(b, l6 + 32ull);
+l8 = get64(b, l6 + 16ull);
+l5 = get64(b, l6 + 24ull);
+if (!l5) { goto L39; }
+l6 = l8 + 24ull;
+L40:;
+if (!get64(b, l6)) { goto L41; }
+rattle_dealloc(b, get64(b, l6 + 18446744073709551600ull));
+L41:;
+l6 = l6 + 32ull;
+l5 = l5 + 18446744073709551615ull;
+if (l5 != 0ull) { goto L40; }
+L39:;
+if (!l10) { goto L38; }
 rattle_dealloc(b, l8);
-L101:;
-if (!l27) { goto L102; }
-rattle_dealloc(b, l18);
-L102:;
-if (!l10) { goto L103; }
-l13 = 0ull;
-L104:;
-l7 = l19 + (l13 * 40ull);
-if (!get8(b, l7)) { goto L105; }
-l25 = get64(b, l7 + 32ull);
-l15 = get64(b, l7 + 16ull);
-l12 = get64(b, l7 + 24ull);
-if (!l12) { goto L106; }
-l7 = l15 + 24ull;
-L107:;
-if (!get64(b, l7)) { goto L108; }
-rattle_dealloc(b, get64(b, l7 + 18446744073709551600ull));
-L108:;
-l7 = l7 + 32ull;
-l12 = l12 + 18446744073709551615ull;
-if (l12 != 0ull) { goto L107; }
-L106:;
-if (!l25) { goto L105; }
-rattle_dealloc(b, l15);
-L105:;
-l13 = l13 + 1ull;
-if (l13 != l10) { goto L104; }
-L103:;
-if (!l17) { goto L4; }
-rattle_dealloc(b, l19);
-goto L4;
-L57:;
-if (l11 > 288230376151711743ull) { goto L6; }
-rattle_alloc(b, l6 + 88ull, l11 << 5, 8ull);
-if (!(((u32)get64(b, l6 + 88)) & 1u)) { goto L6; }
-l7 = get64(b, l6 + 96);
-put64(b, l6 + 1736, l11);
-l13 = 0ull;
-put64(b, l6 + 1728, 0ull);
-put64(b, l6 + 1720, l7);
-l9 = 0ull;
-L109:;
-l7 = l20 + (l9 << 5);
-l42 = get32(b, l7);
-l15 = get64(b, l7 + 16ull);
-if (!(u32)(!l15)) { goto L115; }
-l25 = l6 + 2440ull;
-l15 = 0ull;
-l12 = 0ull;
-goto L114;
-L115:;
-if (l15 > 768614336404564650ull) { goto L112; }
-l7 = get64(b, l7 + 8ull);
-rattle_alloc(b, l6 + 72ull, l15 * 12ull, 4ull);
-if (!(((u32)get64(b, l6 + 72)) & 1u)) { goto L112; }
-l25 = get64(b, l6 + 80);
-put64(b, l6 + 2304, l15);
-l12 = 0ull;
-put64(b, l6 + 2296, 0ull);
-put64(b, l6 + 2288, l25);
-L116:;
-l45 = get8(b, l7 + 8ull);
-l44 = get32(b, l7 + 4ull);
-l41 = get8(b, l7);
-if (get64(b, l6 + 2304) != l12) { goto L117; }
-t7 = f331(b, l6 + 2288ull);
-if (!t7) { goto L113; }
-l25 = get64(b, l6 + 2288);
-l12 = get64(b, l6 + 2296);
-L117:;
-l13 = l25 + (l12 * 12ull);
-put32(b, l13, l41);
-put8(b, l13 + 8ull, l45);
-put32(b, l13 + 4ull, l44);
-l12 = l12 + 1ull;
-put64(b, l6 + 2296, l12);
-l7 = l7 + 12ull;
-l15 = l15 + 18446744073709551615ull;
-if (!(u32)(!l15)) { goto L116; }
-l13 = get64(b, l6 + 1728);
-l15 = get64(b, l6 + 2304);
-l25 = get64(b, l6 + 2288);
-L114:;
-if (get64(b, l6 + 1736) == l13) { goto L111; }
-goto L110;
-L113:;
-if (!get64(b, l6 + 2304)) { goto L112; }
-rattle_dealloc(b, get64(b, l6 + 2288));
-L112:;
-l15 = get64(b, l6 + 1736);
-l13 = get64(b, l6 + 1720);
-l12 = get64(b, l6 + 1728);
-if (!l12) { goto L118; }
-l7 = l13 + 24ull;
-L119:;
-if (!get64(b, l7)) { goto L120; }
-rattle_dealloc(b, get64(b, l7 + 18446744073709551600ull));
-L120:;
-l7 = l7 + 32ull;
-l12 = l12 + 18446744073709551615ull;
-if (l12 != 0ull) { goto L119; }
-L118:;
-if (!l15) { goto L121; }
-rattle_dealloc(b, l13);
-L121:;
-put64(b, l6 + 1879, 0ull);
-put64(b, l6 + 1871, 0ull);
-put64(b, l6 + 1863, 0ull);
-goto L5;
-L111:;
-t8 = f332(b, l6 + 1720ull);
-if (!t8) { goto L122; }
-l13 = get64(b, l6 + 1728);
-goto L110;
-L122:;
-if (!l15) { goto L123; }
-rattle_dealloc(b, l25);
-L123:;
-l15 = get64(b, l6 + 1736);
-l13 = get64(b, l6 + 1720);
-l12 = get64(b, l6 + 1728);
-if (!l12) { goto L124; }
-l7 = l13 + 24ull;
-L125:;
-if (!get64(b, l7)) { goto L126; }
-rattle_dealloc(b, get64(b, l7 + 18446744073709551600ull));
-L126:;
-l7 = l7 + 32ull;
-l12 = l12 + 18446744073709551615ull;
-if (l12 != 0ull) { goto L125; }
-L124:;
-if (!l15) { goto L127; }
-rattle_dealloc(b, l13);
-L127:;
-put64(b, l6 + 1879, 0ull);
-put64(b, l6 + 1871, 0ull);
-put64(b, l6 + 1863, 0ull);
-goto L5;
-L110:;
-l7 = get64(b, l6 + 1720) + (l13 << 5);
-put64(b, l7 + 24, l15);
-put64(b, l7 + 16, l12);
-put64(b, l7 + 8, l25);
-put32(b, l7 + 4, 0u);
-put32(b, l7, l42);
-l13 = l13 + 1ull;
-put64(b, l6 + 1728, l13);
-l9 = l9 + 1ull;
-if (l9 != l11) { goto L109; }
-L56:;
-put64(b, l14 + 16, get64(b, l6 + 1736));
-put64(b, l14 + 8, get64(b, l6 + 1728));
-put64(b, l14, get64(b, l6 + 1720));
-put64(b, l6 + 1976, get64(b, l14));
-put64(b, l6 + 1984, get64(b, l14 + 8));
-put64(b, l6 + 1992, get64(b, l14 + 16));
-l12 = get64(b, l6 + 920);
-if (get64(b, l6 + 928) != l12) { goto L128; }
-t9 = f357(b, l6 + 912ull);
-if (!t9) { goto L10; }
-l12 = get64(b, l6 + 920);
-L128:;
-l11 = get64(b, l6 + 912);
-l7 = l11 + (l12 * 152ull);
-put64(b, l7 + 120, l29);
-put64(b, l7 + 112, l23);
-put64(b, l7 + 104, l31);
-put64(b, l7 + 96, l30);
-put64(b, l7 + 88, l21);
-put64(b, l7 + 80, l28);
-put64(b, l7 + 72, l26);
-put64(b, l7 + 64, l22);
-put64(b, l7 + 56, l8);
-put64(b, l7 + 48, l27);
-put64(b, l7 + 40, l24);
-put64(b, l7 + 32, l18);
-put64(b, l7 + 24, l17);
-put64(b, l7 + 16, l10);
-put64(b, l7 + 8, l19);
-put32(b, l7 + 4, 0u);
-put32(b, l7, l40);
-put64(b, l7 + 128, get64(b, l6 + 1976));
-put64(b, l7 + 136, get64(b, l6 + 1984));
-put64(b, l7 + 144, get64(b, l6 + 1992));
-l7 = l12 + 1ull;
-put64(b, l6 + 920, l7);
-l16 = l16 + 1ull;
-if (l16 == l4) { goto L129; }
-put64(b, l6 + 1048, 0ull);
-put64(b, l6 + 1040, 0ull);
-put64(b, l6 + 1032, 0ull);
-l15 = l3 + (l16 << 5);
-l12 = get64(b, l15 + 16ull);
-l13 = (l5 > l12) ? 1ull : l5;
-if (!l13) { goto L2; }
-goto L14;
-L129:;
-l10 = get64(b, l6 + 928);
-l9 = 0ull;
-put64(b, l6 + 2296, 0ull);
-put64(b, l6 + 2304, 0ull);
-l13 = l3 + 16ull;
-put64(b, l6 + 2288, l6 + 2440ull);
-l25 = l6 + 2440ull;
-L130:;
-l15 = get64(b, l13);
-if (get64(b, l6 + 2304) != l9) { goto L131; }
-t10 = f358(b, l6 + 2288ull);
-if (!t10) { goto L9; }
-l25 = get64(b, l6 + 2288);
-l9 = get64(b, l6 + 2296);
-L131:;
-put64(b, l25 + (l9 << 3), (l5 > l15) ? 1ull : l5);
-l9 = l9 + 1ull;
-put64(b, l6 + 2296, l9);
-l13 = l13 + 32ull;
-l4 = l4 + 18446744073709551615ull;
-if (!(u32)(!l4)) { goto L130; }
-l8 = get64(b, l6 + 2304);
-l5 = get64(b, l6 + 2288);
-L11:;
-fill(b, l6 + 912ull, 0u, 118u);
-fill(b, l6 + 800ull, 0u, 112u);
-fill(b, l6 + 688ull, 0u, 112u);
-fill(b, l6 + 1032ull, 0u, 118u);
-fill(b, l6 + 2288ull, 0u, 126u);
-fill(b, l6 + 1856ull, 0u, 120u);
-l13 = 0ull;
-put64(b, l6 + 1623, 0ull);
-put64(b, l6 + 1616, 0ull);
-put64(b, l6 + 1608, 0ull);
-put64(b, l6 + 1600, 0ull);
-put64(b, l6 + 2272, 0ull);
-put64(b, l6 + 2280, 0ull);
-put64(b, l6 + 1840, 0ull);
-put64(b, l6 + 1848, 0ull);
-put64(b, l6 + 1232, 0ull);
-put64(b, l6 + 1240, 0ull);
-put64(b, l6 + 1216, 0ull);
-put64(b, l6 + 1224, 0ull);
-put64(b, l6 + 1360, 0ull);
-put64(b, l6 + 1368, 0ull);
-put64(b, l6 + 1376, 0ull);
-put64(b, l6 + 1383, 0ull);
-l12 = get64(b, l1 + 64ull);
-put64(b, l6 + 1744, 0ull);
-put64(b, l6 + 1736, 0ull);
-put64(b, l6 + 1728, 0ull);
-put64(b, l6 + 1720, 0ull);
-f180(b, l6 + 1720ull, l12);
-l44 = get8(b, l6 + 1720);
-if (l44) { goto L8; }
-put64(b, l6 + 1383, get64(b, l6 + 1744));
-put64(b, l6 + 1375, get64(b, l6 + 1736));
-put64(b, l6 + 1367, get64(b, l6 + 1728));
-put64(b, l6 + 1200, 0ull);
-put64(b, l6 + 1208, 0ull);
-put64(b, l6 + 1184, 0ull);
-put64(b, l6 + 1192, 0ull);
-put64(b, l6 + 1168, 0ull);
-put64(b, l6 + 1176, 0ull);
-put64(b, l6 + 1152, 0ull);
-put64(b, l6 + 1160, 0ull);
-l13 = l6 + 2440ull;
+L38:;
+l7 = l7 + 1ull;
+if (l7 != l21) { goto L37; }
+L36:;
+if (!l20) { goto L7; }
+rattle_dealloc(b, l23);
 goto L7;
-L10:;
-put64(b, l6 + 2408, l29);
-put64(b, l6 + 2400, l23);
-put64(b, l6 + 2392, l31);
-put64(b, l6 + 2384, l30);
-put64(b, l6 + 2376, l21);
-put64(b, l6 + 2368, l28);
-put64(b, l6 + 2360, l26);
-put64(b, l6 + 2352, l22);
-put64(b, l6 + 2344, l8);
-put64(b, l6 + 2336, l27);
-put64(b, l6 + 2328, l24);
-put64(b, l6 + 2320, l18);
-put64(b, l6 + 2312, l17);
-put64(b, l6 + 2304, l10);
-put64(b, l6 + 2296, l19);
-put32(b, l6 + 2292, 0u);
-put32(b, l6 + 2288, l40);
-put64(b, l6 + 2416, get64(b, l6 + 1976));
-put64(b, l6 + 2424, get64(b, l6 + 1984));
-put64(b, l6 + 2432, get64(b, l6 + 1992));
-f196(b, l6 + 2288ull);
-l15 = get64(b, l6 + 928);
-l13 = get64(b, l6 + 912);
-l12 = get64(b, l6 + 920);
-if (!l12) { goto L132; }
-l7 = l13;
-L133:;
-copy(b, l6 + 2288ull, l7, 152u);
-l7 = l7 + 152ull;
-f196(b, l6 + 2288ull);
-l12 = l12 + 18446744073709551615ull;
-if (l12 != 0ull) { goto L133; }
-L132:;
-if (!l15) { goto L3; }
-rattle_dealloc(b, l13);
-goto L3;
-L9:;
-if (!get64(b, l6 + 2304)) { goto L134; }
-rattle_dealloc(b, get64(b, l6 + 2288));
-L134:;
-if (!l7) { goto L135; }
-l12 = l12 + 1ull;
-l7 = l11;
-L136:;
-copy(b, l6 + 2288ull, l7, 152u);
-l7 = l7 + 152ull;
-f196(b, l6 + 2288ull);
-l12 = l12 + 18446744073709551615ull;
-if (l12 != 0ull) { goto L136; }
-L135:;
-if (!l10) { goto L137; }
-rattle_dealloc(b, l11);
-L137:;
-put8(b, l0, 1u);
-fill(b, l0 + 8ull, 0u, 168u);
-goto L1;
-L8:;
-put64(b, l6 + 1383, 0ull);
-put64(b, l6 + 1375, 0ull);
-put64(b, l6 + 1367, 0ull);
-put64(b, l6 + 1200, 0ull);
-put64(b, l6 + 1208, 0ull);
-put64(b, l6 + 1184, 0ull);
-put64(b, l6 + 1192, 0ull);
-put64(b, l6 + 1168, 0ull);
-put64(b, l6 + 1176, 0ull);
-put64(b, l6 + 1152, 0ull);
-put64(b, l6 + 1160, 0ull);
-L7:;
-l12 = 0ull;
-put64(b, l6 + 1720, 0ull);
-put64(b, l6 + 1728, 0ull);
-put64(b, l6 + 1736, 0ull);
-put64(b, l6 + 1743, 0ull);
-put64(b, l6 + 1480, 0ull);
-put64(b, l6 + 1488, 0ull);
-put64(b, l6 + 1976, 0ull);
-put64(b, l6 + 1984, 0ull);
-put64(b, l6 + 1248, 0ull);
-put64(b, l6 + 1256, 0ull);
-put64(b, l6 + 2168, 0ull);
-put64(b, l6 + 2176, 0ull);
-if (l44) { goto L138; }
-put64(b, l6 + 1743, get64(b, l6 + 1383));
-put64(b, l6 + 1735, get64(b, l6 + 1375));
-put64(b, l6 + 1727, get64(b, l6 + 1367));
-put64(b, l6 + 1480, get64(b, l6 + 1200));
-put64(b, l6 + 1488, get64(b, l6 + 1208));
-put64(b, l6 + 1976, get64(b, l6 + 1184));
-put64(b, l6 + 1984, get64(b, l6 + 1192));
-put64(b, l6 + 1248, get64(b, l6 + 1168));
-put64(b, l6 + 1256, get64(b, l6 + 1176));
-put64(b, l6 + 2176, get64(b, l6 + 1160));
-put64(b, l6 + 2168, get64(b, l6 + 1152));
-l12 = l13;
-L138:;
-put64(b, l6 + 1623, get64(b, l6 + 1743));
-put64(b, l6 + 1615, get64(b, l6 + 1735));
-put64(b, l6 + 1607, get64(b, l6 + 1727));
-put64(b, l6 + 2272, get64(b, l6 + 1480));
-put64(b, l6 + 2280, get64(b, l6 + 1488));
-put64(b, l6 + 1840, get64(b, l6 + 1976));
-put64(b, l6 + 1848, get64(b, l6 + 1984));
-put64(b, l6 + 1232, get64(b, l6 + 1248));
-put64(b, l6 + 1240, get64(b, l6 + 1256));
-put64(b, l6 + 1224, get64(b, l6 + 2176));
-put64(b, l6 + 1216, get64(b, l6 + 2168));
-l45 = 1u;
-if (l44) { goto L143; }
-put64(b, l6 + 1880, l12);
-put64(b, l6 + 1888, get64(b, l6 + 2272));
-put64(b, l6 + 1896, get64(b, l6 + 2280));
-put64(b, l6 + 1904, l12);
-put64(b, l6 + 1912, get64(b, l6 + 1840));
-put64(b, l6 + 1920, get64(b, l6 + 1848));
-put64(b, l6 + 1928, l12);
-l13 = (l6 + 1600ull) | 7ull;
-put64(b, l6 + 1872, get64(b, l13 + 16));
-put64(b, l6 + 1864, get64(b, l13 + 8));
-put64(b, l6 + 1856, get64(b, l13));
-put64(b, l6 + 1952, l12);
-put64(b, l6 + 1944, get64(b, l6 + 1240));
-put64(b, l6 + 1936, get64(b, l6 + 1232));
-put64(b, l6 + 1960, get64(b, l6 + 1216));
-put64(b, l6 + 1968, get64(b, l6 + 1224));
-if (!l7) { goto L148; }
-l17 = (l6 + 1480ull) + 6ull;
-l27 = (l6 + 1248ull) + 8ull;
-l20 = (l6 + 1720ull) + 8ull;
-l16 = (l6 + 1976ull) + 6ull;
-l3 = (l6 + 1720ull) + 6ull;
-l18 = 0ull;
-L149:;
-l45 = 0u;
-l19 = l11 + (l18 * 152ull);
-l12 = (u64)get32(b, l19);
-if (get64(b, l2 + 16ull) <= l12) { goto L144; }
-l14 = get64(b, l2 + 8ull) + (l12 << 5);
-l23 = get64(b, l14 + 16ull);
-l22 = get64(b, l19 + 16ull);
-if (!l22) { goto L151; }
-l15 = get64(b, l19 + 8ull);
-l13 = 0ull;
-l25 = 0ull;
-if (l22 == 1ull) { goto L153; }
-l4 = l22 & 1ull;
-l21 = l22 & 18446744073709551614ull;
-l13 = 0ull;
-l12 = l15;
-l25 = 0ull;
-L154:;
-if (!get8(b, l12)) { goto L155; }
-l24 = (u64)get32(b, l12 + 8ull) + 1ull;
-l13 = (l24 > l13) ? l24 : l13;
-L155:;
-if (!get8(b, l12 + 40ull)) { goto L156; }
-l24 = (u64)get32(b, l12 + 48ull) + 1ull;
-l13 = (l24 > l13) ? l24 : l13;
-L156:;
-l12 = l12 + 80ull;
-l25 = l25 + 2ull;
-if (l21 != l25) { goto L154; }
-if (!l4) { goto L152; }
-L153:;
-l12 = l15 + (l25 * 40ull);
-if (!get8(b, l12)) { goto L152; }
-l12 = (u64)get32(b, l12 + 8ull) + 1ull;
-l13 = (l12 > l13) ? l12 : l13;
-L152:;
-if (l22 < l13) { goto L144; }
-l24 = get64(b, l14 + 8ull);
-l12 = 0ull;
-put64(b, l20, 0ull);
-put64(b, l20 + 8, 0ull);
-put64(b, l6 + 1720, l6 + 2440ull);
-if (!(u32)(!l13)) { goto L158; }
-l4 = l6 + 2440ull;
-l44 = 1u;
-goto L157;
-L158:;
-l12 = 0ull;
-l21 = l6 + 2440ull;
-L159:;
-if (get64(b, l6 + 1736) != l12) { goto L160; }
-t11 = f359(b, l6 + 1720ull);
-if (!t11) { goto L145; }
-l21 = get64(b, l6 + 1720);
-l12 = get64(b, l6 + 1728);
-L160:;
-l25 = l21 + (l12 * 24ull);
-put64(b, l25 + 8, 0ull);
-put64(b, l25 + 16, 0ull);
-put64(b, l25, l6 + 2440ull);
-l12 = l12 + 1ull;
-put64(b, l6 + 1728, l12);
-l13 = l13 + 18446744073709551615ull;
-if (!(u32)(!l13)) { goto L159; }
-l44 = (u32)(!get64(b, l6 + 1736));
-l4 = get64(b, l6 + 1720);
-L157:;
-if (l22 != l23) { goto L163; }
-L164:;
-if (!get8(b, l15)) { goto L165; }
-l13 = (u64)get32(b, l15 + 8ull);
-if (l12 <= l13) { goto L163; }
-l21 = (u64)get8(b, l15 + 12ull);
-l23 = (u64)get32(b, l24);
-l13 = l4 + (l13 * 24ull);
-l25 = get64(b, l13 + 8ull);
-if (get64(b, l13 + 16ull) != l25) { goto L166; }
-t12 = f360(b, l13);
-if (t12) { goto L167; }
-l45 = 1u;
-goto L162;
-L167:;
-l25 = get64(b, l13 + 8ull);
-L166:;
-put64(b, get64(b, l13) + (l25 << 3), (l21 << 32) | l23);
-put64(b, l13 + 8ull, l25 + 1ull);
-L165:;
-l15 = l15 + 40ull;
-l24 = l24 + 104ull;
-l22 = l22 + 18446744073709551615ull;
-if (!(u32)(!l22)) { goto L164; }
-goto L150;
-L163:;
-l45 = 0u;
-if (!l12) { goto L161; }
-L162:;
-l13 = l4;
-L168:;
-if (!get64(b, l13 + 16ull)) { goto L169; }
-rattle_dealloc(b, get64(b, l13));
-L169:;
-l13 = l13 + 24ull;
-l12 = l12 + 18446744073709551615ull;
-if (l12 != 0ull) { goto L168; }
-L161:;
-if (l44) { goto L144; }
-rattle_dealloc(b, l4);
-goto L144;
-L151:;
-if (!(u32)(!l23)) { goto L144; }
-l44 = 1u;
-l12 = 0ull;
-l4 = l6 + 2440ull;
-L150:;
-l13 = get64(b, l6 + 1888);
-l15 = l13 + get64(b, l1 + 64ull);
-l22 = (l15 < l13) ? 18446744073709551615ull : l15;
-if (l22 <= 4999998ull) { goto L170; }
-l45 = 0u;
-goto L146;
-L170:;
-l24 = get64(b, l19 + 40ull);
-if (l24 != 0ull) { goto L175; }
-l21 = l22;
-goto L174;
-L175:;
-l45 = 0u;
-l41 = 0u;
-l15 = get64(b, l19 + 32ull);
-l13 = (u64)get32(b, l15);
-if (get64(b, l2 + 64ull) <= l13) { goto L176; }
-l41 = get32(b, get64(b, l2 + 56ull) + (l13 << 3));
-L176:;
-if (l24 > 4294967295ull) { goto L146; }
-l25 = (l24 * 3ull) + 1ull;
-rattle_alloc(b, l6 + 56ull, l25 * 24ull, 8ull);
-l45 = 1u;
-if (!(((u32)get64(b, l6 + 56)) & 1u)) { goto L146; }
-l13 = get64(b, l6 + 64);
-put64(b, l13, 1ull);
-put64(b, l13 + 16ull, 0ull);
-put64(b, l13 + 8ull, l24);
-put64(b, l6 + 1496, l25);
-put64(b, l6 + 1488, 1ull);
-put64(b, l6 + 1480, l13);
-L179:;
-l45 = 0u;
-l13 = (u64)get32(b, l15);
-if (get64(b, l2 + 64ull) <= l13) { goto L178; }
-l25 = get64(b, get64(b, l2 + 56ull) + (l13 << 3));
-if (!(l25 & 1ull)) { goto L178; }
-l13 = (l25 >> 1) & 2147483647ull;
-if (get64(b, l1 + 64ull) <= l13) { goto L178; }
-if (!get64(b, get64(b, l1 + 56ull) + (l13 * 120ull))) { goto L178; }
-if (get64(b, l1 + 88ull) <= l13) { goto L178; }
-l45 = (u32)(l25 >> 32);
-t13 = f187(b, l6 + 1480ull, get64(b, l1 + 80ull) + (l13 * 24ull), (((u64)(l45 - (u32)(l45 != 0u))) * 3ull) + 1ull, 3ull);
-if (t13 & 255u) { goto L180; }
-l15 = l15 + 4ull;
-l24 = l24 + 18446744073709551615ull;
-if (!l24) { goto L177; }
-goto L179;
-L180:;
-l45 = 1u;
-L178:;
-f361(b, l6 + 1480ull);
-goto L146;
-L177:;
-put64(b, l3 + 16, get64(b, l6 + 1496));
-put64(b, l3 + 8, get64(b, l6 + 1488));
-put64(b, l3, get64(b, l6 + 1480));
-l15 = get64(b, l6 + 1888);
-if (get64(b, l6 + 1896) != l15) { goto L181; }
-t14 = f362(b, l6 + 1880ull);
-if (!t14) { goto L173; }
-l15 = get64(b, l6 + 1888);
-L181:;
-l45 = 0u;
-l13 = get64(b, l6 + 1880) + (l15 << 5);
-put32(b, l13 + 4, 0u);
-put32(b, l13, l41);
-put64(b, l13 + 8, get64(b, l3));
-put64(b, l13 + 16, get64(b, l3 + 8));
-put64(b, l13 + 24, get64(b, l3 + 16));
-l13 = l15 + 1ull;
-put64(b, l6 + 1888, l13);
-l15 = l13 + get64(b, l1 + 64ull);
-l21 = (l15 < l13) ? 18446744073709551615ull : l15;
-if (l21 >= 4999999ull) { goto L146; }
-L174:;
-l46 = (l22 < 4999999ull) ? ((((u32)l22) << 1) | 1u) : 0u;
-l25 = get64(b, l19 + 64ull);
-if (!l25) { goto L184; }
-l45 = 0u;
-l47 = 0u;
-l13 = get64(b, l19 + 56ull);
-l15 = (u64)get32(b, l13);
-if (get64(b, l2 + 40ull) <= l15) { goto L185; }
-l47 = get32(b, get64(b, l2 + 32ull) + (l15 << 4));
-L185:;
-if (l25 > 4294967295ull) { goto L146; }
-l24 = (l25 * 5ull) + 1ull;
-rattle_alloc(b, l6 + 40ull, l24 * 24ull, 8ull);
-l45 = 1u;
-if (!(((u32)get64(b, l6 + 40)) & 1u)) { goto L146; }
-l15 = get64(b, l6 + 48);
-put64(b, l15, 1ull);
-put64(b, l15 + 16ull, 0ull);
-put64(b, l15 + 8ull, l25);
-put64(b, l6 + 1496, l24);
-put64(b, l6 + 1488, 1ull);
-put64(b, l6 + 1480, l15);
-L188:;
-l45 = 0u;
-l15 = (u64)get32(b, l13);
-if (get64(b, l2 + 40ull) <= l15) { goto L187; }
-l24 = get64(b, l2 + 32ull) + (l15 << 4);
-l41 = get32(b, l24);
-if (!(l41 & 1u)) { goto L187; }
-l15 = (u64)(l41 >> 1);
-if (get64(b, l1 + 64ull) <= l15) { goto L187; }
-if (!get64(b, get64(b, l1 + 56ull) + (l15 * 120ull))) { goto L187; }
-if (get64(b, l1 + 88ull) <= l15) { goto L187; }
-l40 = get32(b, l13 + 16ull);
-l48 = get8(b, l13 + 12ull);
-l42 = get32(b, l13 + 8ull);
-l43 = get8(b, l13 + 4ull);
-l45 = 1u;
-l41 = get32(b, l24 + 4);
-t15 = f187(b, l6 + 1480ull, get64(b, l1 + 80ull) + (l15 * 24ull), (((u64)(l41 - (u32)(l41 != 0u))) * 5ull) + 1ull, 1ull);
-if (t15 & 255u) { goto L187; }
-if (l43 & 255u) { goto L192; }
-l15 = 0ull;
-l22 = get64(b, l2 + 64ull);
-l24 = (u64)l42;
-if (l22 <= l24) { goto L193; }
-l15 = get64(b, get64(b, l2 + 56ull) + (l24 << 3));
-L193:;
-l42 = (u32)(l22 > l24);
-l41 = l42 ? ((u32)(l15 >> 32)) : 0u;
-l43 = l42 ? ((u32)l15) : 0u;
-goto L191;
-L192:;
-l43 = l46;
-l41 = l42 + 1u;
-if (!l41) { goto L190; }
-L191:;
-t16 = f363(b, l6 + 1480ull, l43, l41);
-if (t16 & 255u) { goto L187; }
-if (l48 & 255u) { goto L194; }
-l15 = 0ull;
-l22 = get64(b, l2 + 64ull);
-l24 = (u64)l40;
-if (l22 <= l24) { goto L195; }
-l15 = get64(b, get64(b, l2 + 56ull) + (l24 << 3));
-L195:;
-l42 = (u32)(l22 > l24);
-l41 = l42 ? ((u32)(l15 >> 32)) : 0u;
-l42 = l42 ? ((u32)l15) : 0u;
-goto L189;
-L194:;
-l42 = l46;
-l41 = l40 + 1u;
-if (l41) { goto L189; }
-L190:;
-l45 = 0u;
-goto L187;
-L189:;
-t17 = f363(b, l6 + 1480ull, l42, l41);
-if (t17 & 255u) { goto L187; }
-l13 = l13 + 36ull;
-l25 = l25 + 18446744073709551615ull;
-if (!l25) { goto L186; }
-goto L188;
-L187:;
-f361(b, l6 + 1480ull);
-goto L146;
-L186:;
-put64(b, l3 + 16, get64(b, l6 + 1496));
-put64(b, l3 + 8, get64(b, l6 + 1488));
-put64(b, l3, get64(b, l6 + 1480));
-l15 = get64(b, l6 + 1888);
-if (get64(b, l6 + 1896) != l15) { goto L196; }
-t18 = f362(b, l6 + 1880ull);
-if (!t18) { goto L183; }
-l15 = get64(b, l6 + 1888);
-L196:;
-l13 = get64(b, l6 + 1880) + (l15 << 5);
-put32(b, l13 + 4, 0u);
-put32(b, l13, l47);
-put64(b, l13 + 8, get64(b, l3));
-put64(b, l13 + 16, get64(b, l3 + 8));
-put64(b, l13 + 24, get64(b, l3 + 16));
-put64(b, l6 + 1888, l15 + 1ull);
-L184:;
-l31 = get64(b, l19 + 16ull);
-if (l31 == get64(b, l14 + 16ull)) { goto L197; }
-l45 = 0u;
-goto L146;
-L197:;
-if (!l31) { goto L206; }
-l49 = (((u32)l21) << 1) | 1u;
-l32 = get64(b, l14 + 8ull);
-l33 = get64(b, l19 + 8ull);
-l22 = 0ull;
-L207:;
-l13 = l33 + (l22 * 40ull);
-if (!get8(b, l13)) { goto L208; }
-l29 = get64(b, l13 + 24ull);
-l15 = l32 + (l22 * 104ull);
-if (get8(b, l15 + 8ull) != 1u) { goto L210; }
-l34 = l15 + 16ull;
-l25 = 1ull;
-goto L209;
-L210:;
-l25 = get64(b, l15 + 88ull);
-l34 = get64(b, l15 + 80ull);
-L209:;
-if (l29 == l25) { goto L211; }
-l45 = 0u;
-goto L146;
-L211:;
-if (!l29) { goto L208; }
-l35 = get64(b, l13 + 16ull);
-l36 = 0ull;
-L212:;
-put64(b, l6 + 1998, 0ull);
-put64(b, l6 + 1992, 0ull);
-put64(b, l6 + 1984, 0ull);
-put64(b, l6 + 1976, 0ull);
-l45 = 0u;
-l37 = l34 + (l36 << 6);
-l41 = get32(b, l37);
-if (!(l41 & 1u)) { goto L146; }
-l13 = (u64)(l41 >> 1);
-if (get64(b, l1 + 64ull) <= l13) { goto L146; }
-if (!get64(b, get64(b, l1 + 56ull) + (l13 * 120ull))) { goto L146; }
-if (get64(b, l1 + 88ull) <= l13) { goto L146; }
-l15 = get64(b, l1 + 80ull);
-put64(b, l6 + 1480, 0ull);
-put64(b, l6 + 1488, 0ull);
-put64(b, l6 + 1496, 0ull);
-put64(b, l6 + 1502, 0ull);
-put64(b, l6 + 2120, 0ull);
-put64(b, l6 + 2128, 0ull);
-put64(b, l6 + 2136, 0ull);
-l25 = l15 + (l13 * 24ull);
-l24 = get64(b, l25 + 8ull);
-if (l24 <= 164000000ull) { goto L213; }
-l45 = 0u;
-goto L146;
-L213:;
-put64(b, l20, 0ull);
-put64(b, l20 + 8, 0ull);
-put64(b, l6 + 1720, l6 + 2440ull);
-if (l24 != 0ull) { goto L217; }
-l47 = 1u;
-l15 = 0ull;
-l13 = 1ull;
+L15:;
+if (get64(b, l4 + 344) != l14) { goto L42; }
+t2 = f329(b, l4 + 328ull);
+if (!t2) { goto L43; }
+l14 = get64(b, l4 + 336);
+goto L42;
+L43:;
+if (!l31) { goto L44; }
+if (!l5) { goto L45; }
+l6 = l20 + 24ull;
+L46:;
+if (!get64(b, l6)) { goto L47; }
+rattle_dealloc(b, get64(b, l6 + 18446744073709551600ull));
+L47:;
+l6 = l6 + 32ull;
+l5 = l5 + 18446744073709551615ull;
+if (l5 != 0ull) { goto L46; }
+L45:;
+if (!l7) { goto L44; }
+rattle_dealloc(b, l20);
+L44:;
+l20 = get64(b, l4 + 344);
+l23 = get64(b, l4 + 328);
+l21 = get64(b, l4 + 336);
+if (!l21) { goto L48; }
+l7 = 0ull;
+L49:;
+l6 = l23 + (l7 * 40ull);
+if (!get8(b, l6)) { goto L50; }
+l10 = get64(b, l6 + 32ull);
+l8 = get64(b, l6 + 16ull);
+l5 = get64(b, l6 + 24ull);
+if (!l5) { goto L51; }
+l6 = l8 + 24ull;
+L52:;
+if (!get64(b, l6)) { goto L53; }
+rattle_dealloc(b, get64(b, l6 + 18446744073709551600ull));
+L53:;
+l6 = l6 + 32ull;
+l5 = l5 + 18446744073709551615ull;
+if (l5 != 0ull) { goto L52; }
+L51:;
+if (!l10) { goto L50; }
+rattle_dealloc(b, l8);
+L50:;
+l7 = l7 + 1ull;
+if (l7 != l21) { goto L49; }
+L48:;
+if (!l20) { goto L7; }
+rattle_dealloc(b, l23);
+goto L7;
+L42:;
+l16 = get64(b, l4 + 328);
+l6 = l16 + (l14 * 40ull);
+put64(b, l6, (u64)l31);
+put8(b, l6 + 15ull, 0u);
+put16(b, l6 + 13ull, 0u);
+put64(b, l6 + 32ull, l7);
+put64(b, l6 + 24ull, l5);
+put64(b, l6 + 16ull, l20);
+put8(b, l6 + 12ull, l32);
+put32(b, l6 + 8ull, l33);
+l14 = l14 + 1ull;
+put64(b, l4 + 336, l14);
+l19 = l19 + 1ull;
+if (l19 != l17) { goto L14; }
+l12 = get64(b, l4 + 344);
+L13:;
 l24 = 0ull;
-l38 = l6 + 2440ull;
-l21 = l38;
-goto L216;
-L217:;
-l47 = 1u;
-l15 = get64(b, l25);
-if (get8(b, l15) != 1u) { goto L220; }
-l13 = 1ull;
-l23 = get64(b, l15 + 8ull);
-if ((s64)l23 < (s64)1ull) { goto L220; }
-l30 = l6 + 2440ull;
-l15 = 0ull;
-L223:;
-l24 = get64(b, l25 + 8ull);
-if (l24 <= l13) { goto L222; }
+l25 = 0ull;
+l23 = 0ull;
+l5 = get64(b, l13 + 40ull);
+if (!l5) { goto L66; }
+if (l5 > 2305843009213693951ull) { goto L64; }
+l6 = get64(b, l13 + 32ull);
+rattle_alloc(b, l4 + 80ull, l5 << 2, 4ull);
+if (!(((u32)get64(b, l4 + 80)) & 1u)) { goto L64; }
+l7 = get64(b, l4 + 88);
+put64(b, l4 + 392, l5);
+l23 = 0ull;
+put64(b, l4 + 384, 0ull);
+put64(b, l4 + 376, l7);
+L67:;
+l35 = get32(b, l6);
+if (get64(b, l4 + 392) != l23) { goto L68; }
+t3 = f331(b, l4 + 376ull);
+if (!t3) { goto L65; }
+l7 = get64(b, l4 + 376);
+l23 = get64(b, l4 + 384);
+L68:;
+put32(b, l7 + (l23 << 2), l35);
+l23 = l23 + 1ull;
+put64(b, l4 + 384, l23);
+l6 = l6 + 4ull;
+l5 = l5 + 18446744073709551615ull;
+if (!(u32)(!l5)) { goto L67; }
+l25 = get64(b, l4 + 392);
+l15 = get64(b, l4 + 376);
+L66:;
 l21 = 0ull;
-l26 = l13 + 4ull;
-if (l24 <= l26) { goto L224; }
-l26 = get64(b, l25) + (l26 * 24ull);
-if (get8(b, l26) != 1u) { goto L224; }
-l21 = get64(b, l26 + 8ull);
+l26 = l4 + 552ull;
+l19 = l26;
+l7 = get64(b, l13 + 64ull);
+if (!l7) { goto L69; }
+if (l7 > 256204778801521550ull) { goto L62; }
+l6 = get64(b, l13 + 56ull);
+rattle_alloc(b, l4 + 64ull, l7 * 36ull, 4ull);
+if (!(((u32)get64(b, l4 + 64)) & 1u)) { goto L62; }
+l19 = get64(b, l4 + 72);
+put64(b, l4 + 544, l7);
+l21 = 0ull;
+put64(b, l4 + 536, 0ull);
+put64(b, l4 + 528, l19);
+L70:;
+put32(b, l4 + 408, get32(b, l6 + 32));
+put64(b, l4 + 400, get64(b, l6 + 24));
+put64(b, l4 + 392, get64(b, l6 + 16));
+put64(b, l4 + 384, get64(b, l6 + 8));
+put64(b, l4 + 376, get64(b, l6));
+if (get64(b, l4 + 544) != l21) { goto L71; }
+t4 = f330(b, l4 + 528ull);
+if (!t4) { goto L63; }
+l19 = get64(b, l4 + 528);
+l21 = get64(b, l4 + 536);
+L71:;
+l5 = l19 + (l21 * 36ull);
+put64(b, l5 + 16, get64(b, l4 + 392));
+put64(b, l5 + 8, get64(b, l4 + 384));
+put64(b, l5, get64(b, l4 + 376));
+put32(b, l5 + 32, get32(b, l4 + 408));
+put64(b, l5 + 24, get64(b, l4 + 400));
+l21 = l21 + 1ull;
+put64(b, l4 + 536, l21);
+l6 = l6 + 36ull;
+l7 = l7 + 18446744073709551615ull;
+if (!(u32)(!l7)) { goto L70; }
+l24 = get64(b, l4 + 544);
+L69:;
+l27 = 0ull;
+l28 = 0ull;
+l20 = 0ull;
+l5 = get64(b, l13 + 88ull);
+if (!l5) { goto L72; }
+if (l5 > 768614336404564650ull) { goto L60; }
+l6 = get64(b, l13 + 80ull);
+rattle_alloc(b, l4 + 48ull, l5 * 12ull, 4ull);
+if (!(((u32)get64(b, l4 + 48)) & 1u)) { goto L60; }
+l8 = get64(b, l4 + 56);
+put64(b, l4 + 392, l5);
+l20 = 0ull;
+put64(b, l4 + 384, 0ull);
+put64(b, l4 + 376, l8);
+L73:;
+put32(b, l4 + 536, get32(b, l6 + 8));
+put64(b, l4 + 528, get64(b, l6));
+if (get64(b, l4 + 392) != l20) { goto L74; }
+t5 = f325(b, l4 + 376ull);
+if (!t5) { goto L61; }
+l8 = get64(b, l4 + 376);
+l20 = get64(b, l4 + 384);
+L74:;
+l7 = l8 + (l20 * 12ull);
+put32(b, l7 + 8, get32(b, l4 + 536));
+put64(b, l7, get64(b, l4 + 528));
+l20 = l20 + 1ull;
+put64(b, l4 + 384, l20);
+l6 = l6 + 12ull;
+l5 = l5 + 18446744073709551615ull;
+if (!(u32)(!l5)) { goto L73; }
+l28 = get64(b, l4 + 392);
+l26 = get64(b, l4 + 376);
+L72:;
+l7 = get64(b, l13 + 112ull);
+if (!(u32)(!l7)) { goto L59; }
+l29 = l4 + 552ull;
+l22 = 0ull;
+goto L58;
+L65:;
+if (!get64(b, l4 + 392)) { goto L64; }
+rattle_dealloc(b, get64(b, l4 + 376));
+L64:;
+if (!l14) { goto L75; }
+l7 = 0ull;
+L76:;
+l6 = l16 + (l7 * 40ull);
+if (!get8(b, l6)) { goto L77; }
+l10 = get64(b, l6 + 32ull);
+l8 = get64(b, l6 + 16ull);
+l5 = get64(b, l6 + 24ull);
+if (!l5) { goto L78; }
+l6 = l8 + 24ull;
+L79:;
+if (!get64(b, l6)) { goto L80; }
+rattle_dealloc(b, get64(b, l6 + 18446744073709551600ull));
+L80:;
+l6 = l6 + 32ull;
+l5 = l5 + 18446744073709551615ull;
+if (l5 != 0ull) { goto L79; }
+L78:;
+if (!l10) { goto L77; }
+rattle_dealloc(b, l8);
+L77:;
+l7 = l7 + 1ull;
+if (l7 != l14) { goto L76; }
+L75:;
+if (!l12) { goto L7; }
+rattle_dealloc(b, l16);
+goto L7;
+L63:;
+if (!get64(b, l4 + 544)) { goto L62; }
+rattle_dealloc(b, get64(b, l4 + 528));
+L62:;
+if (!l25) { goto L81; }
+rattle_dealloc(b, l15);
+L81:;
+if (!l14) { goto L82; }
+l7 = 0ull;
+L83:;
+l6 = l16 + (l7 * 40ull);
+if (!get8(b, l6)) { goto L84; }
+l10 = get64(b, l6 + 32ull);
+l8 = get64(b, l6 + 16ull);
+l5 = get64(b, l6 + 24ull);
+if (!l5) { goto L85; }
+l6 = l8 + 24ull;
+L86:;
+if (!get64(b, l6)) { goto L87; }
+rattle_dealloc(b, get64(b, l6 + 18446744073709551600ull));
+L87:;
+l6 = l6 + 32ull;
+l5 = l5 + 18446744073709551615ull;
+if (l5 != 0ull) { goto L86; }
+L85:;
+if (!l10) { goto L84; }
+rattle_dealloc(b, l8);
+L84:;
+l7 = l7 + 1ull;
+if (l7 != l14) { goto L83; }
+L82:;
+if (!l12) { goto L7; }
+rattle_dealloc(b, l16);
+goto L7;
+L61:;
+if (!get64(b, l4 + 392)) { goto L60; }
+rattle_dealloc(b, get64(b, l4 + 376));
+L60:;
+if (!l24) { goto L88; }
+rattle_dealloc(b, l19);
+L88:;
+if (!l25) { goto L89; }
+rattle_dealloc(b, l15);
+L89:;
+if (!l14) { goto L90; }
+l7 = 0ull;
+L91:;
+l6 = l16 + (l7 * 40ull);
+if (!get8(b, l6)) { goto L92; }
+l10 = get64(b, l6 + 32ull);
+l8 = get64(b, l6 + 16ull);
+l5 = get64(b, l6 + 24ull);
+if (!l5) { goto L93; }
+l6 = l8 + 24ull;
+L94:;
+if (!get64(b, l6)) { goto L95; }
+rattle_dealloc(b, get64(b, l6 + 18446744073709551600ull));
+L95:;
+l6 = l6 + 32ull;
+l5 = l5 + 18446744073709551615ull;
+if (l5 != 0ull) { goto L94; }
+L93:;
+if (!l10) { goto L92; }
+rattle_dealloc(b, l8);
+L92:;
+l7 = l7 + 1ull;
+if (l7 != l14) { goto L91; }
+L90:;
+if (!l12) { goto L7; }
+rattle_dealloc(b, l16);
+goto L7;
+L59:;
+if (l7 > 384307168202282325ull) { goto L56; }
+l6 = get64(b, l13 + 104ull);
+rattle_alloc(b, l4 + 32ull, l7 * 24ull, 4ull);
+if (!(((u32)get64(b, l4 + 32)) & 1u)) { goto L56; }
+l8 = get64(b, l4 + 40);
+put64(b, l4 + 544, l7);
+l22 = 0ull;
+put64(b, l4 + 536, 0ull);
+put64(b, l4 + 528, l8);
+L96:;
+put64(b, l4 + 392, get64(b, l6 + 16));
+put64(b, l4 + 384, get64(b, l6 + 8));
+put64(b, l4 + 376, get64(b, l6));
+if (get64(b, l4 + 544) != l22) { goto L97; }
+t6 = f334(b, l4 + 528ull);
+if (!t6) { goto L57; }
+l8 = get64(b, l4 + 528);
+l22 = get64(b, l4 + 536);
+L97:;
+l5 = l8 + (l22 * 24ull);
+put64(b, l5 + 16, get64(b, l4 + 392));
+put64(b, l5 + 8, get64(b, l4 + 384));
+put64(b, l5, get64(b, l4 + 376));
+l22 = l22 + 1ull;
+put64(b, l4 + 536, l22);
+l6 = l6 + 24ull;
+l7 = l7 + 18446744073709551615ull;
+if (!(u32)(!l7)) { goto L96; }
+l27 = get64(b, l4 + 544);
+l29 = get64(b, l4 + 528);
+L58:;
+l18 = get64(b, l13 + 128ull);
+l17 = get64(b, l13 + 136ull);
+put64(b, l4 + 544, 0ull);
+put64(b, l4 + 536, 0ull);
+put64(b, l4 + 528, 0ull);
+if (l17 != 0ull) { goto L55; }
+put64(b, l4 + 528, l4 + 552ull);
+goto L54;
+L57:;
+if (!get64(b, l4 + 544)) { goto L56; }
+rattle_dealloc(b, get64(b, l4 + 528));
+L56:;
+if (!l28) { goto L98; }
+rattle_dealloc(b, l26);
+L98:;
+if (!l24) { goto L99; }
+rattle_dealloc(b, l19);
+L99:;
+if (!l25) { goto L100; }
+rattle_dealloc(b, l15);
+L100:;
+if (!l14) { goto L101; }
+l7 = 0ull;
+L102:;
+l6 = l16 + (l7 * 40ull);
+if (!get8(b, l6)) { goto L103; }
+l10 = get64(b, l6 + 32ull);
+l8 = get64(b, l6 + 16ull);
+l5 = get64(b, l6 + 24ull);
+if (!l5) { goto L104; }
+l6 = l8 + 24ull;
+L105:;
+if (!get64(b, l6)) { goto L106; }
+rattle_dealloc(b, get64(b, l6 + 18446744073709551600ull));
+L106:;
+l6 = l6 + 32ull;
+l5 = l5 + 18446744073709551615ull;
+if (l5 != 0ull) { goto L105; }
+L104:;
+if (!l10) { goto L103; }
+rattle_dealloc(b, l8);
+L103:;
+l7 = l7 + 1ull;
+if (l7 != l14) { goto L102; }
+L101:;
+if (!l12) { goto L7; }
+rattle_dealloc(b, l16);
+goto L7;
+L55:;
+if (l17 > 288230376151711743ull) { goto L9; }
+rattle_alloc(b, l4 + 16ull, l17 << 5, 8ull);
+if (!(((u32)get64(b, l4 + 16)) & 1u)) { goto L9; }
+l6 = get64(b, l4 + 24);
+put64(b, l4 + 544, l17);
+l7 = 0ull;
+put64(b, l4 + 536, 0ull);
+put64(b, l4 + 528, l6);
+l13 = 0ull;
+L107:;
+l6 = l18 + (l13 << 5);
+l32 = get32(b, l6);
+l8 = get64(b, l6 + 16ull);
+if (!(u32)(!l8)) { goto L113; }
+l10 = l4 + 552ull;
+l8 = 0ull;
+l5 = 0ull;
+goto L112;
+L113:;
+if (l8 > 768614336404564650ull) { goto L110; }
+l6 = get64(b, l6 + 8ull);
+rattle_alloc(b, l4, l8 * 12ull, 4ull);
+if (!(((u32)get64(b, l4)) & 1u)) { goto L110; }
+l10 = get64(b, l4 + 8);
+put64(b, l4 + 392, l8);
+l5 = 0ull;
+put64(b, l4 + 384, 0ull);
+put64(b, l4 + 376, l10);
+L114:;
+l35 = get8(b, l6 + 8ull);
+l34 = get32(b, l6 + 4ull);
+l31 = get8(b, l6);
+if (get64(b, l4 + 392) != l5) { goto L115; }
+t7 = f332(b, l4 + 376ull);
+if (!t7) { goto L111; }
+l10 = get64(b, l4 + 376);
+l5 = get64(b, l4 + 384);
+L115:;
+l7 = l10 + (l5 * 12ull);
+put32(b, l7, l31);
+put8(b, l7 + 8ull, l35);
+put32(b, l7 + 4ull, l34);
+l5 = l5 + 1ull;
+put64(b, l4 + 384, l5);
+l6 = l6 + 12ull;
+l8 = l8 + 18446744073709551615ull;
+if (!(u32)(!l8)) { goto L114; }
+l7 = get64(b, l4 + 536);
+l8 = get64(b, l4 + 392);
+l10 = get64(b, l4 + 376);
+L112:;
+if (get64(b, l4 + 544) == l7) { goto L109; }
+goto L108;
+L111:;
+if (!get64(b, l4 + 392)) { goto L110; }
+rattle_dealloc(b, get64(b, l4 + 376));
+L110:;
+l8 = get64(b, l4 + 544);
+l7 = get64(b, l4 + 528);
+l5 = get64(b, l4 + 536);
+if (!l5) { goto L116; }
+l6 = l7 + 24ull;
+L117:;
+if (!get64(b, l6)) { goto L118; }
+rattle_dealloc(b, get64(b, l6 + 18446744073709551600ull));
+L118:;
+l6 = l6 + 32ull;
+l5 = l5 + 18446744073709551615ull;
+if (l5 != 0ull) { goto L117; }
+L116:;
+if (!l8) { goto L119; }
+rattle_dealloc(b, l7);
+L119:;
+put64(b, l4 + 319, 0ull);
+put64(b, l4 + 311, 0ull);
+put64(b, l4 + 303, 0ull);
+goto L8;
+L109:;
+t8 = f333(b, l4 + 528ull);
+if (!t8) { goto L120; }
+l7 = get64(b, l4 + 536);
+goto L108;
+L120:;
+if (!l8) { goto L121; }
+rattle_dealloc(b, l10);
+L121:;
+l8 = get64(b, l4 + 544);
+l7 = get64(b, l4 + 528);
+l5 = get64(b, l4 + 536);
+if (!l5) { goto L122; }
+l6 = l7 + 24ull;
+L123:;
+if (!get64(b, l6)) { goto L124; }
+rattle_dealloc(b, get64(b, l6 + 18446744073709551600ull));
+L124:;
+l6 = l6 + 32ull;
+l5 = l5 + 18446744073709551615ull;
+if (l5 != 0ull) { goto L123; }
+L122:;
+if (!l8) { goto L125; }
+rattle_dealloc(b, l7);
+L125:;
+put64(b, l4 + 319, 0ull);
+put64(b, l4 + 311, 0ull);
+put64(b, l4 + 303, 0ull);
+goto L8;
+L108:;
+l6 = get64(b, l4 + 528) + (l7 << 5);
+put64(b, l6 + 24, l8);
+put64(b, l6 + 16, l5);
+put64(b, l6 + 8, l10);
+put32(b, l6 + 4, 0u);
+put32(b, l6, l32);
+l7 = l7 + 1ull;
+put64(b, l4 + 536, l7);
+l13 = l13 + 1ull;
+if (l13 != l17) { goto L107; }
+L54:;
+put64(b, l9 + 16, get64(b, l4 + 544));
+put64(b, l9 + 8, get64(b, l4 + 536));
+put64(b, l9, get64(b, l4 + 528));
+put64(b, l4 + 200, get64(b, l9));
+put64(b, l4 + 208, get64(b, l9 + 8));
+put64(b, l4 + 216, get64(b, l9 + 16));
+l10 = get64(b, l4 + 232);
+if (get64(b, l4 + 240) != l10) { goto L126; }
+t9 = f358(b, l4 + 224ull);
+if (!t9) { goto L11; }
+l10 = get64(b, l4 + 232);
+L126:;
+l7 = get64(b, l4 + 224);
+l6 = l7 + (l10 * 152ull);
+put64(b, l6 + 120, l27);
+put64(b, l6 + 112, l22);
+put64(b, l6 + 104, l29);
+put64(b, l6 + 96, l28);
+put64(b, l6 + 88, l20);
+put64(b, l6 + 80, l26);
+put64(b, l6 + 72, l24);
+put64(b, l6 + 64, l21);
+put64(b, l6 + 56, l19);
+put64(b, l6 + 48, l25);
+put64(b, l6 + 40, l23);
+put64(b, l6 + 32, l15);
+put64(b, l6 + 24, l12);
+put64(b, l6 + 16, l14);
+put64(b, l6 + 8, l16);
+put32(b, l6 + 4, 0u);
+put32(b, l6, l30);
+put64(b, l6 + 128, get64(b, l4 + 200));
+put64(b, l6 + 136, get64(b, l4 + 208));
+put64(b, l6 + 144, get64(b, l4 + 216));
+l5 = l10 + 1ull;
+put64(b, l4 + 232, l5);
+l11 = l11 + 1ull;
+if (l11 == l2) { goto L127; }
+put64(b, l4 + 264, 0ull);
+put64(b, l4 + 256, 0ull);
+put64(b, l4 + 248, 0ull);
+l10 = l1 + (l11 << 5);
+l6 = get64(b, l10 + 16ull);
+l8 = (l3 > l6) ? 1ull : l3;
+if (!l8) { goto L4; }
+goto L12;
+L127:;
+l6 = get64(b, l4 + 240);
+l8 = 0ull;
+put64(b, l4 + 384, 0ull);
+put64(b, l4 + 392, 0ull);
+l23 = l1 + 16ull;
+put64(b, l4 + 376, l4 + 552ull);
+l20 = l4 + 552ull;
+L128:;
+l21 = get64(b, l23);
+if (get64(b, l4 + 392) != l8) { goto L129; }
+t10 = f359(b, l4 + 376ull);
+if (!t10) { goto L10; }
+l20 = get64(b, l4 + 376);
+l8 = get64(b, l4 + 384);
+L129:;
+put64(b, l20 + (l8 << 3), (l3 > l21) ? 1ull : l3);
+l8 = l8 + 1ull;
+put64(b, l4 + 384, l8);
+l23 = l23 + 32ull;
+l2 = l2 + 18446744073709551615ull;
+if (!l2) { goto L2; }
+goto L128;
+L11:;
+put64(b, l4 + 496, l27);
+put64(b, l4 + 488, l22);
+put64(b, l4 + 480, l29);
+put64(b, l4 + 472, l28);
+put64(b, l4 + 464, l20);
+put64(b, l4 + 456, l26);
+put64(b, l4 + 448, l24);
+put64(b, l4 + 440, l21);
+put64(b, l4 + 432, l19);
+put64(b, l4 + 424, l25);
+put64(b, l4 + 416, l23);
+put64(b, l4 + 408, l15);
+put64(b, l4 + 400, l12);
+put64(b, l4 + 392, l14);
+put64(b, l4 + 384, l16);
+put32(b, l4 + 380, 0u);
+put32(b, l4 + 376, l30);
+put64(b, l4 + 504, get64(b, l4 + 200));
+put64(b, l4 + 512, get64(b, l4 + 208));
+put64(b, l4 + 520, get64(b, l4 + 216));
+f196(b, l4 + 376ull);
+l8 = get64(b, l4 + 240);
+l7 = get64(b, l4 + 224);
+l5 = get64(b, l4 + 232);
+if (!l5) { goto L130; }
+l6 = l7;
+L131:;
+copy(b, l4 + 376ull, l6, 152u);
+l6 = l6 + 152ull;
+f196(b, l4 + 376ull);
+l5 = l5 + 18446744073709551615ull;
+if (l5 != 0ull) { goto L131; }
+L130:;
+if (!l8) { goto L6; }
+rattle_dealloc(b, l7);
+goto L6;
+L10:;
+if (!get64(b, l4 + 392)) { goto L132; }
+rattle_dealloc(b, get64(b, l4 + 376));
+L132:;
+if (!l5) { goto L133; }
+l8 = l10 + 1ull;
+l5 = l7;
+L134:;
+copy(b, l4 + 376ull, l5, 152u);
+l5 = l5 + 152ull;
+f196(b, l4 + 376ull);
+l8 = l8 + 18446744073709551615ull;
+if (l8 != 0ull) { goto L134; }
+L133:;
+if (!l6) { goto L135; }
+rattle_dealloc(b, l7);
+L135:;
+put8(b, l0, 1u);
+put64(b, l0 + 8ull, 0ull);
+put64(b, l0 + 16ull, 0ull);
+put64(b, l0 + 24ull, 0ull);
+put64(b, l0 + 32ull, 0ull);
+put64(b, l0 + 40ull, 0ull);
+put64(b, l0 + 48ull, 0ull);
+put64(b, l0 + 56ull, 0ull);
+goto L1;
+L9:;
+put64(b, l4 + 319, 0ull);
+put64(b, l4 + 311, 0ull);
+put64(b, l4 + 303, 0ull);
+L8:;
+if (!l27) { goto L136; }
+rattle_dealloc(b, l29);
+L136:;
+if (!l28) { goto L137; }
+rattle_dealloc(b, l26);
+L137:;
+if (!l24) { goto L138; }
+rattle_dealloc(b, l19);
+L138:;
+if (!l25) { goto L139; }
+rattle_dealloc(b, l15);
+L139:;
+put64(b, l4 + 288, l12);
+put64(b, l4 + 280, l14);
+put64(b, l4 + 272, l16);
+f357(b, l4 + 272ull);
+L7:;
+l8 = get64(b, l4 + 240);
+l7 = get64(b, l4 + 224);
+l5 = get64(b, l4 + 232);
+if (!l5) { goto L140; }
+l6 = l7;
+L141:;
+copy(b, l4 + 376ull, l6, 152u);
+l6 = l6 + 152ull;
+f196(b, l4 + 376ull);
+l5 = l5 + 18446744073709551615ull;
+if (l5 != 0ull) { goto L141; }
+L140:;
+if (!l8) { goto L6; }
+rattle_dealloc(b, l7);
+L6:;
+put64(b, l0 + 8ull, 0ull);
+put8(b, l0, 1u);
+put64(b, l0 + 16ull, 0ull);
+put64(b, l0 + 24ull, 0ull);
+put64(b, l0 + 32ull, 0ull);
+put64(b, l0 + 40ull, 0ull);
+put64(b, l0 + 48ull, 0ull);
+put64(b, l0 + 56ull, 0ull);
+goto L1;
+L4:;
+l8 = get64(b, l4 + 240);
+if (!l5) { goto L142; }
+l6 = l7;
+L143:;
+copy(b, l4 + 376ull, l6, 152u);
+l6 = l6 + 152ull;
+f196(b, l4 + 376ull);
+l5 = l5 + 18446744073709551615ull;
+if (l5 != 0ull) { goto L143; }
+L142:;
+if (!l8) { goto L144; }
+rattle_dealloc(b, l7);
+L144:;
+put64(b, l0 + 8ull, 0ull);
+put8(b, l0, 0u);
+put64(b, l0 + 16ull, 0ull);
+put64(b, l0 + 24ull, 0ull);
+put64(b, l0 + 32ull, 0ull);
+put64(b, l0 + 40ull, get64(b, l4 + 176));
+put64(b, l0 + 48ull, get64(b, l4 + 184));
+put64(b, l0 + 56ull, get64(b, l4 + 192));
+goto L1;
+L2:;
+l8 = get64(b, l4 + 392);
+put64(b, l4 + 167, l8);
+l10 = get64(b, l4 + 384);
+put64(b, l4 + 159, l10);
+l23 = get64(b, l4 + 376);
+put64(b, l4 + 151, l23);
+put64(b, l0 + 32ull, l6);
+put64(b, l0 + 24ull, l5);
+put64(b, l0 + 16ull, l7);
+put64(b, l0 + 8ull, 1ull);
+put8(b, l0, 0u);
+put64(b, l0 + 40ull, l23);
+put64(b, l0 + 48ull, l10);
+put64(b, l0 + 56ull, l8);
+L1:;
+SP = l4 + 560ull;
+}
+
+FN void f201(B b, u64 l0, u64 l1, u64 l2, u64 l3, u64 l4) {
+u32 l36 = 0, l37 = 0, l38 = 0, l39 = 0, l40 = 0, l41 = 0, l42 = 0, l43 = 0, l44 = 0, l45 = 0, t0, t1, t2, t3, t4, t5, t6, t7, t8, t9, t10, t11, t12, t13, t14, t15, t16, t17, t18, t19, t20, t21, t22, t23, t24, t25, t26, t27, t28, t29, t30, t31, t32;
+u64 l5 = 0, l6 = 0, l7 = 0, l8 = 0, l9 = 0, l10 = 0, l11 = 0, l12 = 0, l13 = 0, l14 = 0, l15 = 0, l16 = 0, l17 = 0, l18 = 0, l19 = 0, l20 = 0, l21 = 0, l22 = 0, l23 = 0, l24 = 0, l25 = 0, l26 = 0, l27 = 0, l28 = 0, l29 = 0, l30 = 0, l31 = 0, l32 = 0, l33 = 0, l34 = 0, l35 = 0;
+l5 = SP - 1808ull;
+SP = l5;
+fill(b, l5 + 302ull, 0u, 118u);
+fill(b, l5 + 184ull, 0u, 112u);
+fill(b, l5 + 72ull, 0u, 112u);
+fill(b, l5 + 546ull, 0u, 118u);
+fill(b, l5 + 420ull, 0u, 126u);
+fill(b, l5 + 1368ull, 0u, 120u);
+l6 = 0ull;
+put64(b, l5 + 1135, 0ull);
+put64(b, l5 + 1128, 0ull);
+put64(b, l5 + 1120, 0ull);
+put64(b, l5 + 1112, 0ull);
+put64(b, l5 + 1784, 0ull);
+put64(b, l5 + 1792, 0ull);
+put64(b, l5 + 1352, 0ull);
+put64(b, l5 + 1360, 0ull);
+put64(b, l5 + 744, 0ull);
+put64(b, l5 + 752, 0ull);
+put64(b, l5 + 728, 0ull);
+put64(b, l5 + 736, 0ull);
+put64(b, l5 + 872, 0ull);
+put64(b, l5 + 880, 0ull);
+put64(b, l5 + 888, 0ull);
+put64(b, l5 + 895, 0ull);
+l7 = get64(b, l1 + 64ull);
+put64(b, l5 + 1256, 0ull);
+put64(b, l5 + 1248, 0ull);
+put64(b, l5 + 1240, 0ull);
+put64(b, l5 + 1232, 0ull);
+f180(b, l5 + 1232ull, l7);
+l36 = get8(b, l5 + 1232);
+if (l36) { goto L2; }
+put64(b, l5 + 895, get64(b, l5 + 1256));
+put64(b, l5 + 887, get64(b, l5 + 1248));
+put64(b, l5 + 879, get64(b, l5 + 1240));
+put64(b, l5 + 712, 0ull);
+put64(b, l5 + 720, 0ull);
+put64(b, l5 + 696, 0ull);
+put64(b, l5 + 704, 0ull);
+put64(b, l5 + 680, 0ull);
+put64(b, l5 + 688, 0ull);
+put64(b, l5 + 664, 0ull);
+put64(b, l5 + 672, 0ull);
+l6 = l5 + 1800ull;
+goto L1;
+L2:;
+put64(b, l5 + 895, 0ull);
+put64(b, l5 + 887, 0ull);
+put64(b, l5 + 879, 0ull);
+put64(b, l5 + 712, 0ull);
+put64(b, l5 + 720, 0ull);
+put64(b, l5 + 696, 0ull);
+put64(b, l5 + 704, 0ull);
+put64(b, l5 + 680, 0ull);
+put64(b, l5 + 688, 0ull);
+put64(b, l5 + 664, 0ull);
+put64(b, l5 + 672, 0ull);
+L1:;
+l7 = 0ull;
+put64(b, l5 + 1232, 0ull);
+put64(b, l5 + 1240, 0ull);
+put64(b, l5 + 1248, 0ull);
+put64(b, l5 + 1255, 0ull);
+put64(b, l5 + 992, 0ull);
+put64(b, l5 + 1000, 0ull);
+put64(b, l5 + 1488, 0ull);
+put64(b, l5 + 1496, 0ull);
+put64(b, l5 + 760, 0ull);
+put64(b, l5 + 768, 0ull);
+put64(b, l5 + 1680, 0ull);
+put64(b, l5 + 1688, 0ull);
+if (l36) { goto L3; }
+put64(b, l5 + 1255, get64(b, l5 + 895));
+put64(b, l5 + 1247, get64(b, l5 + 887));
+put64(b, l5 + 1239, get64(b, l5 + 879));
+put64(b, l5 + 992, get64(b, l5 + 712));
+put64(b, l5 + 1000, get64(b, l5 + 720));
+put64(b, l5 + 1488, get64(b, l5 + 696));
+put64(b, l5 + 1496, get64(b, l5 + 704));
+put64(b, l5 + 760, get64(b, l5 + 680));
+put64(b, l5 + 768, get64(b, l5 + 688));
+put64(b, l5 + 1688, get64(b, l5 + 672));
+put64(b, l5 + 1680, get64(b, l5 + 664));
+l7 = l6;
+L3:;
+put64(b, l5 + 1135, get64(b, l5 + 1255));
+put64(b, l5 + 1127, get64(b, l5 + 1247));
+put64(b, l5 + 1119, get64(b, l5 + 1239));
+put64(b, l5 + 1784, get64(b, l5 + 992));
+put64(b, l5 + 1792, get64(b, l5 + 1000));
+put64(b, l5 + 1352, get64(b, l5 + 1488));
+put64(b, l5 + 1360, get64(b, l5 + 1496));
+put64(b, l5 + 744, get64(b, l5 + 760));
+put64(b, l5 + 752, get64(b, l5 + 768));
+put64(b, l5 + 736, get64(b, l5 + 1688));
+put64(b, l5 + 728, get64(b, l5 + 1680));
+l37 = 1u;
+if (l36) { goto L6; }
+put64(b, l5 + 1392, l7);
+put64(b, l5 + 1400, get64(b, l5 + 1784));
+put64(b, l5 + 1408, get64(b, l5 + 1792));
+put64(b, l5 + 1416, l7);
+put64(b, l5 + 1424, get64(b, l5 + 1352));
+put64(b, l5 + 1432, get64(b, l5 + 1360));
+put64(b, l5 + 1440, l7);
+l6 = (l5 + 1112ull) | 7ull;
+put64(b, l5 + 1384, get64(b, l6 + 16));
+put64(b, l5 + 1376, get64(b, l6 + 8));
+put64(b, l5 + 1368, get64(b, l6));
+put64(b, l5 + 1464, l7);
+put64(b, l5 + 1456, get64(b, l5 + 752));
+put64(b, l5 + 1448, get64(b, l5 + 744));
+put64(b, l5 + 1472, get64(b, l5 + 728));
+put64(b, l5 + 1480, get64(b, l5 + 736));
+if (!l4) { goto L11; }
+l8 = (l5 + 992ull) + 6ull;
+l9 = (l5 + 760ull) + 8ull;
+l10 = (l5 + 1232ull) + 8ull;
+l11 = (l5 + 1488ull) + 6ull;
+l12 = (l5 + 1232ull) + 6ull;
+l13 = 0ull;
+L12:;
+l37 = 0u;
+l14 = l3 + (l13 * 152ull);
+l7 = (u64)get32(b, l14);
+if (get64(b, l2 + 16ull) <= l7) { goto L7; }
+l15 = get64(b, l2 + 8ull) + (l7 << 5);
+l16 = get64(b, l15 + 16ull);
+l17 = get64(b, l14 + 16ull);
+if (!l17) { goto L14; }
+l18 = get64(b, l14 + 8ull);
+l6 = 0ull;
+l19 = 0ull;
+if (l17 == 1ull) { goto L16; }
+l20 = l17 & 1ull;
+l21 = l17 & 18446744073709551614ull;
+l6 = 0ull;
+l7 = l18;
+l19 = 0ull;
+L17:;
+if (!get8(b, l7)) { goto L18; }
+l22 = (u64)get32(b, l7 + 8ull) + 1ull;
+l6 = (l22 > l6) ? l22 : l6;
+L18:;
+if (!get8(b, l7 + 40ull)) { goto L19; }
+l22 = (u64)get32(b, l7 + 48ull) + 1ull;
+l6 = (l22 > l6) ? l22 : l6;
+L19:;
+l7 = l7 + 80ull;
+l19 = l19 + 2ull;
+if (l21 != l19) { goto L17; }
+if (!l20) { goto L15; }
+L16:;
+l7 = l18 + (l19 * 40ull);
+if (!get8(b, l7)) { goto L15; }
+l7 = (u64)get32(b, l7 + 8ull) + 1ull;
+l6 = (l7 > l6) ? l7 : l6;
+L15:;
+if (l17 < l6) { goto L7; }
+l22 = get64(b, l15 + 8ull);
+l7 = 0ull;
+put64(b, l10, 0ull);
+put64(b, l10 + 8, 0ull);
+put64(b, l5 + 1232, l5 + 1800ull);
+if (!(u32)(!l6)) { goto L21; }
+l20 = l5 + 1800ull;
+l36 = 1u;
+goto L20;
+L21:;
+l7 = 0ull;
+l21 = l5 + 1800ull;
+L22:;
+if (get64(b, l5 + 1248) != l7) { goto L23; }
+t0 = f360(b, l5 + 1232ull);
+if (!t0) { goto L8; }
+l21 = get64(b, l5 + 1232);
+l7 = get64(b, l5 + 1240);
+L23:;
+l19 = l21 + (l7 * 24ull);
+put64(b, l19 + 8, 0ull);
+put64(b, l19 + 16, 0ull);
+put64(b, l19, l5 + 1800ull);
+l7 = l7 + 1ull;
+put64(b, l5 + 1240, l7);
+l6 = l6 + 18446744073709551615ull;
+if (!(u32)(!l6)) { goto L22; }
+l36 = (u32)(!get64(b, l5 + 1248));
+l20 = get64(b, l5 + 1232);
+L20:;
+if (l17 != l16) { goto L26; }
+L27:;
+if (!get8(b, l18)) { goto L28; }
+l6 = (u64)get32(b, l18 + 8ull);
+if (l7 <= l6) { goto L26; }
+l21 = (u64)get8(b, l18 + 12ull);
+l16 = (u64)get32(b, l22);
+l6 = l20 + (l6 * 24ull);
+l19 = get64(b, l6 + 8ull);
+if (get64(b, l6 + 16ull) != l19) { goto L29; }
+t1 = f361(b, l6);
+if (t1) { goto L30; }
+l37 = 1u;
+goto L25;
+L30:;
+l19 = get64(b, l6 + 8ull);
+L29:;
+put64(b, get64(b, l6) + (l19 << 3), (l21 << 32) | l16);
+put64(b, l6 + 8ull, l19 + 1ull);
+L28:;
+l18 = l18 + 40ull;
+l22 = l22 + 104ull;
+l17 = l17 + 18446744073709551615ull;
+if (!(u32)(!l17)) { goto L27; }
+goto L13;
+L26:;
+l37 = 0u;
+if (!l7) { goto L24; }
+L25:;
+l6 = l20;
+L31:;
+if (!get64(b, l6 + 16ull)) { goto L32; }
+rattle_dealloc(b, get64(b, l6));
+L32:;
+l6 = l6 + 24ull;
+l7 = l7 + 18446744073709551615ull;
+if (l7 != 0ull) { goto L31; }
+L24:;
+if (l36) { goto L7; }
+rattle_dealloc(b, l20);
+goto L7;
+L14:;
+if (!(u32)(!l16)) { goto L7; }
+l36 = 1u;
+l7 = 0ull;
+l20 = l5 + 1800ull;
+L13:;
+l6 = get64(b, l5 + 1400);
+l18 = l6 + get64(b, l1 + 64ull);
+l17 = (l18 < l6) ? 18446744073709551615ull : l18;
+if (l17 <= 4999998ull) { goto L33; }
+l37 = 0u;
+goto L9;
+L33:;
+l22 = get64(b, l14 + 40ull);
+if (l22 != 0ull) { goto L38; }
+l21 = l17;
+goto L37;
+L38:;
+l37 = 0u;
+l38 = 0u;
+l18 = get64(b, l14 + 32ull);
+l6 = (u64)get32(b, l18);
+if (get64(b, l2 + 64ull) <= l6) { goto L39; }
+l38 = get32(b, get64(b, l2 + 56ull) + (l6 << 3));
+L39:;
+if (l22 > 4294967295ull) { goto L9; }
+l19 = (l22 * 3ull) + 1ull;
+rattle_alloc(b, l5 + 56ull, l19 * 24ull, 8ull);
+l37 = 1u;
+if (!(((u32)get64(b, l5 + 56)) & 1u)) { goto L9; }
+l6 = get64(b, l5 + 64);
+put64(b, l6, 1ull);
+put64(b, l6 + 16ull, 0ull);
+put64(b, l6 + 8ull, l22);
+put64(b, l5 + 1008, l19);
+put64(b, l5 + 1000, 1ull);
+put64(b, l5 + 992, l6);
+L42:;
+l37 = 0u;
+l6 = (u64)get32(b, l18);
+if (get64(b, l2 + 64ull) <= l6) { goto L41; }
+l19 = get64(b, get64(b, l2 + 56ull) + (l6 << 3));
+if (!(l19 & 1ull)) { goto L41; }
+l6 = (l19 >> 1) & 2147483647ull;
+if (get64(b, l1 + 64ull) <= l6) { goto L41; }
+if (!get64(b, get64(b, l1 + 56ull) + (l6 * 120ull))) { goto L41; }
+if (get64(b, l1 + 88ull) <= l6) { goto L41; }
+l37 = (u32)(l19 >> 32);
+t2 = f187(b, l5 + 992ull, get64(b, l1 + 80ull) + (l6 * 24ull), (((u64)(l37 - (u32)(l37 != 0u))) * 3ull) + 1ull, 3ull);
+if (t2 & 255u) { goto L43; }
+l18 = l18 + 4ull;
+l22 = l22 + 18446744073709551615ull;
+if (!l22) { goto L40; }
+goto L42;
+L43:;
+l37 = 1u;
+L41:;
+f362(b, l5 + 992ull);
+goto L9;
+L40:;
+put64(b, l12 + 16, get64(b, l5 + 1008));
+put64(b, l12 + 8, get64(b, l5 + 1000));
+put64(b, l12, get64(b, l5 + 992));
+l18 = get64(b, l5 + 1400);
+if (get64(b, l5 + 1408) != l18) { goto L44; }
+t3 = f363(b, l5 + 1392ull);
+if (!t3) { goto L36; }
+l18 = get64(b, l5 + 1400);
+L44:;
+l37 = 0u;
+l6 = get64(b, l5 + 1392) + (l18 << 5);
+put32(b, l6 + 4, 0u);
+put32(b, l6, l38);
+put64(b, l6 + 8, get64(b, l12));
+put64(b, l6 + 16, get64(b, l12 + 8));
+put64(b, l6 + 24, get64(b, l12 + 16));
+l6 = l18 + 1ull;
+put64(b, l5 + 1400, l6);
+l18 = l6 + get64(b, l1 + 64ull);
+l21 = (l18 < l6) ? 18446744073709551615ull : l18;
+if (l21 >= 4999999ull) { goto L9; }
+L37:;
+l39 = (l17 < 4999999ull) ? ((((u32)l17) << 1) | 1u) : 0u;
+l19 = get64(b, l14 + 64ull);
+if (!l19) { goto L47; }
+l37 = 0u;
+l40 = 0u;
+l6 = get64(b, l14 + 56ull);
+l18 = (u64)get32(b, l6);
+if (get64(b, l2 + 40ull) <= l18) { goto L48; }
+l40 = get32(b, get64(b, l2 + 32ull) + (l18 << 4));
+L48:;
+if (l19 > 4294967295ull) { goto L9; }
+l22 = (l19 * 5ull) + 1ull;
+rattle_alloc(b, l5 + 40ull, l22 * 24ull, 8ull);
+l37 = 1u;
+if (!(((u32)get64(b, l5 + 40)) & 1u)) { goto L9; }
+l18 = get64(b, l5 + 48);
+put64(b, l18, 1ull);
+put64(b, l18 + 16ull, 0ull);
+put64(b, l18 + 8ull, l19);
+put64(b, l5 + 1008, l22);
+put64(b, l5 + 1000, 1ull);
+put64(b, l5 + 992, l18);
+L51:;
+l37 = 0u;
+l18 = (u64)get32(b, l6);
+if (get64(b, l2 + 40ull) <= l18) { goto L50; }
+l22 = get64(b, l2 + 32ull) + (l18 << 4);
+l38 = get32(b, l22);
+if (!(l38 & 1u)) { goto L50; }
+l18 = (u64)(l38 >> 1);
+if (get64(b, l1 + 64ull) <= l18) { goto L50; }
+if (!get64(b, get64(b, l1 + 56ull) + (l18 * 120ull))) { goto L50; }
+if (get64(b, l1 + 88ull) <= l18) { goto L50; }
+l41 = get32(b, l6 + 16ull);
+l42 = get8(b, l6 + 12ull);
+l43 = get32(b, l6 + 8ull);
+l44 = get8(b, l6 + 4ull);
+l37 = 1u;
+l38 = get32(b, l22 + 4);
+t4 = f187(b, l5 + 992ull, get64(b, l1 + 80ull) + (l18 * 24ull), (((u64)(l38 - (u32)(l38 != 0u))) * 5ull) + 1ull, 1ull);
+if (t4 & 255u) { goto L50; }
+if (l44 & 255u) { goto L55; }
+l18 = 0ull;
+l17 = get64(b, l2 + 64ull);
+l22 = (u64)l43;
+if (l17 <= l22) { goto L56; }
+l18 = get64(b, get64(b, l2 + 56ull) + (l22 << 3));
+L56:;
+l43 = (u32)(l17 > l22);
+l38 = l43 ? ((u32)(l18 >> 32)) : 0u;
+l44 = l43 ? ((u32)l18) : 0u;
+goto L54;
+L55:;
+l44 = l39;
+l38 = l43 + 1u;
+if (!l38) { goto L53; }
+L54:;
+t5 = f364(b, l5 + 992ull, l44, l38);
+if (t5 & 255u) { goto L50; }
+if (l42 & 255u) { goto L57; }
+l18 = 0ull;
+l17 = get64(b, l2 + 64ull);
+l22 = (u64)l41;
+if (l17 <= l22) { goto L58; }
+l18 = get64(b, get64(b, l2 + 56ull) + (l22 << 3));
+L58:;
+l43 = (u32)(l17 > l22);
+l38 = l43 ? ((u32)(l18 >> 32)) : 0u;
+l43 = l43 ? ((u32)l18) : 0u;
+goto L52;
+L57:;
+l43 = l39;
+l38 = l41 + 1u;
+if (l38) { goto L52; }
+L53:;
+l37 = 0u;
+goto L50;
+L52:;
+t6 = f364(b, l5 + 992ull, l43, l38);
+if (t6 & 255u) { goto L50; }
+l6 = l6 + 36ull;
+l19 = l19 + 18446744073709551615ull;
+if (!l19) { goto L49; }
+goto L51;
+L50:;
+f362(b, l5 + 992ull);
+goto L9;
+L49:;
+put64(b, l12 + 16, get64(b, l5 + 1008));
+put64(b, l12 + 8, get64(b, l5 + 1000));
+put64(b, l12, get64(b, l5 + 992));
+l18 = get64(b, l5 + 1400);
+if (get64(b, l5 + 1408) != l18) { goto L59; }
+t7 = f363(b, l5 + 1392ull);
+if (!t7) { goto L46; }
+l18 = get64(b, l5 + 1400);
+L59:;
+l6 = get64(b, l5 + 1392) + (l18 << 5);
+put32(b, l6 + 4, 0u);
+put32(b, l6, l40);
+put64(b, l6 + 8, get64(b, l12));
+put64(b, l6 + 16, get64(b, l12 + 8));
+put64(b, l6 + 24, get64(b, l12 + 16));
+put64(b, l5 + 1400, l18 + 1ull);
+L47:;
+l23 = get64(b, l14 + 16ull);
+if (l23 == get64(b, l15 + 16ull)) { goto L60; }
+l37 = 0u;
+goto L9;
+L60:;
+if (!l23) { goto L69; }
+l45 = (((u32)l21) << 1) | 1u;
+l24 = get64(b, l15 + 8ull);
+l25 = get64(b, l14 + 8ull);
+l17 = 0ull;
+L70:;
+l6 = l25 + (l17 * 40ull);
+if (!get8(b, l6)) { goto L71; }
+l26 = get64(b, l6 + 24ull);
+l18 = l24 + (l17 * 104ull);
+if (get8(b, l18 + 8ull) != 1u) { goto L73; }
+l27 = l18 + 16ull;
+l19 = 1ull;
+goto L72;
+L73:;
+l19 = get64(b, l18 + 88ull);
+l27 = get64(b, l18 + 80ull);
+L72:;
+if (l26 == l19) { goto L74; }
+l37 = 0u;
+goto L9;
+L74:;
+if (!l26) { goto L71; }
+l28 = get64(b, l6 + 16ull);
+l29 = 0ull;
+L75:;
+put64(b, l5 + 1510, 0ull);
+put64(b, l5 + 1504, 0ull);
+put64(b, l5 + 1496, 0ull);
+put64(b, l5 + 1488, 0ull);
+l37 = 0u;
+l30 = l27 + (l29 << 6);
+l38 = get32(b, l30);
+if (!(l38 & 1u)) { goto L9; }
+l6 = (u64)(l38 >> 1);
+if (get64(b, l1 + 64ull) <= l6) { goto L9; }
+if (!get64(b, get64(b, l1 + 56ull) + (l6 * 120ull))) { goto L9; }
+if (get64(b, l1 + 88ull) <= l6) { goto L9; }
+l18 = get64(b, l1 + 80ull);
+put64(b, l5 + 992, 0ull);
+put64(b, l5 + 1000, 0ull);
+put64(b, l5 + 1008, 0ull);
+put64(b, l5 + 1014, 0ull);
+put64(b, l5 + 1632, 0ull);
+put64(b, l5 + 1640, 0ull);
+put64(b, l5 + 1648, 0ull);
+l19 = l18 + (l6 * 24ull);
+l22 = get64(b, l19 + 8ull);
+if (l22 <= 164000000ull) { goto L76; }
+l37 = 0u;
+goto L9;
+L76:;
+put64(b, l10, 0ull);
+put64(b, l10 + 8, 0ull);
+put64(b, l5 + 1232, l5 + 1800ull);
+if (l22 != 0ull) { goto L80; }
+l40 = 1u;
+l18 = 0ull;
+l6 = 1ull;
+l22 = 0ull;
+l31 = l5 + 1800ull;
+l21 = l31;
+goto L79;
+L80:;
+l40 = 1u;
+l18 = get64(b, l19);
+if (get8(b, l18) != 1u) { goto L83; }
+l6 = 1ull;
+l16 = get64(b, l18 + 8ull);
+if ((s64)l16 < (s64)1ull) { goto L83; }
+l32 = l5 + 1800ull;
+l18 = 0ull;
+L86:;
+l22 = get64(b, l19 + 8ull);
+if (l22 <= l6) { goto L85; }
+l21 = 0ull;
+l33 = l6 + 4ull;
+if (l22 <= l33) { goto L87; }
+l33 = get64(b, l19) + (l33 * 24ull);
+if (get8(b, l33) != 1u) { goto L87; }
+l21 = get64(b, l33 + 8ull);
 l21 = ((s64)l21 > (s64)0ull) ? l21 : 0ull;
-if (l24 < l21) { goto L222; }
-L224:;
-if (get64(b, l6 + 1736) != l15) { goto L225; }
-t19 = f34(b, l6 + 1720ull);
-if (!t19) { goto L221; }
-l30 = get64(b, l6 + 1720);
-l15 = get64(b, l6 + 1728);
-L225:;
-put64(b, l30 + (l15 << 3), l13);
-l15 = l15 + 1ull;
-put64(b, l6 + 1728, l15);
-l13 = (l13 + (l21 << 1)) + 5ull;
-l23 = l23 + 18446744073709551615ull;
-if (!(u32)(!l23)) { goto L223; }
-l38 = get64(b, l6 + 1720);
-l47 = (u32)(!get64(b, l6 + 1736));
-l24 = get64(b, l25 + 8ull);
-if (!(u32)(!l24)) { goto L219; }
-l21 = l6 + 2440ull;
-l24 = 0ull;
-goto L216;
-L222:;
-l45 = 0u;
-if (!get64(b, l6 + 1736)) { goto L146; }
-rattle_dealloc(b, get64(b, l6 + 1720));
-goto L146;
-L221:;
-l45 = 1u;
-if (!get64(b, l6 + 1736)) { goto L146; }
-rattle_dealloc(b, get64(b, l6 + 1720));
-goto L146;
-L220:;
-l13 = 1ull;
-l15 = 0ull;
-l38 = l6 + 2440ull;
-goto L218;
-L219:;
-if (l24 > 384307168202282325ull) { goto L215; }
-L218:;
-rattle_alloc(b, l6 + 24ull, l24 * 24ull, 8ull);
-if (!(((u32)get64(b, l6 + 24)) & 1u)) { goto L215; }
-l21 = get64(b, l6 + 32);
-L216:;
-put64(b, l6 + 2136, l24);
-put64(b, l6 + 2128, 0ull);
-put64(b, l6 + 2120, l21);
-t20 = f187(b, l6 + 2120ull, l25, 0ull, 1ull);
-if (t20 & 255u) { goto L147; }
-put64(b, l6 + 2088, 0ull);
-put64(b, l6 + 2096, 0ull);
-put64(b, l6 + 2104, 0ull);
-put64(b, l6 + 2144, 0ull);
-put64(b, l6 + 2152, 0ull);
-put64(b, l6 + 2160, 0ull);
-l30 = l35 + (l36 << 5);
-if (get64(b, l30 + 16ull) == l15) { goto L214; }
-l45 = 0u;
-goto L203;
-L215:;
-put64(b, l6 + 1502, 0ull);
-put64(b, l6 + 1494, 0ull);
-put64(b, l6 + 1486, 0ull);
-l45 = 1u;
-if (l47) { goto L146; }
-rattle_dealloc(b, l38);
-goto L146;
-L214:;
-if (!l15) { goto L226; }
-l24 = get64(b, l30 + 8ull);
-l23 = l15 + 18446744073709551615ull;
-l26 = 0ull;
-L227:;
-l45 = 0u;
-l28 = get64(b, l25 + 8ull);
-l21 = get64(b, l38 + ((get8(b, l30) ? l23 : l26) << 3));
-if (l28 <= l21) { goto L203; }
-l15 = 5ull;
-l39 = l21 + 4ull;
-if (l28 <= l39) { goto L228; }
-l39 = get64(b, l25) + (l39 * 24ull);
-if (get8(b, l39) != 1u) { goto L228; }
-l15 = get64(b, l39 + 8ull);
-l15 = ((s64)l15 > (s64)0ull) ? l15 : 0ull;
-if (l28 < l15) { goto L203; }
-l15 = (l15 << 1) + 5ull;
-if (l15 <= 384307168202282325ull) { goto L228; }
-l45 = 1u;
-goto L203;
-L228:;
-rattle_alloc(b, l6 + 8ull, l15 * 24ull, 8ull);
-l45 = 1u;
-if (!(((u32)get64(b, l6 + 8)) & 1u)) { goto L203; }
-l28 = get64(b, l6 + 16);
-put64(b, l6 + 1264, l15);
-put64(b, l6 + 1256, 0ull);
-put64(b, l6 + 1248, l28);
-t21 = f187(b, l6 + 1248ull, l25, l21, l15);
-if (!(t21 & 255u)) { goto L229; }
-f361(b, l6 + 1248ull);
-goto L203;
-L229:;
-put64(b, l3 + 16, get64(b, l6 + 1264));
-put64(b, l3 + 8, get64(b, l6 + 1256));
-put64(b, l3, get64(b, l6 + 1248));
-put64(b, l6 + 2168, get64(b, l3));
-put64(b, l6 + 2176, get64(b, l3 + 8));
-put64(b, l6 + 2184, get64(b, l3 + 16));
-l41 = get8(b, l24 + 4ull);
-l42 = get32(b, l24 + 8ull);
-l48 = get8(b, l24 + 12ull);
-l40 = get8(b, l30);
-l43 = get8(b, l24);
-l45 = 1u;
-t22 = f187(b, l6 + 2120ull, l6 + 2168ull, 0ull, 1ull);
-if (t22 & 255u) { goto L204; }
-if (l43 & 255u) { goto L232; }
-if (l41 & 255u) { goto L233; }
-l41 = 0u;
-l43 = 0u;
-l15 = (u64)l42;
-if (get64(b, l2 + 40ull) <= l15) { goto L231; }
-l15 = get64(b, l2 + 32ull) + (l15 << 4);
-l43 = get32(b, l15 + 4);
-l41 = get32(b, l15);
-goto L231;
-L233:;
-l41 = l49;
-l43 = l42 + 1u;
-if (l43) { goto L231; }
-l45 = 0u;
-goto L204;
-L232:;
-if (l41 & 255u) { goto L235; }
-l15 = 0ull;
-l28 = get64(b, l2 + 64ull);
-l21 = (u64)l42;
-if (l28 <= l21) { goto L236; }
-l15 = get64(b, get64(b, l2 + 56ull) + (l21 << 3));
-L236:;
-l42 = (u32)(l28 > l21);
-l41 = l42 ? ((u32)(l15 >> 32)) : 0u;
-l43 = l42 ? ((u32)l15) : 0u;
-goto L234;
-L235:;
-l43 = l46;
-l41 = l42 + 1u;
-if (l41) { goto L234; }
-l45 = 0u;
-goto L204;
-L234:;
-t23 = f363(b, l6 + 2120ull, l43, l41);
-if (t23 & 255u) { goto L204; }
-t24 = f187(b, l6 + 2120ull, l6 + 2168ull, 3ull, 1ull);
-if (t24 & 255u) { goto L204; }
-goto L230;
-L231:;
-t25 = f363(b, l6 + 2120ull, l41, l43);
-if (t25 & 255u) { goto L204; }
-l28 = ((u64)l48) & 1ull;
-l15 = get64(b, l6 + 2128);
-if (get64(b, l6 + 2136) != l15) { goto L237; }
-t26 = f86(b, l6 + 2120ull, 1ull);
-if (!t26) { goto L205; }
-l15 = get64(b, l6 + 2128);
-L237:;
-l21 = get64(b, l6 + 2120) + (l15 * 24ull);
+if (l22 < l21) { goto L85; }
+L87:;
+if (get64(b, l5 + 1248) != l18) { goto L88; }
+t8 = f34(b, l5 + 1232ull);
+if (!t8) { goto L84; }
+l32 = get64(b, l5 + 1232);
+l18 = get64(b, l5 + 1240);
+L88:;
+put64(b, l32 + (l18 << 3), l6);
+l18 = l18 + 1ull;
+put64(b, l5 + 1240, l18);
+l6 = (l6 + (l21 << 1)) + 5ull;
+l16 = l16 + 18446744073709551615ull;
+if (!(u32)(!l16)) { goto L86; }
+l31 = get64(b, l5 + 1232);
+l40 = (u32)(!get64(b, l5 + 1248));
+l22 = get64(b, l19 + 8ull);
+if (!(u32)(!l22)) { goto L82; }
+l21 = l5 + 1800ull;
+l22 = 0ull;
+goto L79;
+L85:;
+l37 = 0u;
+if (!get64(b, l5 + 1248)) { goto L9; }
+rattle_dealloc(b, get64(b, l5 + 1232));
+goto L9;
+L84:;
+l37 = 1u;
+if (!get64(b, l5 + 1248)) { goto L9; }
+rattle_dealloc(b, get64(b, l5 + 1232));
+goto L9;
+L83:;
+l6 = 1ull;
+l18 = 0ull;
+l31 = l5 + 1800ull;
+goto L81;
+L82:;
+if (l22 > 384307168202282325ull) { goto L78; }
+L81:;
+rattle_alloc(b, l5 + 24ull, l22 * 24ull, 8ull);
+if (!(((u32)get64(b, l5 + 24)) & 1u)) { goto L78; }
+l21 = get64(b, l5 + 32);
+L79:;
+put64(b, l5 + 1648, l22);
+put64(b, l5 + 1640, 0ull);
+put64(b, l5 + 1632, l21);
+t9 = f187(b, l5 + 1632ull, l19, 0ull, 1ull);
+if (t9 & 255u) { goto L10; }
+put64(b, l5 + 1600, 0ull);
+put64(b, l5 + 1608, 0ull);
+put64(b, l5 + 1616, 0ull);
+put64(b, l5 + 1656, 0ull);
+put64(b, l5 + 1664, 0ull);
+put64(b, l5 + 1672, 0ull);
+l32 = l28 + (l29 << 5);
+if (get64(b, l32 + 16ull) == l18) { goto L77; }
+l37 = 0u;
+goto L66;
+L78:;
+put64(b, l5 + 1014, 0ull);
+put64(b, l5 + 1006, 0ull);
+put64(b, l5 + 998, 0ull);
+l37 = 1u;
+if (l40) { goto L9; }
+rattle_dealloc(b, l31);
+goto L9;
+L77:;
+if (!l18) { goto L89; }
+l22 = get64(b, l32 + 8ull);
+l16 = l18 + 18446744073709551615ull;
+l33 = 0ull;
+L90:;
+l37 = 0u;
+l34 = get64(b, l19 + 8ull);
+l21 = get64(b, l31 + ((get8(b, l32) ? l16 : l33) << 3));
+if (l34 <= l21) { goto L66; }
+l18 = 5ull;
+l35 = l21 + 4ull;
+if (l34 <= l35) { goto L91; }
+l35 = get64(b, l19) + (l35 * 24ull);
+if (get8(b, l35) != 1u) { goto L91; }
+l18 = get64(b, l35 + 8ull);
+l18 = ((s64)l18 > (s64)0ull) ? l18 : 0ull;
+if (l34 < l18) { goto L66; }
+l18 = (l18 << 1) + 5ull;
+if (l18 <= 384307168202282325ull) { goto L91; }
+l37 = 1u;
+goto L66;
+L91:;
+rattle_alloc(b, l5 + 8ull, l18 * 24ull, 8ull);
+l37 = 1u;
+if (!(((u32)get64(b, l5 + 8)) & 1u)) { goto L66; }
+l34 = get64(b, l5 + 16);
+put64(b, l5 + 776, l18);
+put64(b, l5 + 768, 0ull);
+put64(b, l5 + 760, l34);
+t10 = f187(b, l5 + 760ull, l19, l21, l18);
+if (!(t10 & 255u)) { goto L92; }
+f362(b, l5 + 760ull);
+goto L66;
+L92:;
+put64(b, l12 + 16, get64(b, l5 + 776));
+put64(b, l12 + 8, get64(b, l5 + 768));
+put64(b, l12, get64(b, l5 + 760));
+put64(b, l5 + 1680, get64(b, l12));
+put64(b, l5 + 1688, get64(b, l12 + 8));
+put64(b, l5 + 1696, get64(b, l12 + 16));
+l38 = get8(b, l22 + 4ull);
+l43 = get32(b, l22 + 8ull);
+l42 = get8(b, l22 + 12ull);
+l41 = get8(b, l32);
+l44 = get8(b, l22);
+l37 = 1u;
+t11 = f187(b, l5 + 1632ull, l5 + 1680ull, 0ull, 1ull);
+if (t11 & 255u) { goto L67; }
+if (l44 & 255u) { goto L95; }
+if (l38 & 255u) { goto L96; }
+l38 = 0u;
+l44 = 0u;
+l18 = (u64)l43;
+if (get64(b, l2 + 40ull) <= l18) { goto L94; }
+l18 = get64(b, l2 + 32ull) + (l18 << 4);
+l44 = get32(b, l18 + 4);
+l38 = get32(b, l18);
+goto L94;
+L96:;
+l38 = l45;
+l44 = l43 + 1u;
+if (l44) { goto L94; }
+l37 = 0u;
+goto L67;
+L95:;
+if (l38 & 255u) { goto L98; }
+l18 = 0ull;
+l34 = get64(b, l2 + 64ull);
+l21 = (u64)l43;
+if (l34 <= l21) { goto L99; }
+l18 = get64(b, get64(b, l2 + 56ull) + (l21 << 3));
+L99:;
+l43 = (u32)(l34 > l21);
+l38 = l43 ? ((u32)(l18 >> 32)) : 0u;
+l44 = l43 ? ((u32)l18) : 0u;
+goto L97;
+L98:;
+l44 = l39;
+l38 = l43 + 1u;
+if (l38) { goto L97; }
+l37 = 0u;
+goto L67;
+L97:;
+t12 = f364(b, l5 + 1632ull, l44, l38);
+if (t12 & 255u) { goto L67; }
+t13 = f187(b, l5 + 1632ull, l5 + 1680ull, 3ull, 1ull);
+if (t13 & 255u) { goto L67; }
+goto L93;
+L94:;
+t14 = f364(b, l5 + 1632ull, l38, l44);
+if (t14 & 255u) { goto L67; }
+l34 = ((u64)l42) & 1ull;
+l18 = get64(b, l5 + 1640);
+if (get64(b, l5 + 1648) != l18) { goto L100; }
+t15 = f86(b, l5 + 1632ull, 1ull);
+if (!t15) { goto L68; }
+l18 = get64(b, l5 + 1640);
+L100:;
+l21 = get64(b, l5 + 1632) + (l18 * 24ull);
 put64(b, l21, 1ull);
 put64(b, l21 + 16ull, 0ull);
-put64(b, l21 + 8ull, l28);
-put64(b, l6 + 2128, l15 + 1ull);
-L230:;
-l15 = get64(b, l6 + 2176);
-if (l15 > 4ull) { goto L239; }
-if (!(l40 & 1u)) { goto L239; }
-l15 = get64(b, l6 + 2128);
-if (get64(b, l6 + 2136) != l15) { goto L241; }
-t27 = f86(b, l6 + 2120ull, 1ull);
-if (!t27) { goto L240; }
-l15 = get64(b, l6 + 2128);
-L241:;
-l21 = get64(b, l6 + 2120) + (l15 * 24ull);
+put64(b, l21 + 8ull, l34);
+put64(b, l5 + 1640, l18 + 1ull);
+L93:;
+l18 = get64(b, l5 + 1688);
+if (l18 > 4ull) { goto L102; }
+if (!(l41 & 1u)) { goto L102; }
+l18 = get64(b, l5 + 1640);
+if (get64(b, l5 + 1648) != l18) { goto L104; }
+t16 = f86(b, l5 + 1632ull, 1ull);
+if (!t16) { goto L103; }
+l18 = get64(b, l5 + 1640);
+L104:;
+l21 = get64(b, l5 + 1632) + (l18 * 24ull);
 put64(b, l21, 1ull);
 put64(b, l21 + 8ull, 0ull);
 put64(b, l21 + 16ull, 0ull);
-put64(b, l6 + 2128, l15 + 1ull);
-goto L238;
-L240:;
-put64(b, l6 + 1264, 0ull);
-put64(b, l6 + 1256, 0ull);
-put64(b, l6 + 1248, 1ull);
-f36(b, l6 + 1248ull);
-l45 = 1u;
-goto L204;
-L239:;
-t28 = f187(b, l6 + 2120ull, l6 + 2168ull, 4ull, l15);
-if (t28 & 255u) { goto L204; }
-L238:;
-put64(b, l6 + 2160, get64(b, l3 + 16));
-put64(b, l6 + 2152, get64(b, l3 + 8));
-put64(b, l6 + 2144, get64(b, l3));
-l24 = l24 + 40ull;
-l26 = l26 + 1ull;
-f361(b, l6 + 2144ull);
-l23 = l23 + 18446744073709551615ull;
-if (l23 != 18446744073709551615ull) { goto L227; }
-L226:;
-t29 = f187(b, l6 + 2120ull, l25, l13, get64(b, l25 + 8ull));
-if (t29 & 255u) { goto L202; }
-put64(b, l17 + 16, get64(b, l6 + 2136));
-put64(b, l17 + 8, get64(b, l6 + 2128));
-put64(b, l17, get64(b, l6 + 2120));
-if (l47) { goto L242; }
-rattle_dealloc(b, l38);
-L242:;
-put64(b, l16 + 16, get64(b, l17 + 16));
-put64(b, l16 + 8, get64(b, l17 + 8));
-put64(b, l16, get64(b, l17));
-l13 = (u64)(get32(b, l37) >> 1);
-if (get64(b, l6 + 1864) <= l13) { goto L199; }
-l13 = get64(b, l6 + 1856) + (l13 << 5);
-l45 = get8(b, l13);
-put64(b, l13, 1ull);
-l15 = l13 + 8ull;
-l25 = get64(b, l15);
-put64(b, l15, get64(b, l16));
-l15 = l13 + 16ull;
-l24 = get64(b, l15);
-put64(b, l15, get64(b, l16 + 8));
-l13 = l13 + 24ull;
-l15 = get64(b, l13);
-put64(b, l13, get64(b, l16 + 16));
-put64(b, l6 + 1720, l25);
-put64(b, l6 + 1728, l24);
-put64(b, l6 + 1736, l15);
-if (!l45) { goto L243; }
-f185(b, l6 + 1720ull);
-L243:;
-l36 = l36 + 1ull;
-if (l36 != l29) { goto L212; }
-L208:;
-l22 = l22 + 1ull;
-if (l22 != l31) { goto L207; }
-L206:;
-l42 = (u32)(!l12);
-if (l42) { goto L171; }
-l45 = 0u;
-l41 = get32(b, l14);
-if (!(l41 & 1u)) { goto L182; }
-l13 = (u64)(l41 >> 1);
-if (get64(b, l1 + 64ull) <= l13) { goto L182; }
-if (!get64(b, get64(b, l1 + 56ull) + (l13 * 120ull))) { goto L182; }
-if (get64(b, l1 + 88ull) <= l13) { goto L182; }
-l41 = get32(b, l19);
-l24 = get64(b, l4 + 8ull);
-l22 = get64(b, l4);
-l25 = get64(b, l1 + 80ull);
-l15 = 0ull;
-put64(b, l6 + 1744, 0ull);
-put64(b, l6 + 1736, 0ull);
-put64(b, l6 + 1728, 0ull);
-put64(b, l6 + 1720, 0ull);
-l13 = l25 + (l13 * 24ull);
-if (!get64(b, l13 + 8ull)) { goto L244; }
-l25 = get64(b, l13);
-if (get8(b, l25) != 1u) { goto L244; }
-l15 = get64(b, l25 + 8ull);
-if ((s64)l15 > (s64)4294967295ull) { goto L200; }
-l15 = ((s64)l15 > (s64)0ull) ? l15 : 0ull;
-L244:;
-f364(b, l6 + 1720ull, l22, l24);
-if (get8(b, l6 + 1720)) { goto L198; }
-put64(b, l6 + 1992, get64(b, l20 + 16));
-put64(b, l6 + 1984, get64(b, l20 + 8));
-put64(b, l6 + 1976, get64(b, l20));
-t30 = f187(b, l6 + 1976ull, l13, (l15 << 1) | 1ull, get64(b, l13 + 8ull));
-if (!(t30 & 255u)) { goto L201; }
-f361(b, l6 + 1976ull);
-l45 = 1u;
-goto L182;
-L205:;
-put64(b, l6 + 1264, 0ull);
-put64(b, l6 + 1256, l28);
-put64(b, l6 + 1248, 1ull);
-f36(b, l6 + 1248ull);
-L204:;
-put64(b, l6 + 2104, get64(b, l3 + 16));
-put64(b, l6 + 2096, get64(b, l3 + 8));
-put64(b, l6 + 2088, get64(b, l3));
-f361(b, l6 + 2088ull);
-L203:;
-put64(b, l6 + 1486, 0ull);
-put64(b, l6 + 1494, 0ull);
-put64(b, l6 + 1502, 0ull);
-f361(b, l6 + 2120ull);
-if (l47) { goto L146; }
-rattle_dealloc(b, l38);
-goto L146;
-L202:;
-put64(b, l6 + 1502, 0ull);
-put64(b, l6 + 1494, 0ull);
-put64(b, l6 + 1486, 0ull);
-f361(b, l6 + 2120ull);
-l45 = 1u;
-if (l47) { goto L146; }
-rattle_dealloc(b, l38);
-goto L146;
-L201:;
-put64(b, l17 + 16, get64(b, l6 + 1992));
-put64(b, l17 + 8, get64(b, l6 + 1984));
-put64(b, l17, get64(b, l6 + 1976));
-l13 = (u64)(get32(b, l14) >> 1);
-if (get64(b, l6 + 1864) <= l13) { goto L245; }
-l13 = get64(b, l6 + 1856) + (l13 << 5);
-l45 = get8(b, l13);
-put64(b, l13, 1ull);
-l15 = l13 + 8ull;
-l25 = get64(b, l15);
-put64(b, l15, get64(b, l17));
-l15 = l13 + 16ull;
-l24 = get64(b, l15);
-put64(b, l15, get64(b, l17 + 8));
-l13 = l13 + 24ull;
-l15 = get64(b, l13);
-put64(b, l13, get64(b, l17 + 16));
-put64(b, l6 + 1720, l25);
-put64(b, l6 + 1728, l24);
-put64(b, l6 + 1736, l15);
-if (!l45) { goto L246; }
-f185(b, l6 + 1720ull);
-L246:;
-l25 = l12 + 18446744073709551615ull;
-if (!l25) { goto L171; }
-if (!l41) { goto L248; }
-l15 = l4 + 32ull;
-goto L247;
-L248:;
-l15 = l4 + 32ull;
-l13 = get64(b, l6 + 1888);
-L249:;
-l22 = get64(b, l15 + 18446744073709551608ull);
-l24 = get64(b, l1 + 64ull);
-l21 = get64(b, l15);
-put64(b, l6 + 1720, 0ull);
-put64(b, l6 + 1728, 0ull);
-put64(b, l6 + 1736, 0ull);
-put64(b, l6 + 1744, 0ull);
-put64(b, l6 + 1480, 0ull);
-put64(b, l6 + 1488, 0ull);
-put64(b, l6 + 1496, 0ull);
-put64(b, l6 + 1502, 0ull);
-l24 = l13 + l24;
-l23 = (l24 < l13) ? 18446744073709551615ull : l24;
-if (l23 >= 4999999ull) { goto L200; }
-l45 = get8(b, l14 + 4ull);
-f364(b, l6 + 1720ull, l22, l21);
-if (!get8(b, l6 + 1720)) { goto L250; }
-l45 = get8(b, l6 + 1721);
-goto L182;
-L250:;
-l41 = get32(b, l14);
-l24 = get64(b, l6 + 1888);
-if (get64(b, l6 + 1896) != l24) { goto L251; }
-t31 = f362(b, l6 + 1880ull);
-if (t31) { goto L252; }
-f185(b, l20);
-l45 = 1u;
-goto L182;
-L252:;
-l24 = get64(b, l6 + 1888);
-L251:;
-l13 = get64(b, l6 + 1880) + (l24 << 5);
-put32(b, l13 + 4, 0u);
-put32(b, l13, l41);
-put64(b, l13 + 8, get64(b, l20));
-put64(b, l13 + 16, get64(b, l20 + 8));
-put64(b, l13 + 24, get64(b, l20 + 16));
-put64(b, l6 + 1888, l24 + 1ull);
-put64(b, l27, 0ull);
-put64(b, l27 + 8, 0ull);
-put64(b, l6 + 1248, l6 + 2440ull);
-t32 = f365(b, l6 + 1248ull, (((u32)l23) << 1) | 1u, l45);
-if (t32 & 255u) { goto L253; }
-l13 = get64(b, l6 + 1256);
-if (get64(b, l6 + 1264) != l13) { goto L254; }
-t33 = f86(b, l6 + 1248ull, 1ull);
-if (t33) { goto L255; }
-put64(b, l6 + 1992, 0ull);
-put64(b, l6 + 1984, 0ull);
-put64(b, l6 + 1976, 1ull);
-f36(b, l6 + 1976ull);
-f361(b, l6 + 1248ull);
-l45 = 1u;
-goto L182;
-L255:;
-l13 = get64(b, l6 + 1256);
-L254:;
-l22 = get64(b, l6 + 1248);
-l24 = l22 + (l13 * 24ull);
-put64(b, l24, 1ull);
-put64(b, l24 + 8ull, 0ull);
-put64(b, l24 + 16ull, 0ull);
-put64(b, l17, l22);
-put64(b, l17 + 16, get64(b, l6 + 1264));
-put64(b, l17 + 8, l13 + 1ull);
-l45 = get32(b, l2);
-l24 = get64(b, l6 + 1888);
-if (get64(b, l6 + 1896) != l24) { goto L256; }
-t34 = f362(b, (l6 + 1856ull) + 24ull);
-if (t34) { goto L257; }
-put64(b, l6 + 1992, get64(b, l17 + 16));
-put64(b, l6 + 1984, get64(b, l17 + 8));
-put64(b, l6 + 1976, get64(b, l17));
-f185(b, l6 + 1976ull);
-l45 = 1u;
-goto L182;
-L257:;
-l24 = get64(b, l6 + 1888);
-L256:;
-l13 = get64(b, l6 + 1880) + (l24 << 5);
-put32(b, l13 + 4, 0u);
-put32(b, l13, l45);
-put64(b, l13 + 8, get64(b, l17));
-put64(b, l13 + 16, get64(b, l17 + 8));
-put64(b, l13 + 24, get64(b, l17 + 16));
-l13 = l24 + 1ull;
-put64(b, l6 + 1888, l13);
-l15 = l15 + 24ull;
-l25 = l25 + 18446744073709551615ull;
-if (!l25) { goto L171; }
-goto L249;
-L253:;
-f361(b, l6 + 1248ull);
-l45 = 1u;
-goto L182;
-L247:;
-L259:;
-l22 = get64(b, l15 + 18446744073709551608ull);
-l13 = get64(b, l1 + 64ull);
-l21 = get64(b, l15);
-put64(b, l6 + 1744, 0ull);
-put64(b, l6 + 1736, 0ull);
-put64(b, l6 + 1728, 0ull);
-put64(b, l6 + 1720, 0ull);
-l24 = get64(b, l6 + 1888);
-l13 = l13 + l24;
-l23 = (l13 < l24) ? 18446744073709551615ull : l13;
-if (l23 > 4999998ull) { goto L200; }
-l26 = (u64)get8(b, l14 + 4ull);
-f364(b, l6 + 1720ull, l22, l21);
-if (get8(b, l6 + 1720)) { goto L198; }
-l45 = get32(b, l14);
-l24 = get64(b, l6 + 1888);
-if (get64(b, l6 + 1896) != l24) { goto L261; }
-t35 = f362(b, l6 + 1880ull);
-if (!t35) { goto L260; }
-l24 = get64(b, l6 + 1888);
-L261:;
-l13 = get64(b, l6 + 1880) + (l24 << 5);
-put32(b, l13 + 4, 0u);
-put32(b, l13, l45);
-put64(b, l13 + 8, get64(b, l20));
-put64(b, l13 + 16, get64(b, l20 + 8));
-put64(b, l13 + 24, get64(b, l20 + 16));
-put64(b, l6 + 1888, l24 + 1ull);
-l13 = get64(b, l6 + 1912);
-if (get64(b, l6 + 1920) != l13) { goto L262; }
-t36 = f360(b, l6 + 1904ull);
-if (!t36) { goto L258; }
-l13 = get64(b, l6 + 1912);
-L262:;
-put64(b, get64(b, l6 + 1904) + (l13 << 3), (l26 << 32) | ((l23 << 1) | 1ull));
-put64(b, l6 + 1912, l13 + 1ull);
-l15 = l15 + 24ull;
-l25 = l25 + 18446744073709551615ull;
-if (!l25) { goto L171; }
-goto L259;
-L260:;
-f185(b, l20);
-L258:;
-l45 = 1u;
-goto L182;
-L245:;
-put64(b, l6 + 1992, get64(b, l17 + 16));
-put64(b, l6 + 1984, get64(b, l17 + 8));
-put64(b, l6 + 1976, get64(b, l17));
-f185(b, l6 + 1976ull);
-L200:;
-l45 = 0u;
-goto L182;
-L199:;
-put64(b, l6 + 1496, get64(b, l16 + 16));
-put64(b, l6 + 1488, get64(b, l16 + 8));
-put64(b, l6 + 1480, get64(b, l16));
-f185(b, l6 + 1480ull);
-l45 = 0u;
-goto L146;
-L198:;
-l45 = get8(b, l6 + 1721);
-goto L182;
-L183:;
-put64(b, l6 + 1496, get64(b, l3 + 16));
-put64(b, l6 + 1488, get64(b, l3 + 8));
-put64(b, l6 + 1480, get64(b, l3));
-f185(b, l6 + 1480ull);
-goto L172;
-L182:;
-l13 = l4;
-L263:;
-if (!get64(b, l13 + 16ull)) { goto L264; }
-rattle_dealloc(b, get64(b, l13));
-L264:;
-l13 = l13 + 24ull;
-l12 = l12 + 18446744073709551615ull;
-if (l12 != 0ull) { goto L263; }
-if (l44) { goto L144; }
-rattle_dealloc(b, l4);
-goto L144;
-L173:;
-put64(b, l6 + 1496, get64(b, l3 + 16));
-put64(b, l6 + 1488, get64(b, l3 + 8));
-put64(b, l6 + 1480, get64(b, l3));
-f185(b, l6 + 1480ull);
-L172:;
-l45 = 1u;
-goto L146;
-L171:;
-l45 = 0u;
-l41 = 0u;
-l21 = get64(b, l19 + 16ull);
-if (l21 != get64(b, l14 + 16ull)) { goto L265; }
-l41 = 1u;
-l45 = 0u;
-if (!l21) { goto L265; }
-l23 = get64(b, l19 + 8ull);
-l13 = l23;
-l25 = l21;
-l19 = get64(b, l14 + 8ull);
-l15 = l19;
-L267:;
-if (get8(b, l13)) { goto L268; }
-l22 = (u64)get32(b, l15);
-l24 = get64(b, l6 + 1936);
-if (get64(b, l6 + 1944) != l24) { goto L269; }
-t37 = f34(b, l6 + 1928ull);
-if (!t37) { goto L266; }
-l24 = get64(b, l6 + 1936);
-L269:;
-put64(b, get64(b, l6 + 1928) + (l24 << 3), l22);
-put64(b, l6 + 1936, l24 + 1ull);
-L268:;
-l13 = l13 + 40ull;
-l15 = l15 + 104ull;
-l22 = 0ull;
-l25 = l25 + 18446744073709551615ull;
-if (l25 != 0ull) { goto L267; }
-L270:;
-if (get8(b, l23 + (l22 * 40ull))) { goto L271; }
-l13 = l19 + (l22 * 104ull);
-if (get8(b, l13 + 8ull) != 1u) { goto L273; }
-l15 = l13 + 16ull;
-l25 = 1ull;
-goto L272;
-L273:;
-l25 = get64(b, l13 + 88ull);
-if (!l25) { goto L271; }
-l15 = get64(b, l13 + 80ull);
-L272:;
-l13 = get64(b, l6 + 1960);
-L274:;
-l24 = (u64)get32(b, l15);
-if (get64(b, l6 + 1968) != l13) { goto L275; }
-t38 = f34(b, l6 + 1952ull);
-if (!t38) { goto L266; }
-l13 = get64(b, l6 + 1960);
-L275:;
-put64(b, get64(b, l6 + 1952) + (l13 << 3), l24);
-l13 = l13 + 1ull;
-put64(b, l6 + 1960, l13);
-l15 = l15 + 64ull;
-l25 = l25 + 18446744073709551615ull;
-if (l25 != 0ull) { goto L274; }
-L271:;
-l22 = l22 + 1ull;
-if (l22 != l21) { goto L270; }
-goto L265;
-L266:;
-l41 = 0u;
-l45 = 1u;
-L265:;
-if (l42) { goto L276; }
-l13 = l4;
-L277:;
-if (!get64(b, l13 + 16ull)) { goto L278; }
-rattle_dealloc(b, get64(b, l13));
-L278:;
-l13 = l13 + 24ull;
-l12 = l12 + 18446744073709551615ull;
-if (l12 != 0ull) { goto L277; }
-L276:;
-if (l44) { goto L279; }
-rattle_dealloc(b, l4);
-L279:;
-if (!l41) { goto L144; }
-l18 = l18 + 1ull;
-if (l18 != l7) { goto L149; }
-L148:;
-l12 = get64(b, l6 + 1912);
-if (l12 == 0ull) { goto L292; }
-l45 = 0u;
-l44 = get32(b, l2);
-if (!(l44 & 1u)) { goto L280; }
-l13 = (u64)(l44 >> 1);
-if (get64(b, l1 + 64ull) <= l13) { goto L280; }
-if (!get64(b, get64(b, l1 + 56ull) + (l13 * 120ull))) { goto L280; }
-if (get64(b, l1 + 88ull) <= l13) { goto L280; }
-l25 = get64(b, l6 + 1904);
-l15 = 0ull;
-l13 = get64(b, l1 + 80ull) + (l13 * 24ull);
-if (get64(b, l13 + 8ull) < 3ull) { goto L293; }
-l24 = get64(b, l13);
-if (get8(b, l24 + 48ull) != 1u) { goto L293; }
-l45 = 0u;
-l15 = get64(b, l24 + 56ull);
-if ((s64)l15 > (s64)4294967295ull) { goto L280; }
-l15 = ((s64)l15 > (s64)0ull) ? l15 : 0ull;
-L293:;
-l45 = 0u;
-if (l12 > 4294967295ull) { goto L280; }
-l24 = l15 + l12;
-if (l24 > 4294967295ull) { goto L280; }
-put64(b, l6 + 1984, 0ull);
-put64(b, l6 + 1992, 0ull);
-put64(b, l6 + 1976, l6 + 2440ull);
-t39 = f187(b, l6 + 1976ull, l13, 0ull, 2ull);
-if (t39 & 255u) { goto L291; }
-l21 = (l24 < 4294967296ull) ? l24 : 4294967296ull;
-l24 = get64(b, l6 + 1984);
-if (get64(b, l6 + 1992) != l24) { goto L294; }
-t40 = f86(b, l6 + 1976ull, 1ull);
-if (!t40) { goto L286; }
-l24 = get64(b, l6 + 1984);
-L294:;
-l22 = get64(b, l6 + 1976) + (l24 * 24ull);
+put64(b, l5 + 1640, l18 + 1ull);
+goto L101;
+L103:;
+put64(b, l5 + 776, 0ull);
+put64(b, l5 + 768, 0ull);
+put64(b, l5 + 760, 1ull);
+f36(b, l5 + 760ull);
+l37 = 1u;
+goto L67;
+L102:;
+t17 = f187(b, l5 + 1632ull, l5 + 1680ull, 4ull, l18);
+if (t17 & 255u) { goto L67; }
+L101:;
+put64(b, l5 + 1672, get64(b, l12 + 16));
+put64(b, l5 + 1664, get64(b, l12 + 8));
+put64(b, l5 + 1656, get64(b, l12));
+l22 = l22 + 40ull;
+l33 = l33 + 1ull;
+f362(b, l5 + 1656ull);
+l16 = l16 + 18446744073709551615ull;
+if (l16 != 18446744073709551615ull) { goto L90; }
+L89:;
+t18 = f187(b, l5 + 1632ull, l19, l6, get64(b, l19 + 8ull));
+if (t18 & 255u) { goto L65; }
+put64(b, l8 + 16, get64(b, l5 + 1648));
+put64(b, l8 + 8, get64(b, l5 + 1640));
+put64(b, l8, get64(b, l5 + 1632));
+if (l40) { goto L105; }
+rattle_dealloc(b, l31);
+L105:;
+put64(b, l11 + 16, get64(b, l8 + 16));
+put64(b, l11 + 8, get64(b, l8 + 8));
+put64(b, l11, get64(b, l8));
+l6 = (u64)(get32(b, l30) >> 1);
+if (get64(b, l5 + 1376) <= l6) { goto L62; }
+l6 = get64(b, l5 + 1368) + (l6 << 5);
+l37 = get8(b, l6);
+put64(b, l6, 1ull);
+l18 = l6 + 8ull;
+l19 = get64(b, l18);
+put64(b, l18, get64(b, l11));
+l18 = l6 + 16ull;
+l22 = get64(b, l18);
+put64(b, l18, get64(b, l11 + 8));
+l6 = l6 + 24ull;
+l18 = get64(b, l6);
+put64(b, l6, get64(b, l11 + 16));
+put64(b, l5 + 1232, l19);
+put64(b, l5 + 1240, l22);
+put64(b, l5 + 1248, l18);
+if (!l37) { goto L106; }
+f185(b, l5 + 1232ull);
+L106:;
+l29 = l29 + 1ull;
+if (l29 != l26) { goto L75; }
+L71:;
+l17 = l17 + 1ull;
+if (l17 != l23) { goto L70; }
+L69:;
+l43 = (u32)(!l7);
+if (l43) { goto L34; }
+l37 = 0u;
+l38 = get32(b, l15);
+if (!(l38 & 1u)) { goto L45; }
+l6 = (u64)(l38 >> 1);
+if (get64(b, l1 + 64ull) <= l6) { goto L45; }
+if (!get64(b, get64(b, l1 + 56ull) + (l6 * 120ull))) { goto L45; }
+if (get64(b, l1 + 88ull) <= l6) { goto L45; }
+l38 = get32(b, l14);
+l22 = get64(b, l20 + 8ull);
+l17 = get64(b, l20);
+l19 = get64(b, l1 + 80ull);
+l18 = 0ull;
+put64(b, l5 + 1256, 0ull);
+put64(b, l5 + 1248, 0ull);
+put64(b, l5 + 1240, 0ull);
+put64(b, l5 + 1232, 0ull);
+l6 = l19 + (l6 * 24ull);
+if (!get64(b, l6 + 8ull)) { goto L107; }
+l19 = get64(b, l6);
+if (get8(b, l19) != 1u) { goto L107; }
+l18 = get64(b, l19 + 8ull);
+if ((s64)l18 > (s64)4294967295ull) { goto L63; }
+l18 = ((s64)l18 > (s64)0ull) ? l18 : 0ull;
+L107:;
+f365(b, l5 + 1232ull, l17, l22);
+if (get8(b, l5 + 1232)) { goto L61; }
+put64(b, l5 + 1504, get64(b, l10 + 16));
+put64(b, l5 + 1496, get64(b, l10 + 8));
+put64(b, l5 + 1488, get64(b, l10));
+t19 = f187(b, l5 + 1488ull, l6, (l18 << 1) | 1ull, get64(b, l6 + 8ull));
+if (!(t19 & 255u)) { goto L64; }
+f362(b, l5 + 1488ull);
+l37 = 1u;
+goto L45;
+L68:;
+put64(b, l5 + 776, 0ull);
+put64(b, l5 + 768, l34);
+put64(b, l5 + 760, 1ull);
+f36(b, l5 + 760ull);
+L67:;
+put64(b, l5 + 1616, get64(b, l12 + 16));
+put64(b, l5 + 1608, get64(b, l12 + 8));
+put64(b, l5 + 1600, get64(b, l12));
+f362(b, l5 + 1600ull);
+L66:;
+put64(b, l5 + 998, 0ull);
+put64(b, l5 + 1006, 0ull);
+put64(b, l5 + 1014, 0ull);
+f362(b, l5 + 1632ull);
+if (l40) { goto L9; }
+rattle_dealloc(b, l31);
+goto L9;
+L65:;
+put64(b, l5 + 1014, 0ull);
+put64(b, l5 + 1006, 0ull);
+put64(b, l5 + 998, 0ull);
+f362(b, l5 + 1632ull);
+l37 = 1u;
+if (l40) { goto L9; }
+rattle_dealloc(b, l31);
+goto L9;
+L64:;
+put64(b, l8 + 16, get64(b, l5 + 1504));
+put64(b, l8 + 8, get64(b, l5 + 1496));
+put64(b, l8, get64(b, l5 + 1488));
+l6 = (u64)(get32(b, l15) >> 1);
+if (get64(b, l5 + 1376) <= l6) { goto L108; }
+l6 = get64(b, l5 + 1368) + (l6 << 5);
+l37 = get8(b, l6);
+put64(b, l6, 1ull);
+l18 = l6 + 8ull;
+l19 = get64(b, l18);
+put64(b, l18, get64(b, l8));
+l18 = l6 + 16ull;
+l22 = get64(b, l18);
+put64(b, l18, get64(b, l8 + 8));
+l6 = l6 + 24ull;
+l18 = get64(b, l6);
+put64(b, l6, get64(b, l8 + 16));
+put64(b, l5 + 1232, l19);
+put64(b, l5 + 1240, l22);
+put64(b, l5 + 1248, l18);
+if (!l37) { goto L109; }
+f185(b, l5 + 1232ull);
+L109:;
+l19 = l7 + 18446744073709551615ull;
+if (!l19) { goto L34; }
+if (!l38) { goto L111; }
+l18 = l20 + 32ull;
+goto L110;
+L111:;
+l18 = l20 + 32ull;
+l6 = get64(b, l5 + 1400);
+L112:;
+l17 = get64(b, l18 + 18446744073709551608ull);
+l22 = get64(b, l1 + 64ull);
+l21 = get64(b, l18);
+put64(b, l5 + 1232, 0ull);
+put64(b, l5 + 1240, 0ull);
+put64(b, l5 + 1248, 0ull);
+put64(b, l5 + 1256, 0ull);
+put64(b, l5 + 992, 0ull);
+put64(b, l5 + 1000, 0ull);
+put64(b, l5 + 1008, 0ull);
+put64(b, l5 + 1014, 0ull);
+l22 = l6 + l22;
+l16 = (l22 < l6) ? 18446744073709551615ull : l22;
+if (l16 >= 4999999ull) { goto L63; }
+l37 = get8(b, l15 + 4ull);
+f365(b, l5 + 1232ull, l17, l21);
+if (!get8(b, l5 + 1232)) { goto L113; }
+l37 = get8(b, l5 + 1233);
+goto L45;
+L113:;
+l38 = get32(b, l15);
+l22 = get64(b, l5 + 1400);
+if (get64(b, l5 + 1408) != l22) { goto L114; }
+t20 = f363(b, l5 + 1392ull);
+if (t20) { goto L115; }
+f185(b, l10);
+l37 = 1u;
+goto L45;
+L115:;
+l22 = get64(b, l5 + 1400);
+L114:;
+l6 = get64(b, l5 + 1392) + (l22 << 5);
+put32(b, l6 + 4, 0u);
+put32(b, l6, l38);
+put64(b, l6 + 8, get64(b, l10));
+put64(b, l6 + 16, get64(b, l10 + 8));
+put64(b, l6 + 24, get64(b, l10 + 16));
+put64(b, l5 + 1400, l22 + 1ull);
+put64(b, l9, 0ull);
+put64(b, l9 + 8, 0ull);
+put64(b, l5 + 760, l5 + 1800ull);
+t21 = f366(b, l5 + 760ull, (((u32)l16) << 1) | 1u, l37);
+if (t21 & 255u) { goto L116; }
+l6 = get64(b, l5 + 768);
+if (get64(b, l5 + 776) != l6) { goto L117; }
+t22 = f86(b, l5 + 760ull, 1ull);
+if (t22) { goto L118; }
+put64(b, l5 + 1504, 0ull);
+put64(b, l5 + 1496, 0ull);
+put64(b, l5 + 1488, 1ull);
+f36(b, l5 + 1488ull);
+f362(b, l5 + 760ull);
+l37 = 1u;
+goto L45;
+L118:;
+l6 = get64(b, l5 + 768);
+L117:;
+l17 = get64(b, l5 + 760);
+l22 = l17 + (l6 * 24ull);
 put64(b, l22, 1ull);
+put64(b, l22 + 8ull, 0ull);
 put64(b, l22 + 16ull, 0ull);
-put64(b, l22 + 8ull, l21);
-put64(b, l6 + 1984, l24 + 1ull);
-l15 = l15 << 1;
-t41 = f187(b, l6 + 1976ull, l13, 3ull, l15);
-if (t41 & 255u) { goto L285; }
-t42 = f366(b, l6 + 1976ull, l25, l12);
-if (t42 & 255u) { goto L284; }
-t43 = f187(b, l6 + 1976ull, l13, l15 + 3ull, get64(b, l13 + 8ull));
-if (!(t43 & 255u)) { goto L295; }
-f361(b, l6 + 1976ull);
-l45 = 1u;
-goto L280;
-L295:;
-put64(b, l6 + 1742, get64(b, l6 + 1992));
-put64(b, l6 + 1734, get64(b, l6 + 1984));
-put64(b, l6 + 1726, get64(b, l6 + 1976));
-l12 = l6 + 1726ull;
-l13 = (u64)(get32(b, l2) >> 1);
-if (get64(b, l6 + 1864) <= l13) { goto L290; }
-l13 = get64(b, l6 + 1856) + (l13 << 5);
-l45 = get8(b, l13);
-put64(b, l13, 1ull);
-l15 = l13 + 8ull;
-l25 = get64(b, l15);
-put64(b, l15, get64(b, l12));
-l15 = l13 + 16ull;
-l24 = get64(b, l15);
-put64(b, l15, get64(b, l12 + 8));
-l13 = l13 + 24ull;
-l15 = get64(b, l13);
-put64(b, l13, get64(b, l12 + 16));
-put64(b, l6 + 1480, l25);
-put64(b, l6 + 1488, l24);
-put64(b, l6 + 1496, l15);
-if (!l45) { goto L292; }
-f185(b, l6 + 1480ull);
-L292:;
-l12 = l6 + 2294ull;
-copy(b, l12, l6 + 1856ull, 120u);
-fill(b, l6 + 1720ull, 0u, 120u);
-put16(b, l6 + 1484, 0u);
-put32(b, l6 + 1480, 0u);
-fill(b, l6 + 1360ull, 0u, 120u);
-copy(b, l6 + 1600ull, l12, 120u);
-fill(b, l6 + 1856ull, 0u, 120u);
-put64(b, l6 + 1848, 0ull);
-put64(b, l6 + 1840, 0ull);
-f183(b, l6 + 1856ull, l1);
-l45 = 1u;
-if (get8(b, l6 + 1856)) { goto L281; }
-copy(b, l6 + 1976ull, l6 + 1864ull, 112u);
-f184(b, l6 + 1840ull, l6 + 1976ull, l1, l6 + 1600ull);
-if (get8(b, l6 + 1840)) { goto L288; }
-l13 = get64(b, l6 + 1632);
-l41 = (u32)(!l13);
-if (l41) { goto L287; }
-l21 = get64(b, l6 + 1848);
-l15 = (l6 + 2088ull) + 4ull;
-l12 = get64(b, l6 + 1624);
-l23 = l13;
-goto L289;
-L291:;
-f361(b, l6 + 1976ull);
-l45 = 1u;
-goto L280;
-L290:;
-put64(b, l6 + 1992, get64(b, l12 + 16));
-put64(b, l6 + 1984, get64(b, l12 + 8));
-put64(b, l6 + 1976, get64(b, l12));
-f185(b, l6 + 1976ull);
-l45 = 0u;
-goto L280;
-L289:;
-L296:;
-l25 = get64(b, l12 + 20ull);
-l24 = get64(b, l12 + 12ull);
-put64(b, l12 + 16ull, 0ull);
-l44 = get32(b, l12 + 28ull);
-put64(b, l12 + 24ull, 0ull);
-l22 = get64(b, l12 + 4ull);
-l45 = get32(b, l12);
-put64(b, l12, 0ull);
-put64(b, l12 + 8ull, l6 + 2440ull);
-put64(b, l6 + 2088, l22);
-put64(b, l6 + 2096, l24);
-put64(b, l6 + 2104, l25);
-put32(b, l6 + 2112, l44);
-put64(b, l6 + 2272, 0ull);
-put64(b, l6 + 2280, 0ull);
-if (!(l45 & 1u)) { goto L298; }
-l25 = (u64)(l45 >> 1);
-if (get64(b, l1 + 64ull) <= l25) { goto L298; }
-l25 = get64(b, l1 + 56ull) + (l25 * 120ull);
-if (get64(b, l25) != 0ull) { goto L297; }
-L298:;
-put64(b, l6 + 2136, get64(b, l15 + 16));
-put64(b, l6 + 2128, get64(b, l15 + 8));
-put64(b, l6 + 2120, get64(b, l15));
-f185(b, l6 + 2120ull);
-l45 = 0u;
-goto L282;
-L297:;
-copy(b, l6 + 2168ull, l25, 104u);
-put64(b, l6 + 2160, get64(b, l15 + 16));
-put64(b, l6 + 2152, get64(b, l15 + 8));
-put64(b, l6 + 2144, get64(b, l15));
-f191(b, l6 + 2272ull, l6 + 1976ull, l21, l6 + 2168ull, l6 + 2144ull);
-if (get8(b, l6 + 2272)) { goto L299; }
-l21 = get64(b, l6 + 2280);
-l12 = l12 + 32ull;
-l23 = l23 + 18446744073709551615ull;
-if (!l23) { goto L287; }
-goto L296;
-L299:;
-l45 = get8(b, l6 + 2273);
-goto L282;
-L288:;
-l45 = get8(b, l6 + 1841);
-if (!get64(b, l6 + 1992)) { goto L300; }
-rattle_dealloc(b, get64(b, l6 + 1976));
-L300:;
-f185(b, l6 + 2008ull);
-l25 = get64(b, l6 + 2072);
-l13 = get64(b, l6 + 2064);
-l15 = get64(b, l6 + 2056);
-if (!get64(b, l6 + 2048)) { goto L301; }
-rattle_dealloc(b, get64(b, l6 + 2032));
-L301:;
-if (!l13) { goto L302; }
-l12 = l15;
-L303:;
-put64(b, l6 + 2184, get64(b, l12 + 16));
-put64(b, l6 + 2176, get64(b, l12 + 8));
-put64(b, l6 + 2168, get64(b, l12));
-l12 = l12 + 24ull;
-f185(b, l6 + 2168ull);
-l13 = l13 + 18446744073709551615ull;
-if (l13 != 0ull) { goto L303; }
-L302:;
-if (!l25) { goto L281; }
-rattle_dealloc(b, l15);
-goto L281;
-L287:;
-l12 = l6 + 1486ull;
-copy(b, l12, l6 + 1976ull, 112u);
-copy(b, l6 + 1248ull, l12, 112u);
-l25 = get64(b, l6 + 1672);
-f367(b, l6 + 1360ull, l6 + 1248ull, l25, get64(b, l6 + 1680));
-if (!get8(b, l6 + 1360)) { goto L283; }
-l45 = get8(b, l6 + 1361);
-l22 = get64(b, l6 + 1616);
-l24 = get64(b, l6 + 1600);
-l15 = get64(b, l6 + 1608);
-if (!l15) { goto L304; }
-l12 = l24;
-L305:;
-if (!get8(b, l12)) { goto L306; }
-put64(b, l6 + 1872, get64(b, l12 + 24ull));
-put64(b, l6 + 1864, get64(b, l12 + 16ull));
-put64(b, l6 + 1856, get64(b, l12 + 8ull));
-f185(b, l6 + 1856ull);
-L306:;
-l12 = l12 + 32ull;
-l15 = l15 + 18446744073709551615ull;
-if (l15 != 0ull) { goto L305; }
-L304:;
-if (!l22) { goto L307; }
-rattle_dealloc(b, l24);
-L307:;
-l24 = get64(b, l6 + 1640);
-l15 = get64(b, l6 + 1624);
-if (l41) { goto L308; }
-l12 = l15 + 8ull;
-L309:;
-put64(b, l6 + 1872, get64(b, l12 + 16));
-put64(b, l6 + 1864, get64(b, l12 + 8));
-put64(b, l6 + 1856, get64(b, l12));
-l12 = l12 + 32ull;
-f185(b, l6 + 1856ull);
-l13 = l13 + 18446744073709551615ull;
-if (l13 != 0ull) { goto L309; }
-L308:;
-if (!l24) { goto L310; }
-rattle_dealloc(b, l15);
-L310:;
-if (!get64(b, l6 + 1664)) { goto L311; }
-rattle_dealloc(b, get64(b, l6 + 1648));
-L311:;
-if (!get64(b, l6 + 1688)) { goto L312; }
-rattle_dealloc(b, l25);
-L312:;
-if (!get64(b, l6 + 1712)) { goto L143; }
-rattle_dealloc(b, get64(b, l6 + 1696));
+put64(b, l8, l17);
+put64(b, l8 + 16, get64(b, l5 + 776));
+put64(b, l8 + 8, l6 + 1ull);
+l37 = get32(b, l2);
+l22 = get64(b, l5 + 1400);
+if (get64(b, l5 + 1408) != l22) { goto L119; }
+t23 = f363(b, (l5 + 1368ull) + 24ull);
+if (t23) { goto L120; }
+put64(b, l5 + 1504, get64(b, l8 + 16));
+put64(b, l5 + 1496, get64(b, l8 + 8));
+put64(b, l5 + 1488, get64(b, l8));
+f185(b, l5 + 1488ull);
+l37 = 1u;
+goto L45;
+L120:;
+l22 = get64(b, l5 + 1400);
+L119:;
+l6 = get64(b, l5 + 1392) + (l22 << 5);
+put32(b, l6 + 4, 0u);
+put32(b, l6, l37);
+put64(b, l6 + 8, get64(b, l8));
+put64(b, l6 + 16, get64(b, l8 + 8));
+put64(b, l6 + 24, get64(b, l8 + 16));
+l6 = l22 + 1ull;
+put64(b, l5 + 1400, l6);
+l18 = l18 + 24ull;
+l19 = l19 + 18446744073709551615ull;
+if (!l19) { goto L34; }
+goto L112;
+L116:;
+f362(b, l5 + 760ull);
+l37 = 1u;
+goto L45;
+L110:;
+L122:;
+l17 = get64(b, l18 + 18446744073709551608ull);
+l6 = get64(b, l1 + 64ull);
+l21 = get64(b, l18);
+put64(b, l5 + 1256, 0ull);
+put64(b, l5 + 1248, 0ull);
+put64(b, l5 + 1240, 0ull);
+put64(b, l5 + 1232, 0ull);
+l22 = get64(b, l5 + 1400);
+l6 = l6 + l22;
+l16 = (l6 < l22) ? 18446744073709551615ull : l6;
+if (l16 > 4999998ull) { goto L63; }
+l33 = (u64)get8(b, l15 + 4ull);
+f365(b, l5 + 1232ull, l17, l21);
+if (get8(b, l5 + 1232)) { goto L61; }
+l37 = get32(b, l15);
+l22 = get64(b, l5 + 1400);
+if (get64(b, l5 + 1408) != l22) { goto L124; }
+t24 = f363(b, l5 + 1392ull);
+if (!t24) { goto L123; }
+l22 = get64(b, l5 + 1400);
+L124:;
+l6 = get64(b, l5 + 1392) + (l22 << 5);
+put32(b, l6 + 4, 0u);
+put32(b, l6, l37);
+put64(b, l6 + 8, get64(b, l10));
+put64(b, l6 + 16, get64(b, l10 + 8));
+put64(b, l6 + 24, get64(b, l10 + 16));
+put64(b, l5 + 1400, l22 + 1ull);
+l6 = get64(b, l5 + 1424);
+if (get64(b, l5 + 1432) != l6) { goto L125; }
+t25 = f361(b, l5 + 1416ull);
+if (!t25) { goto L121; }
+l6 = get64(b, l5 + 1424);
+L125:;
+put64(b, get64(b, l5 + 1416) + (l6 << 3), (l33 << 32) | ((l16 << 1) | 1ull));
+put64(b, l5 + 1424, l6 + 1ull);
+l18 = l18 + 24ull;
+l19 = l19 + 18446744073709551615ull;
+if (!l19) { goto L34; }
+goto L122;
+L123:;
+f185(b, l10);
+L121:;
+l37 = 1u;
+goto L45;
+L108:;
+put64(b, l5 + 1504, get64(b, l8 + 16));
+put64(b, l5 + 1496, get64(b, l8 + 8));
+put64(b, l5 + 1488, get64(b, l8));
+f185(b, l5 + 1488ull);
+L63:;
+l37 = 0u;
+goto L45;
+L62:;
+put64(b, l5 + 1008, get64(b, l11 + 16));
+put64(b, l5 + 1000, get64(b, l11 + 8));
+put64(b, l5 + 992, get64(b, l11));
+f185(b, l5 + 992ull);
+l37 = 0u;
+goto L9;
+L61:;
+l37 = get8(b, l5 + 1233);
+goto L45;
+L46:;
+put64(b, l5 + 1008, get64(b, l12 + 16));
+put64(b, l5 + 1000, get64(b, l12 + 8));
+put64(b, l5 + 992, get64(b, l12));
+f185(b, l5 + 992ull);
+goto L35;
+L45:;
+l6 = l20;
+L126:;
+if (!get64(b, l6 + 16ull)) { goto L127; }
+rattle_dealloc(b, get64(b, l6));
+L127:;
+l6 = l6 + 24ull;
+l7 = l7 + 18446744073709551615ull;
+if (l7 != 0ull) { goto L126; }
+if (l36) { goto L7; }
+rattle_dealloc(b, l20);
+goto L7;
+L36:;
+put64(b, l5 + 1008, get64(b, l12 + 16));
+put64(b, l5 + 1000, get64(b, l12 + 8));
+put64(b, l5 + 992, get64(b, l12));
+f185(b, l5 + 992ull);
+L35:;
+l37 = 1u;
+goto L9;
+L34:;
+l37 = 0u;
+l38 = 0u;
+l21 = get64(b, l14 + 16ull);
+if (l21 != get64(b, l15 + 16ull)) { goto L128; }
+l38 = 1u;
+l37 = 0u;
+if (!l21) { goto L128; }
+l16 = get64(b, l14 + 8ull);
+l6 = l16;
+l19 = l21;
+l14 = get64(b, l15 + 8ull);
+l18 = l14;
+L130:;
+if (get8(b, l6)) { goto L131; }
+l17 = (u64)get32(b, l18);
+l22 = get64(b, l5 + 1448);
+if (get64(b, l5 + 1456) != l22) { goto L132; }
+t26 = f34(b, l5 + 1440ull);
+if (!t26) { goto L129; }
+l22 = get64(b, l5 + 1448);
+L132:;
+put64(b, get64(b, l5 + 1440) + (l22 << 3), l17);
+put64(b, l5 + 1448, l22 + 1ull);
+L131:;
+l6 = l6 + 40ull;
+l18 = l18 + 104ull;
+l17 = 0ull;
+l19 = l19 + 18446744073709551615ull;
+if (l19 != 0ull) { goto L130; }
+L133:;
+if (get8(b, l16 + (l17 * 40ull))) { goto L134; }
+l6 = l14 + (l17 * 104ull);
+if (get8(b, l6 + 8ull) != 1u) { goto L136; }
+l18 = l6 + 16ull;
+l19 = 1ull;
+goto L135;
+L136:;
+l19 = get64(b, l6 + 88ull);
+if (!l19) { goto L134; }
+l18 = get64(b, l6 + 80ull);
+L135:;
+l6 = get64(b, l5 + 1472);
+L137:;
+l22 = (u64)get32(b, l18);
+if (get64(b, l5 + 1480) != l6) { goto L138; }
+t27 = f34(b, l5 + 1464ull);
+if (!t27) { goto L129; }
+l6 = get64(b, l5 + 1472);
+L138:;
+put64(b, get64(b, l5 + 1464) + (l6 << 3), l22);
+l6 = l6 + 1ull;
+put64(b, l5 + 1472, l6);
+l18 = l18 + 64ull;
+l19 = l19 + 18446744073709551615ull;
+if (l19 != 0ull) { goto L137; }
+L134:;
+l17 = l17 + 1ull;
+if (l17 != l21) { goto L133; }
+goto L128;
+L129:;
+l38 = 0u;
+l37 = 1u;
+L128:;
+if (l43) { goto L139; }
+l6 = l20;
+L140:;
+if (!get64(b, l6 + 16ull)) { goto L141; }
+rattle_dealloc(b, get64(b, l6));
+L141:;
+l6 = l6 + 24ull;
+l7 = l7 + 18446744073709551615ull;
+if (l7 != 0ull) { goto L140; }
+L139:;
+if (l36) { goto L142; }
+rattle_dealloc(b, l20);
+L142:;
+if (!l38) { goto L7; }
+l13 = l13 + 1ull;
+if (l13 != l4) { goto L12; }
+L11:;
+l7 = get64(b, l5 + 1424);
+if (l7 == 0ull) { goto L155; }
+l37 = 0u;
+l36 = get32(b, l2);
+if (!(l36 & 1u)) { goto L143; }
+l6 = (u64)(l36 >> 1);
+if (get64(b, l1 + 64ull) <= l6) { goto L143; }
+if (!get64(b, get64(b, l1 + 56ull) + (l6 * 120ull))) { goto L143; }
+if (get64(b, l1 + 88ull) <= l6) { goto L143; }
+l19 = get64(b, l5 + 1416);
+l18 = 0ull;
+l6 = get64(b, l1 + 80ull) + (l6 * 24ull);
+if (get64(b, l6 + 8ull) < 3ull) { goto L156; }
+l22 = get64(b, l6);
+if (get8(b, l22 + 48ull) != 1u) { goto L156; }
+l37 = 0u;
+l18 = get64(b, l22 + 56ull);
+if ((s64)l18 > (s64)4294967295ull) { goto L143; }
+l18 = ((s64)l18 > (s64)0ull) ? l18 : 0ull;
+L156:;
+l37 = 0u;
+if (l7 > 4294967295ull) { goto L143; }
+l22 = l18 + l7;
+if (l22 > 4294967295ull) { goto L143; }
+put64(b, l5 + 1496, 0ull);
+put64(b, l5 + 1504, 0ull);
+put64(b, l5 + 1488, l5 + 1800ull);
+t28 = f187(b, l5 + 1488ull, l6, 0ull, 2ull);
+if (t28 & 255u) { goto L154; }
+l21 = (l22 < 4294967296ull) ? l22 : 4294967296ull;
+l22 = get64(b, l5 + 1496);
+if (get64(b, l5 + 1504) != l22) { goto L157; }
+t29 = f86(b, l5 + 1488ull, 1ull);
+if (!t29) { goto L149; }
+l22 = get64(b, l5 + 1496);
+L157:;
+l17 = get64(b, l5 + 1488) + (l22 * 24ull);
+put64(b, l17, 1ull);
+put64(b, l17 + 16ull, 0ull);
+put64(b, l17 + 8ull, l21);
+put64(b, l5 + 1496, l22 + 1ull);
+l18 = l18 << 1;
+t30 = f187(b, l5 + 1488ull, l6, 3ull, l18);
+if (t30 & 255u) { goto L148; }
+t31 = f367(b, l5 + 1488ull, l19, l7);
+if (t31 & 255u) { goto L147; }
+t32 = f187(b, l5 + 1488ull, l6, l18 + 3ull, get64(b, l6 + 8ull));
+if (!(t32 & 255u)) { goto L158; }
+f362(b, l5 + 1488ull);
+l37 = 1u;
 goto L143;
-L286:;
-put64(b, l6 + 1496, 0ull);
-put64(b, l6 + 1488, l21);
-put64(b, l6 + 1480, 1ull);
-f36(b, l6 + 1480ull);
-f361(b, l6 + 1976ull);
-l45 = 1u;
-goto L280;
-L285:;
-f361(b, l6 + 1976ull);
-l45 = 1u;
-goto L280;
-L284:;
-f361(b, l6 + 1976ull);
-l45 = 1u;
-goto L280;
-L283:;
-l21 = get64(b, l6 + 1696);
-f367(b, l6 + 1720ull, l6 + 1368ull, l21, get64(b, l6 + 1704));
-l22 = get64(b, l6 + 1616);
-l24 = get64(b, l6 + 1600);
-l15 = get64(b, l6 + 1608);
-if (!l15) { goto L313; }
-l12 = l24;
-L314:;
-if (!get8(b, l12)) { goto L315; }
-put64(b, l6 + 1872, get64(b, l12 + 24ull));
-put64(b, l6 + 1864, get64(b, l12 + 16ull));
-put64(b, l6 + 1856, get64(b, l12 + 8ull));
-f185(b, l6 + 1856ull);
-L315:;
-l12 = l12 + 32ull;
-l15 = l15 + 18446744073709551615ull;
-if (l15 != 0ull) { goto L314; }
-L313:;
-if (!l22) { goto L316; }
-rattle_dealloc(b, l24);
-L316:;
-l24 = get64(b, l6 + 1640);
-l15 = get64(b, l6 + 1624);
-if (l41) { goto L317; }
-l12 = l15 + 8ull;
-L318:;
-put64(b, l6 + 1872, get64(b, l12 + 16));
-put64(b, l6 + 1864, get64(b, l12 + 8));
-put64(b, l6 + 1856, get64(b, l12));
-l12 = l12 + 32ull;
-f185(b, l6 + 1856ull);
-l13 = l13 + 18446744073709551615ull;
-if (l13 != 0ull) { goto L318; }
-L317:;
-if (!l24) { goto L319; }
-rattle_dealloc(b, l15);
-L319:;
-if (!get64(b, l6 + 1664)) { goto L320; }
-rattle_dealloc(b, get64(b, l6 + 1648));
-L320:;
-if (!get64(b, l6 + 1688)) { goto L321; }
-rattle_dealloc(b, l25);
-L321:;
-if (!get64(b, l6 + 1712)) { goto L322; }
-rattle_dealloc(b, l21);
-L322:;
-l45 = get8(b, l6 + 1721);
-l44 = get8(b, l6 + 1720);
-l12 = (l6 + 1032ull) + 6ull;
-copy(b, l12, l6 + 1728ull, 112u);
-l13 = (l6 + 912ull) + 6ull;
-copy(b, l13, l12, 112u);
-if (l44) { goto L143; }
-copy(b, l6 + 800ull, l13, 112u);
-l12 = 1ull;
-l45 = 1u;
-goto L142;
-L282:;
-if (!get64(b, l6 + 1992)) { goto L323; }
-rattle_dealloc(b, get64(b, l6 + 1976));
-L323:;
-f185(b, l6 + 2008ull);
-l25 = get64(b, l6 + 2072);
-l13 = get64(b, l6 + 2064);
-l15 = get64(b, l6 + 2056);
-if (!get64(b, l6 + 2048)) { goto L324; }
-rattle_dealloc(b, get64(b, l6 + 2032));
-L324:;
-if (!l13) { goto L325; }
-l12 = l15;
-L326:;
-put64(b, l6 + 2184, get64(b, l12 + 16));
-put64(b, l6 + 2176, get64(b, l12 + 8));
-put64(b, l6 + 2168, get64(b, l12));
-l12 = l12 + 24ull;
-f185(b, l6 + 2168ull);
-l13 = l13 + 18446744073709551615ull;
-if (l13 != 0ull) { goto L326; }
-L325:;
-if (!l25) { goto L281; }
-rattle_dealloc(b, l15);
-L281:;
-l25 = get64(b, l6 + 1616);
-l15 = get64(b, l6 + 1600);
-l13 = get64(b, l6 + 1608);
-if (!l13) { goto L327; }
-l12 = l15;
-L328:;
-if (!get8(b, l12)) { goto L329; }
-put64(b, l6 + 1872, get64(b, l12 + 24ull));
-put64(b, l6 + 1864, get64(b, l12 + 16ull));
-put64(b, l6 + 1856, get64(b, l12 + 8ull));
-f185(b, l6 + 1856ull);
-L329:;
-l12 = l12 + 32ull;
-l13 = l13 + 18446744073709551615ull;
-if (l13 != 0ull) { goto L328; }
-L327:;
-if (!l25) { goto L330; }
-rattle_dealloc(b, l15);
-L330:;
-l25 = get64(b, l6 + 1640);
-l15 = get64(b, l6 + 1624);
-l13 = get64(b, l6 + 1632);
-if (!l13) { goto L331; }
-l12 = l15 + 8ull;
-L332:;
-put64(b, l6 + 1872, get64(b, l12 + 16));
-put64(b, l6 + 1864, get64(b, l12 + 8));
-put64(b, l6 + 1856, get64(b, l12));
-l12 = l12 + 32ull;
-f185(b, l6 + 1856ull);
-l13 = l13 + 18446744073709551615ull;
-if (l13 != 0ull) { goto L332; }
-L331:;
-if (!l25) { goto L333; }
-rattle_dealloc(b, l15);
-L333:;
-if (!get64(b, l6 + 1664)) { goto L334; }
-rattle_dealloc(b, get64(b, l6 + 1648));
-L334:;
-if (!get64(b, l6 + 1688)) { goto L335; }
-rattle_dealloc(b, get64(b, l6 + 1672));
-L335:;
-if (!get64(b, l6 + 1712)) { goto L143; }
-rattle_dealloc(b, get64(b, l6 + 1696));
+L158:;
+put64(b, l5 + 1254, get64(b, l5 + 1504));
+put64(b, l5 + 1246, get64(b, l5 + 1496));
+put64(b, l5 + 1238, get64(b, l5 + 1488));
+l7 = l5 + 1238ull;
+l6 = (u64)(get32(b, l2) >> 1);
+if (get64(b, l5 + 1376) <= l6) { goto L153; }
+l6 = get64(b, l5 + 1368) + (l6 << 5);
+l37 = get8(b, l6);
+put64(b, l6, 1ull);
+l18 = l6 + 8ull;
+l19 = get64(b, l18);
+put64(b, l18, get64(b, l7));
+l18 = l6 + 16ull;
+l22 = get64(b, l18);
+put64(b, l18, get64(b, l7 + 8));
+l6 = l6 + 24ull;
+l18 = get64(b, l6);
+put64(b, l6, get64(b, l7 + 16));
+put64(b, l5 + 992, l19);
+put64(b, l5 + 1000, l22);
+put64(b, l5 + 1008, l18);
+if (!l37) { goto L155; }
+f185(b, l5 + 992ull);
+L155:;
+l7 = l5 + 426ull;
+copy(b, l7, l5 + 1368ull, 120u);
+fill(b, l5 + 1232ull, 0u, 120u);
+put16(b, l5 + 996, 0u);
+put32(b, l5 + 992, 0u);
+fill(b, l5 + 872ull, 0u, 120u);
+copy(b, l5 + 1112ull, l7, 120u);
+fill(b, l5 + 1368ull, 0u, 120u);
+put64(b, l5 + 1360, 0ull);
+put64(b, l5 + 1352, 0ull);
+f183(b, l5 + 1368ull, l1);
+l37 = 1u;
+if (get8(b, l5 + 1368)) { goto L144; }
+copy(b, l5 + 1488ull, l5 + 1376ull, 112u);
+f184(b, l5 + 1352ull, l5 + 1488ull, l1, l5 + 1112ull);
+if (get8(b, l5 + 1352)) { goto L151; }
+l6 = get64(b, l5 + 1144);
+l38 = (u32)(!l6);
+if (l38) { goto L150; }
+l2 = get64(b, l5 + 1360);
+l18 = (l5 + 1600ull) + 4ull;
+l7 = get64(b, l5 + 1136);
+l21 = l6;
+goto L152;
+L154:;
+f362(b, l5 + 1488ull);
+l37 = 1u;
 goto L143;
-L280:;
-l25 = get64(b, l6 + 1872);
-l15 = get64(b, l6 + 1856);
-l13 = get64(b, l6 + 1864);
-if (!l13) { goto L336; }
-l12 = l15;
-L337:;
-if (!get8(b, l12)) { goto L338; }
-put64(b, l6 + 1736, get64(b, l12 + 24ull));
-put64(b, l6 + 1728, get64(b, l12 + 16ull));
-put64(b, l6 + 1720, get64(b, l12 + 8ull));
-f185(b, l6 + 1720ull);
-L338:;
-l12 = l12 + 32ull;
-l13 = l13 + 18446744073709551615ull;
-if (l13 != 0ull) { goto L337; }
-L336:;
-if (!l25) { goto L339; }
-rattle_dealloc(b, l15);
-L339:;
-l25 = get64(b, l6 + 1896);
-l15 = get64(b, l6 + 1880);
-l13 = get64(b, l6 + 1888);
-if (!l13) { goto L340; }
-l12 = l15 + 8ull;
-L341:;
-put64(b, l6 + 1736, get64(b, l12 + 16));
-put64(b, l6 + 1728, get64(b, l12 + 8));
-put64(b, l6 + 1720, get64(b, l12));
-l12 = l12 + 32ull;
-f185(b, l6 + 1720ull);
-l13 = l13 + 18446744073709551615ull;
-if (l13 != 0ull) { goto L341; }
-L340:;
-if (!l25) { goto L342; }
-rattle_dealloc(b, l15);
-L342:;
-if (!get64(b, l6 + 1920)) { goto L343; }
-rattle_dealloc(b, get64(b, l6 + 1904));
-L343:;
-if (!get64(b, l6 + 1944)) { goto L344; }
-rattle_dealloc(b, get64(b, l6 + 1928));
-L344:;
-if (!get64(b, l6 + 1968)) { goto L143; }
-rattle_dealloc(b, get64(b, l6 + 1952));
+L153:;
+put64(b, l5 + 1504, get64(b, l7 + 16));
+put64(b, l5 + 1496, get64(b, l7 + 8));
+put64(b, l5 + 1488, get64(b, l7));
+f185(b, l5 + 1488ull);
+l37 = 0u;
+goto L143;
+L152:;
+L159:;
+l19 = get64(b, l7 + 20ull);
+l22 = get64(b, l7 + 12ull);
+put64(b, l7 + 16ull, 0ull);
+l36 = get32(b, l7 + 28ull);
+put64(b, l7 + 24ull, 0ull);
+l17 = get64(b, l7 + 4ull);
+l37 = get32(b, l7);
+put64(b, l7, 0ull);
+put64(b, l7 + 8ull, l5 + 1800ull);
+put64(b, l5 + 1600, l17);
+put64(b, l5 + 1608, l22);
+put64(b, l5 + 1616, l19);
+put32(b, l5 + 1624, l36);
+put64(b, l5 + 1784, 0ull);
+put64(b, l5 + 1792, 0ull);
+if (!(l37 & 1u)) { goto L161; }
+l19 = (u64)(l37 >> 1);
+if (get64(b, l1 + 64ull) <= l19) { goto L161; }
+l19 = get64(b, l1 + 56ull) + (l19 * 120ull);
+if (get64(b, l19) != 0ull) { goto L160; }
+L161:;
+put64(b, l5 + 1648, get64(b, l18 + 16));
+put64(b, l5 + 1640, get64(b, l18 + 8));
+put64(b, l5 + 1632, get64(b, l18));
+f185(b, l5 + 1632ull);
+l37 = 0u;
+goto L145;
+L160:;
+copy(b, l5 + 1680ull, l19, 104u);
+put64(b, l5 + 1672, get64(b, l18 + 16));
+put64(b, l5 + 1664, get64(b, l18 + 8));
+put64(b, l5 + 1656, get64(b, l18));
+f191(b, l5 + 1784ull, l5 + 1488ull, l2, l5 + 1680ull, l5 + 1656ull);
+if (get8(b, l5 + 1784)) { goto L162; }
+l2 = get64(b, l5 + 1792);
+l7 = l7 + 32ull;
+l21 = l21 + 18446744073709551615ull;
+if (!l21) { goto L150; }
+goto L159;
+L162:;
+l37 = get8(b, l5 + 1785);
+goto L145;
+L151:;
+l37 = get8(b, l5 + 1353);
+if (!get64(b, l5 + 1504)) { goto L163; }
+rattle_dealloc(b, get64(b, l5 + 1488));
+L163:;
+f185(b, l5 + 1520ull);
+l19 = get64(b, l5 + 1584);
+l6 = get64(b, l5 + 1576);
+l18 = get64(b, l5 + 1568);
+if (!get64(b, l5 + 1560)) { goto L164; }
+rattle_dealloc(b, get64(b, l5 + 1544));
+L164:;
+if (!l6) { goto L165; }
+l7 = l18;
+L166:;
+put64(b, l5 + 1696, get64(b, l7 + 16));
+put64(b, l5 + 1688, get64(b, l7 + 8));
+put64(b, l5 + 1680, get64(b, l7));
+l7 = l7 + 24ull;
+f185(b, l5 + 1680ull);
+l6 = l6 + 18446744073709551615ull;
+if (l6 != 0ull) { goto L166; }
+L165:;
+if (!l19) { goto L144; }
+rattle_dealloc(b, l18);
+goto L144;
+L150:;
+l7 = l5 + 998ull;
+copy(b, l7, l5 + 1488ull, 112u);
+copy(b, l5 + 760ull, l7, 112u);
+l19 = get64(b, l5 + 1184);
+f368(b, l5 + 872ull, l5 + 760ull, l19, get64(b, l5 + 1192));
+if (!get8(b, l5 + 872)) { goto L146; }
+l37 = get8(b, l5 + 873);
+l17 = get64(b, l5 + 1128);
+l22 = get64(b, l5 + 1112);
+l18 = get64(b, l5 + 1120);
+if (!l18) { goto L167; }
+l7 = l22;
+L168:;
+if (!get8(b, l7)) { goto L169; }
+put64(b, l5 + 1384, get64(b, l7 + 24ull));
+put64(b, l5 + 1376, get64(b, l7 + 16ull));
+put64(b, l5 + 1368, get64(b, l7 + 8ull));
+f185(b, l5 + 1368ull);
+L169:;
+l7 = l7 + 32ull;
+l18 = l18 + 18446744073709551615ull;
+if (l18 != 0ull) { goto L168; }
+L167:;
+if (!l17) { goto L170; }
+rattle_dealloc(b, l22);
+L170:;
+l22 = get64(b, l5 + 1152);
+l18 = get64(b, l5 + 1136);
+if (l38) { goto L171; }
+l7 = l18 + 8ull;
+L172:;
+put64(b, l5 + 1384, get64(b, l7 + 16));
+put64(b, l5 + 1376, get64(b, l7 + 8));
+put64(b, l5 + 1368, get64(b, l7));
+l7 = l7 + 32ull;
+f185(b, l5 + 1368ull);
+l6 = l6 + 18446744073709551615ull;
+if (l6 != 0ull) { goto L172; }
+L171:;
+if (!l22) { goto L173; }
+rattle_dealloc(b, l18);
+L173:;
+if (!get64(b, l5 + 1176)) { goto L174; }
+rattle_dealloc(b, get64(b, l5 + 1160));
+L174:;
+if (!get64(b, l5 + 1200)) { goto L175; }
+rattle_dealloc(b, l19);
+L175:;
+if (!get64(b, l5 + 1224)) { goto L176; }
+rattle_dealloc(b, get64(b, l5 + 1208));
+L176:;
+fill(b, l5 + 552ull, 0u, 112u);
+goto L6;
+L149:;
+put64(b, l5 + 1008, 0ull);
+put64(b, l5 + 1000, l21);
+put64(b, l5 + 992, 1ull);
+f36(b, l5 + 992ull);
+f362(b, l5 + 1488ull);
+l37 = 1u;
+goto L143;
+L148:;
+f362(b, l5 + 1488ull);
+l37 = 1u;
 goto L143;
 L147:;
-put64(b, l6 + 1502, 0ull);
-put64(b, l6 + 1494, 0ull);
-put64(b, l6 + 1486, 0ull);
-f361(b, l6 + 2120ull);
-l45 = 1u;
-if (l47) { goto L146; }
-rattle_dealloc(b, l38);
+f362(b, l5 + 1488ull);
+l37 = 1u;
+goto L143;
 L146:;
-if (!l12) { goto L345; }
-l13 = l4;
-L346:;
-if (!get64(b, l13 + 16ull)) { goto L347; }
-rattle_dealloc(b, get64(b, l13));
-L347:;
-l13 = l13 + 24ull;
-l12 = l12 + 18446744073709551615ull;
-if (l12 != 0ull) { goto L346; }
-L345:;
-if (l44) { goto L144; }
-rattle_dealloc(b, l4);
-goto L144;
-L145:;
-l25 = get64(b, l6 + 1736);
-l15 = get64(b, l6 + 1720);
-l13 = get64(b, l6 + 1728);
-if (!l13) { goto L348; }
-l12 = l15;
-L349:;
-if (!get64(b, l12 + 16ull)) { goto L350; }
-rattle_dealloc(b, get64(b, l12));
-L350:;
-l12 = l12 + 24ull;
-l13 = l13 + 18446744073709551615ull;
-if (l13 != 0ull) { goto L349; }
-L348:;
-if (!l25) { goto L351; }
-rattle_dealloc(b, l15);
-L351:;
-l45 = 1u;
-L144:;
-l25 = get64(b, l6 + 1872);
-l15 = get64(b, l6 + 1856);
-l13 = get64(b, l6 + 1864);
-if (!l13) { goto L352; }
-l12 = l15;
-L353:;
-if (!get8(b, l12)) { goto L354; }
-put64(b, l6 + 1736, get64(b, l12 + 24ull));
-put64(b, l6 + 1728, get64(b, l12 + 16ull));
-put64(b, l6 + 1720, get64(b, l12 + 8ull));
-f185(b, l6 + 1720ull);
-L354:;
-l12 = l12 + 32ull;
-l13 = l13 + 18446744073709551615ull;
-if (l13 != 0ull) { goto L353; }
-L352:;
-if (!l25) { goto L355; }
-rattle_dealloc(b, l15);
-L355:;
-l25 = get64(b, l6 + 1896);
-l15 = get64(b, l6 + 1880);
-l13 = get64(b, l6 + 1888);
-if (!l13) { goto L356; }
-l12 = l15 + 8ull;
-L357:;
-put64(b, l6 + 1736, get64(b, l12 + 16));
-put64(b, l6 + 1728, get64(b, l12 + 8));
-put64(b, l6 + 1720, get64(b, l12));
-l12 = l12 + 32ull;
-f185(b, l6 + 1720ull);
-l13 = l13 + 18446744073709551615ull;
-if (l13 != 0ull) { goto L357; }
-L356:;
-if (!l25) { goto L358; }
-rattle_dealloc(b, l15);
-L358:;
-if (!get64(b, l6 + 1920)) { goto L359; }
-rattle_dealloc(b, get64(b, l6 + 1904));
-L359:;
-if (!get64(b, l6 + 1944)) { goto L360; }
-rattle_dealloc(b, get64(b, l6 + 1928));
-L360:;
-if (!get64(b, l6 + 1968)) { goto L143; }
-rattle_dealloc(b, get64(b, l6 + 1952));
-L143:;
-if (l45 & 255u) { goto L141; }
-copy(b, l6 + 800ull, l6 + 688ull, 112u);
-l12 = 0ull;
-l45 = 0u;
-L142:;
-copy(b, l6 + 464ull, l6 + 800ull, 112u);
-if (!l45) { goto L140; }
-copy(b, l6 + 352ull, l6 + 464ull, 112u);
-goto L139;
-L141:;
-if (!l8) { goto L361; }
-rattle_dealloc(b, l5);
-L361:;
-if (!l7) { goto L362; }
-l12 = l11;
-L363:;
-copy(b, l6 + 2288ull, l12, 152u);
-l12 = l12 + 152ull;
-f196(b, l6 + 2288ull);
-l7 = l7 + 18446744073709551615ull;
-if (l7 != 0ull) { goto L363; }
-L362:;
-if (!l10) { goto L364; }
-rattle_dealloc(b, l11);
-L364:;
-put8(b, l0, 1u);
-fill(b, l0 + 8ull, 0u, 168u);
-goto L1;
-L140:;
-copy(b, l6 + 352ull, l6 + 240ull, 112u);
-if (!l8) { goto L365; }
-rattle_dealloc(b, l5);
-L365:;
-put64(b, l6 + 232, l10);
-put64(b, l6 + 224, l7);
-put64(b, l6 + 216, l11);
-f368(b, l6 + 216ull);
-l11 = 0ull;
-l7 = 0ull;
-l10 = 0ull;
-l5 = 0ull;
-l9 = 0ull;
-l8 = 0ull;
-L139:;
-put8(b, l0, 0u);
-put64(b, l0 + 8ull, l12);
-copy(b, l0 + 16ull, l6 + 352ull, 112u);
-put64(b, l0 + 168ull, l8);
-put64(b, l0 + 160ull, l9);
-put64(b, l0 + 152ull, l5);
-put64(b, l0 + 144ull, l10);
-put64(b, l0 + 136ull, l7);
-put64(b, l0 + 128ull, l11);
-goto L1;
-L6:;
-put64(b, l6 + 1879, 0ull);
-put64(b, l6 + 1871, 0ull);
-put64(b, l6 + 1863, 0ull);
-L5:;
-if (!l29) { goto L366; }
-rattle_dealloc(b, l31);
-L366:;
-if (!l30) { goto L367; }
-rattle_dealloc(b, l28);
-L367:;
-if (!l26) { goto L368; }
-rattle_dealloc(b, l8);
-L368:;
-if (!l27) { goto L369; }
+l1 = get64(b, l5 + 1208);
+f368(b, l5 + 1232ull, l5 + 880ull, l1, get64(b, l5 + 1216));
+l17 = get64(b, l5 + 1128);
+l22 = get64(b, l5 + 1112);
+l18 = get64(b, l5 + 1120);
+if (!l18) { goto L177; }
+l7 = l22;
+L178:;
+if (!get8(b, l7)) { goto L179; }
+put64(b, l5 + 1384, get64(b, l7 + 24ull));
+put64(b, l5 + 1376, get64(b, l7 + 16ull));
+put64(b, l5 + 1368, get64(b, l7 + 8ull));
+f185(b, l5 + 1368ull);
+L179:;
+l7 = l7 + 32ull;
+l18 = l18 + 18446744073709551615ull;
+if (l18 != 0ull) { goto L178; }
+L177:;
+if (!l17) { goto L180; }
+rattle_dealloc(b, l22);
+L180:;
+l22 = get64(b, l5 + 1152);
+l18 = get64(b, l5 + 1136);
+if (l38) { goto L181; }
+l7 = l18 + 8ull;
+L182:;
+put64(b, l5 + 1384, get64(b, l7 + 16));
+put64(b, l5 + 1376, get64(b, l7 + 8));
+put64(b, l5 + 1368, get64(b, l7));
+l7 = l7 + 32ull;
+f185(b, l5 + 1368ull);
+l6 = l6 + 18446744073709551615ull;
+if (l6 != 0ull) { goto L182; }
+L181:;
+if (!l22) { goto L183; }
 rattle_dealloc(b, l18);
-L369:;
-put64(b, l6 + 1496, l17);
-put64(b, l6 + 1488, l10);
-put64(b, l6 + 1480, l19);
-f356(b, l6 + 1480ull);
+L183:;
+if (!get64(b, l5 + 1176)) { goto L184; }
+rattle_dealloc(b, get64(b, l5 + 1160));
+L184:;
+if (!get64(b, l5 + 1200)) { goto L185; }
+rattle_dealloc(b, l19);
+L185:;
+if (!get64(b, l5 + 1224)) { goto L186; }
+rattle_dealloc(b, l1);
+L186:;
+l37 = get8(b, l5 + 1233);
+l36 = get8(b, l5 + 1232);
+l7 = (l5 + 546ull) + 6ull;
+copy(b, l7, l5 + 1240ull, 112u);
+l6 = (l5 + 302ull) + 6ull;
+copy(b, l6, l7, 112u);
+if (l36) { goto L6; }
+copy(b, l5 + 184ull, l6, 112u);
+l7 = 1ull;
+goto L5;
+L145:;
+if (!get64(b, l5 + 1504)) { goto L187; }
+rattle_dealloc(b, get64(b, l5 + 1488));
+L187:;
+f185(b, l5 + 1520ull);
+l19 = get64(b, l5 + 1584);
+l6 = get64(b, l5 + 1576);
+l18 = get64(b, l5 + 1568);
+if (!get64(b, l5 + 1560)) { goto L188; }
+rattle_dealloc(b, get64(b, l5 + 1544));
+L188:;
+if (!l6) { goto L189; }
+l7 = l18;
+L190:;
+put64(b, l5 + 1696, get64(b, l7 + 16));
+put64(b, l5 + 1688, get64(b, l7 + 8));
+put64(b, l5 + 1680, get64(b, l7));
+l7 = l7 + 24ull;
+f185(b, l5 + 1680ull);
+l6 = l6 + 18446744073709551615ull;
+if (l6 != 0ull) { goto L190; }
+L189:;
+if (!l19) { goto L144; }
+rattle_dealloc(b, l18);
+L144:;
+l19 = get64(b, l5 + 1128);
+l18 = get64(b, l5 + 1112);
+l6 = get64(b, l5 + 1120);
+if (!l6) { goto L191; }
+l7 = l18;
+L192:;
+if (!get8(b, l7)) { goto L193; }
+put64(b, l5 + 1384, get64(b, l7 + 24ull));
+put64(b, l5 + 1376, get64(b, l7 + 16ull));
+put64(b, l5 + 1368, get64(b, l7 + 8ull));
+f185(b, l5 + 1368ull);
+L193:;
+l7 = l7 + 32ull;
+l6 = l6 + 18446744073709551615ull;
+if (l6 != 0ull) { goto L192; }
+L191:;
+if (!l19) { goto L194; }
+rattle_dealloc(b, l18);
+L194:;
+l19 = get64(b, l5 + 1152);
+l18 = get64(b, l5 + 1136);
+l6 = get64(b, l5 + 1144);
+if (!l6) { goto L195; }
+l7 = l18 + 8ull;
+L196:;
+put64(b, l5 + 1384, get64(b, l7 + 16));
+put64(b, l5 + 1376, get64(b, l7 + 8));
+put64(b, l5 + 1368, get64(b, l7));
+l7 = l7 + 32ull;
+f185(b, l5 + 1368ull);
+l6 = l6 + 18446744073709551615ull;
+if (l6 != 0ull) { goto L196; }
+L195:;
+if (!l19) { goto L197; }
+rattle_dealloc(b, l18);
+L197:;
+if (!get64(b, l5 + 1176)) { goto L198; }
+rattle_dealloc(b, get64(b, l5 + 1160));
+L198:;
+if (!get64(b, l5 + 1200)) { goto L199; }
+rattle_dealloc(b, get64(b, l5 + 1184));
+L199:;
+if (!get64(b, l5 + 1224)) { goto L200; }
+rattle_dealloc(b, get64(b, l5 + 1208));
+L200:;
+fill(b, l5 + 552ull, 0u, 112u);
+goto L6;
+L143:;
+l19 = get64(b, l5 + 1384);
+l18 = get64(b, l5 + 1368);
+l6 = get64(b, l5 + 1376);
+if (!l6) { goto L201; }
+l7 = l18;
+L202:;
+if (!get8(b, l7)) { goto L203; }
+put64(b, l5 + 1248, get64(b, l7 + 24ull));
+put64(b, l5 + 1240, get64(b, l7 + 16ull));
+put64(b, l5 + 1232, get64(b, l7 + 8ull));
+f185(b, l5 + 1232ull);
+L203:;
+l7 = l7 + 32ull;
+l6 = l6 + 18446744073709551615ull;
+if (l6 != 0ull) { goto L202; }
+L201:;
+if (!l19) { goto L204; }
+rattle_dealloc(b, l18);
+L204:;
+l19 = get64(b, l5 + 1408);
+l18 = get64(b, l5 + 1392);
+l6 = get64(b, l5 + 1400);
+if (!l6) { goto L205; }
+l7 = l18 + 8ull;
+L206:;
+put64(b, l5 + 1248, get64(b, l7 + 16));
+put64(b, l5 + 1240, get64(b, l7 + 8));
+put64(b, l5 + 1232, get64(b, l7));
+l7 = l7 + 32ull;
+f185(b, l5 + 1232ull);
+l6 = l6 + 18446744073709551615ull;
+if (l6 != 0ull) { goto L206; }
+L205:;
+if (!l19) { goto L207; }
+rattle_dealloc(b, l18);
+L207:;
+if (!get64(b, l5 + 1432)) { goto L208; }
+rattle_dealloc(b, get64(b, l5 + 1416));
+L208:;
+if (!get64(b, l5 + 1456)) { goto L209; }
+rattle_dealloc(b, get64(b, l5 + 1440));
+L209:;
+if (!get64(b, l5 + 1480)) { goto L6; }
+rattle_dealloc(b, get64(b, l5 + 1464));
+goto L6;
+L10:;
+put64(b, l5 + 1014, 0ull);
+put64(b, l5 + 1006, 0ull);
+put64(b, l5 + 998, 0ull);
+f362(b, l5 + 1632ull);
+l37 = 1u;
+if (l40) { goto L9; }
+rattle_dealloc(b, l31);
+L9:;
+if (!l7) { goto L210; }
+l6 = l20;
+L211:;
+if (!get64(b, l6 + 16ull)) { goto L212; }
+rattle_dealloc(b, get64(b, l6));
+L212:;
+l6 = l6 + 24ull;
+l7 = l7 + 18446744073709551615ull;
+if (l7 != 0ull) { goto L211; }
+L210:;
+if (l36) { goto L7; }
+rattle_dealloc(b, l20);
+goto L7;
+L8:;
+l19 = get64(b, l5 + 1248);
+l18 = get64(b, l5 + 1232);
+l6 = get64(b, l5 + 1240);
+if (!l6) { goto L213; }
+l7 = l18;
+L214:;
+if (!get64(b, l7 + 16ull)) { goto L215; }
+rattle_dealloc(b, get64(b, l7));
+L215:;
+l7 = l7 + 24ull;
+l6 = l6 + 18446744073709551615ull;
+if (l6 != 0ull) { goto L214; }
+L213:;
+if (!l19) { goto L216; }
+rattle_dealloc(b, l18);
+L216:;
+l37 = 1u;
+L7:;
+l19 = get64(b, l5 + 1384);
+l18 = get64(b, l5 + 1368);
+l6 = get64(b, l5 + 1376);
+if (!l6) { goto L217; }
+l7 = l18;
+L218:;
+if (!get8(b, l7)) { goto L219; }
+put64(b, l5 + 1248, get64(b, l7 + 24ull));
+put64(b, l5 + 1240, get64(b, l7 + 16ull));
+put64(b, l5 + 1232, get64(b, l7 + 8ull));
+f185(b, l5 + 1232ull);
+L219:;
+l7 = l7 + 32ull;
+l6 = l6 + 18446744073709551615ull;
+if (l6 != 0ull) { goto L218; }
+L217:;
+if (!l19) { goto L220; }
+rattle_dealloc(b, l18);
+L220:;
+l19 = get64(b, l5 + 1408);
+l18 = get64(b, l5 + 1392);
+l6 = get64(b, l5 + 1400);
+if (!l6) { goto L221; }
+l7 = l18 + 8ull;
+L222:;
+put64(b, l5 + 1248, get64(b, l7 + 16));
+put64(b, l5 + 1240, get64(b, l7 + 8));
+put64(b, l5 + 1232, get64(b, l7));
+l7 = l7 + 32ull;
+f185(b, l5 + 1232ull);
+l6 = l6 + 18446744073709551615ull;
+if (l6 != 0ull) { goto L222; }
+L221:;
+if (!l19) { goto L223; }
+rattle_dealloc(b, l18);
+L223:;
+if (!get64(b, l5 + 1432)) { goto L224; }
+rattle_dealloc(b, get64(b, l5 + 1416));
+L224:;
+if (!get64(b, l5 + 1456)) { goto L225; }
+rattle_dealloc(b, get64(b, l5 + 1440));
+L225:;
+if (!get64(b, l5 + 1480)) { goto L6; }
+rattle_dealloc(b, get64(b, l5 + 1464));
+L6:;
+l7 = 0ull;
+l36 = 1u;
+if (l37 & 255u) { goto L4; }
+copy(b, l5 + 184ull, l5 + 72ull, 112u);
+L5:;
+l36 = 0u;
 L4:;
-l15 = get64(b, l6 + 928);
-l13 = get64(b, l6 + 912);
-l12 = get64(b, l6 + 920);
-if (!l12) { goto L370; }
-l7 = l13;
-L371:;
-copy(b, l6 + 2288ull, l7, 152u);
-l7 = l7 + 152ull;
-f196(b, l6 + 2288ull);
-l12 = l12 + 18446744073709551615ull;
-if (l12 != 0ull) { goto L371; }
-L370:;
-if (!l15) { goto L3; }
+put8(b, l0, l36);
+put64(b, l0 + 8ull, l7);
+copy(b, l0 + 16ull, l5 + 184ull, 112u);
+SP = l5 + 1808ull;
+}
+
+FN void f202(B b, u64 l0, u64 l1, u64 l2, u32 l3, u64 l4) {
+u32 l63 = 0, l64 = 0, l65 = 0;
+u64 l5 = 0, l6 = 0, l7 = 0, l8 = 0, l9 = 0, l10 = 0, l11 = 0, l12 = 0, l13 = 0, l14 = 0, l15 = 0, l16 = 0, l17 = 0, l18 = 0, l19 = 0, l20 = 0, l21 = 0, l22 = 0, l23 = 0, l24 = 0, l25 = 0, l26 = 0, l27 = 0, l28 = 0, l29 = 0, l30 = 0, l31 = 0, l32 = 0, l33 = 0, l34 = 0, l35 = 0, l36 = 0, l37 = 0, l38 = 0, l39 = 0, l40 = 0, l41 = 0, l42 = 0, l43 = 0, l44 = 0, l45 = 0, l46 = 0, l47 = 0, l48 = 0, l49 = 0, l50 = 0, l51 = 0, l52 = 0, l53 = 0, l54 = 0, l55 = 0, l56 = 0, l57 = 0, l58 = 0, l59 = 0, l60 = 0, l61 = 0, l62 = 0;
+l5 = SP - 1072ull;
+SP = l5;
+l6 = get64(b, l2 + 40);
+l7 = get64(b, l2 + 32);
+l8 = get64(b, l2 + 24);
+l9 = get64(b, l2 + 16);
+l10 = get64(b, l2 + 8);
+l11 = get64(b, l2);
+l63 = 0u;
+fill(b, l5 + 64ull, 0u, 112u);
+put64(b, l5 + 56, 0ull);
+put64(b, l5 + 48, 0ull);
+put64(b, l5 + 40, 0ull);
+put64(b, l5 + 16, 0ull);
+put64(b, l5 + 24, 0ull);
+put64(b, l5 + 32, 0ull);
+copy(b, l5 + 176ull, l1, 112u);
+put64(b, l5 + 304, 0ull);
+put64(b, l5 + 312, 0ull);
+put64(b, l5 + 328, 0ull);
+put64(b, l5 + 336, 0ull);
+put64(b, l5 + 352, 0ull);
+put64(b, l5 + 360, 0ull);
+put64(b, l5 + 376, 0ull);
+put64(b, l5 + 384, 0ull);
+put64(b, l5 + 400, 0ull);
+put64(b, l5 + 408, 0ull);
+put64(b, l5 + 432, 0ull);
+put64(b, l5 + 424, 0ull);
+put64(b, l5 + 296, l5 + 1064ull);
+put64(b, l5 + 288, l5 + 176ull);
+put64(b, l5 + 320, l5 + 1064ull);
+put64(b, l5 + 344, l5 + 1064ull);
+put64(b, l5 + 368, l5 + 1064ull);
+put64(b, l5 + 392, l5 + 1064ull);
+put64(b, l5 + 416, l5 + 1064ull);
+put64(b, l5 + 448, 0ull);
+put64(b, l5 + 456, 0ull);
+put64(b, l5 + 472, 0ull);
+put64(b, l5 + 480, 0ull);
+put64(b, l5 + 496, 0ull);
+put64(b, l5 + 504, 0ull);
+put64(b, l5 + 520, 0ull);
+put64(b, l5 + 528, 0ull);
+put64(b, l5 + 544, 0ull);
+put64(b, l5 + 552, 0ull);
+put64(b, l5 + 560, 0ull);
+put64(b, l5 + 568, 2611923443488327891ull);
+put64(b, l5 + 440, l5 + 1064ull);
+put64(b, l5 + 464, l5 + 1064ull);
+put64(b, l5 + 488, l5 + 1064ull);
+put64(b, l5 + 512, l5 + 1064ull);
+put64(b, l5 + 536, l5 + 1064ull);
+put64(b, l5 + 576, l5 + 1064ull);
+put64(b, l5 + 592, 0ull);
+put64(b, l5 + 584, 0ull);
+put64(b, l5 + 616, 0ull);
+put64(b, l5 + 608, 0ull);
+put64(b, l5 + 640, 0ull);
+put64(b, l5 + 632, 0ull);
+put64(b, l5 + 664, 0ull);
+put64(b, l5 + 656, 0ull);
+put64(b, l5 + 688, 0ull);
+put64(b, l5 + 680, 0ull);
+put64(b, l5 + 712, 0ull);
+put64(b, l5 + 704, 0ull);
+put64(b, l5 + 600, l5 + 1064ull);
+put64(b, l5 + 624, l5 + 1064ull);
+put64(b, l5 + 648, l5 + 1064ull);
+put64(b, l5 + 672, l5 + 1064ull);
+put64(b, l5 + 696, l5 + 1064ull);
+put64(b, l5 + 720, l5 + 1064ull);
+put64(b, l5 + 744, 0ull);
+put64(b, l5 + 736, 0ull);
+put64(b, l5 + 728, 0ull);
+put64(b, l5 + 752, 2611923443488327891ull);
+put64(b, l5 + 760, l5 + 1064ull);
+put64(b, l5 + 776, 0ull);
+put64(b, l5 + 768, 0ull);
+put64(b, l5 + 784, l5 + 1064ull);
+put64(b, l5 + 800, 0ull);
+put64(b, l5 + 792, 0ull);
+put64(b, l5 + 808, l5 + 1064ull);
+put64(b, l5 + 824, 0ull);
+put64(b, l5 + 816, 0ull);
+put64(b, l5 + 832, l5 + 1064ull);
+put64(b, l5 + 848, 0ull);
+put64(b, l5 + 840, 0ull);
+put64(b, l5 + 856, l5 + 1064ull);
+put64(b, l5 + 872, 0ull);
+put64(b, l5 + 864, 0ull);
+put64(b, l5 + 880, l5 + 1064ull);
+put64(b, l5 + 896, 0ull);
+put64(b, l5 + 888, 0ull);
+put64(b, l5 + 904, l5 + 1064ull);
+put64(b, l5 + 920, 0ull);
+put64(b, l5 + 912, 0ull);
+put64(b, l5 + 928, l5 + 1064ull);
+put64(b, l5 + 944, 0ull);
+put64(b, l5 + 936, 0ull);
+put64(b, l5 + 952, l5 + 1064ull);
+put64(b, l5 + 968, 0ull);
+put64(b, l5 + 960, 0ull);
+fill(b, l5 + 976ull, 0u, 88u);
+f24(b, l5 + 976ull, l5 + 288ull, l3);
+if (get8(b, l5 + 976)) { goto L2; }
+l2 = get64(b, l5 + 1056);
+l12 = get64(b, l5 + 1040);
+l13 = get64(b, l5 + 1016);
+l1 = get64(b, l5 + 1032);
+f371(b, l5 + 8ull, l5 + 984ull);
+l63 = get8(b, l5 + 9);
+l3 = get8(b, l5 + 8);
+f199(b, l5 + 992ull);
+if (!l1) { goto L3; }
 rattle_dealloc(b, l13);
 L3:;
-put8(b, l0, 1u);
-fill(b, l0 + 8ull, 0u, 168u);
+if (!l2) { goto L1; }
+rattle_dealloc(b, l12);
 goto L1;
 L2:;
-l13 = get64(b, l6 + 928);
-if (!l7) { goto L372; }
-l12 = l11;
-L373:;
-copy(b, l6 + 2288ull, l12, 152u);
-l12 = l12 + 152ull;
-f196(b, l6 + 2288ull);
-l7 = l7 + 18446744073709551615ull;
-if (l7 != 0ull) { goto L373; }
-L372:;
-if (!l13) { goto L374; }
+l3 = (u32)(get8(b, l5 + 980) != 0u);
+L1:;
+l64 = 0u;
+if (!(l3 & 255u)) { goto L7; }
+l65 = 0u;
+goto L6;
+L7:;
+l65 = 1u;
+if (!(l63 & 1u)) { goto L6; }
+l1 = get64(b, l5 + 240);
+if (l4 >= l1) { goto L8; }
+l2 = l4 * 120ull;
+l3 = (((u32)l4) << 1) | 1u;
+l14 = l5 + 992ull;
+l15 = l5 + 984ull;
+L9:;
+if (get64(b, l5 + 240) <= l4) { goto L5; }
+if (get64(b, get64(b, l5 + 232) + l2) != 186ull) { goto L10; }
+l63 = 0u;
+fill(b, l5 + 976ull, 0u, 88u);
+f24(b, l5 + 976ull, l5 + 288ull, l3);
+if (get8(b, l5 + 976)) { goto L12; }
+l12 = get64(b, l5 + 1056);
+l16 = get64(b, l5 + 1040);
+l17 = get64(b, l5 + 1016);
+l13 = get64(b, l5 + 1032);
+f371(b, l5, l15);
+l63 = get8(b, l5 + 1);
+l65 = get8(b, l5);
+f199(b, l14);
+if (!l13) { goto L13; }
+rattle_dealloc(b, l17);
+L13:;
+if (!l12) { goto L11; }
+rattle_dealloc(b, l16);
+goto L11;
+L12:;
+l65 = (u32)(get8(b, l5 + 980) != 0u);
+L11:;
+l64 = 0u;
+if (!(l65 & 255u)) { goto L14; }
+l65 = 0u;
+goto L6;
+L14:;
+l65 = 1u;
+if (!(l63 & 1u)) { goto L6; }
+L10:;
+l3 = l3 + 2u;
+l2 = l2 + 120ull;
+l4 = l4 + 1ull;
+if (l1 != l4) { goto L9; }
+L8:;
+l64 = 1u;
+l65 = 1u;
+L6:;
+l16 = get64(b, l5 + 968);
+l18 = get64(b, l5 + 952);
+l17 = get64(b, l5 + 944);
+l19 = get64(b, l5 + 928);
+l14 = get64(b, l5 + 920);
+l20 = get64(b, l5 + 904);
+l15 = get64(b, l5 + 896);
+l21 = get64(b, l5 + 880);
+l22 = get64(b, l5 + 872);
+l23 = get64(b, l5 + 856);
+l24 = get64(b, l5 + 848);
+l25 = get64(b, l5 + 832);
+l26 = get64(b, l5 + 824);
+l27 = get64(b, l5 + 808);
+l28 = get64(b, l5 + 800);
+l4 = get64(b, l5 + 792);
+l12 = get64(b, l5 + 784);
+l29 = get64(b, l5 + 776);
+l30 = get64(b, l5 + 760);
+l31 = get64(b, l5 + 736);
+l32 = get64(b, l5 + 720);
+l33 = get64(b, l5 + 712);
+l34 = get64(b, l5 + 696);
+l35 = get64(b, l5 + 688);
+l36 = get64(b, l5 + 672);
+l37 = get64(b, l5 + 664);
+l38 = get64(b, l5 + 648);
+l39 = get64(b, l5 + 640);
+l40 = get64(b, l5 + 624);
+l41 = get64(b, l5 + 616);
+l1 = get64(b, l5 + 608);
+l13 = get64(b, l5 + 600);
+l2 = get64(b, l5 + 592);
+l42 = get64(b, l5 + 576);
+l43 = get64(b, l5 + 552);
+l44 = get64(b, l5 + 536);
+l45 = get64(b, l5 + 528);
+l46 = get64(b, l5 + 512);
+l47 = get64(b, l5 + 504);
+l48 = get64(b, l5 + 488);
+l49 = get64(b, l5 + 480);
+l50 = get64(b, l5 + 464);
+l51 = get64(b, l5 + 456);
+l52 = get64(b, l5 + 440);
+l53 = get64(b, l5 + 432);
+l54 = get64(b, l5 + 416);
+l55 = get64(b, l5 + 408);
+l56 = get64(b, l5 + 392);
+l57 = get64(b, l5 + 384);
+l58 = get64(b, l5 + 368);
+l59 = get64(b, l5 + 360);
+l60 = get64(b, l5 + 344);
+l61 = get64(b, l5 + 336);
+l62 = get64(b, l5 + 320);
+if (!get64(b, l5 + 312)) { goto L15; }
+rattle_dealloc(b, get64(b, l5 + 296));
+L15:;
+if (!l61) { goto L16; }
+rattle_dealloc(b, l62);
+L16:;
+if (!l59) { goto L17; }
+rattle_dealloc(b, l60);
+L17:;
+if (!l57) { goto L18; }
+rattle_dealloc(b, l58);
+L18:;
+if (!l55) { goto L19; }
+rattle_dealloc(b, l56);
+L19:;
+if (!l53) { goto L20; }
+rattle_dealloc(b, l54);
+L20:;
+if (!l51) { goto L21; }
+rattle_dealloc(b, l52);
+L21:;
+if (!l49) { goto L22; }
+rattle_dealloc(b, l50);
+L22:;
+if (!l47) { goto L23; }
+rattle_dealloc(b, l48);
+L23:;
+if (!l45) { goto L24; }
+rattle_dealloc(b, l46);
+L24:;
+if (!l43) { goto L25; }
+rattle_dealloc(b, l44);
+L25:;
+if (!l2) { goto L26; }
+rattle_dealloc(b, l42);
+L26:;
+if (!l1) { goto L27; }
+l2 = l13 + 24ull;
+L28:;
+if (!get64(b, l2)) { goto L29; }
+rattle_dealloc(b, get64(b, l2 + 18446744073709551600ull));
+L29:;
+l2 = l2 + 32ull;
+l1 = l1 + 18446744073709551615ull;
+if (l1 != 0ull) { goto L28; }
+L27:;
+if (!l41) { goto L30; }
+rattle_dealloc(b, l13);
+L30:;
+if (!l39) { goto L31; }
+rattle_dealloc(b, l40);
+L31:;
+if (!l37) { goto L32; }
+rattle_dealloc(b, l38);
+L32:;
+if (!l35) { goto L33; }
+rattle_dealloc(b, l36);
+L33:;
+if (!l33) { goto L34; }
+rattle_dealloc(b, l34);
+L34:;
+if (!l31) { goto L35; }
+rattle_dealloc(b, l32);
+L35:;
+if (!l29) { goto L36; }
+rattle_dealloc(b, l30);
+L36:;
+if (!l4) { goto L37; }
+l2 = l12 + 24ull;
+L38:;
+if (!get64(b, l2)) { goto L39; }
+rattle_dealloc(b, get64(b, l2 + 18446744073709551600ull));
+L39:;
+l2 = l2 + 32ull;
+l4 = l4 + 18446744073709551615ull;
+if (l4 != 0ull) { goto L38; }
+L37:;
+if (!l28) { goto L40; }
+rattle_dealloc(b, l12);
+L40:;
+if (!l26) { goto L41; }
+rattle_dealloc(b, l27);
+L41:;
+if (!l24) { goto L42; }
+rattle_dealloc(b, l25);
+L42:;
+if (!l22) { goto L43; }
+rattle_dealloc(b, l23);
+L43:;
+if (!l15) { goto L44; }
+rattle_dealloc(b, l21);
+L44:;
+if (!l14) { goto L45; }
+rattle_dealloc(b, l20);
+L45:;
+if (!l17) { goto L46; }
+rattle_dealloc(b, l19);
+L46:;
+if (!l16) { goto L47; }
+rattle_dealloc(b, l18);
+L47:;
+if (!l65) { goto L49; }
+if (l64) { goto L48; }
+if (!l10) { goto L50; }
+l2 = l11;
+L51:;
+copy(b, l5 + 288ull, l2, 152u);
+l2 = l2 + 152ull;
+f196(b, l5 + 288ull);
+l10 = l10 + 18446744073709551615ull;
+if (l10 != 0ull) { goto L51; }
+L50:;
+if (!l9) { goto L52; }
 rattle_dealloc(b, l11);
-L374:;
-put64(b, l0 + 8ull, 0ull);
+L52:;
+if (!l6) { goto L53; }
+rattle_dealloc(b, l8);
+L53:;
+if (!get64(b, l5 + 192)) { goto L54; }
+rattle_dealloc(b, get64(b, l5 + 176));
+L54:;
+put64(b, l5 + 32, get64(b, l5 + 224));
+put64(b, l5 + 24, get64(b, l5 + 216));
+put64(b, l5 + 16, get64(b, l5 + 208));
+f203(b, l5 + 16ull);
+l10 = get64(b, l5 + 272);
+l4 = get64(b, l5 + 264);
+l1 = get64(b, l5 + 256);
+if (!get64(b, l5 + 248)) { goto L55; }
+rattle_dealloc(b, get64(b, l5 + 232));
+L55:;
+if (!l4) { goto L56; }
+l2 = l1;
+L57:;
+put64(b, l5 + 304, get64(b, l2 + 16));
+put64(b, l5 + 296, get64(b, l2 + 8));
+put64(b, l5 + 288, get64(b, l2));
+l2 = l2 + 24ull;
+f203(b, l5 + 288ull);
+l4 = l4 + 18446744073709551615ull;
+if (l4 != 0ull) { goto L57; }
+L56:;
+if (!l10) { goto L58; }
+rattle_dealloc(b, l1);
+L58:;
 put8(b, l0, 0u);
-copy(b, l0 + 16ull, l6 + 576ull, 112u);
+put64(b, l0 + 8ull, 0ull);
+copy(b, l0 + 16ull, l5 + 64ull, 112u);
 put64(b, l0 + 168ull, 0ull);
 put64(b, l0 + 160ull, 0ull);
 put64(b, l0 + 152ull, 0ull);
 put64(b, l0 + 144ull, 0ull);
 put64(b, l0 + 136ull, 0ull);
 put64(b, l0 + 128ull, 0ull);
-L1:;
-SP = l6 + 2448ull;
-}
-
-FN void f201(B b, u64 l0, u64 l1, u32 l2, u64 l3) {
-u32 l57 = 0, l58 = 0, l59 = 0;
-u64 l4 = 0, l5 = 0, l6 = 0, l7 = 0, l8 = 0, l9 = 0, l10 = 0, l11 = 0, l12 = 0, l13 = 0, l14 = 0, l15 = 0, l16 = 0, l17 = 0, l18 = 0, l19 = 0, l20 = 0, l21 = 0, l22 = 0, l23 = 0, l24 = 0, l25 = 0, l26 = 0, l27 = 0, l28 = 0, l29 = 0, l30 = 0, l31 = 0, l32 = 0, l33 = 0, l34 = 0, l35 = 0, l36 = 0, l37 = 0, l38 = 0, l39 = 0, l40 = 0, l41 = 0, l42 = 0, l43 = 0, l44 = 0, l45 = 0, l46 = 0, l47 = 0, l48 = 0, l49 = 0, l50 = 0, l51 = 0, l52 = 0, l53 = 0, l54 = 0, l55 = 0, l56 = 0;
-l4 = SP - 1312ull;
-SP = l4;
-l57 = 0u;
-fill(b, l4 + 208ull, 0u, 160u);
-fill(b, l4 + 48ull, 0u, 160u);
-put64(b, l4 + 40, 0ull);
-put64(b, l4 + 32, 0ull);
-put64(b, l4 + 24, 0ull);
-put64(b, l4 + 16, 0ull);
-copy(b, l4 + 368ull, l1, 160u);
-put64(b, l4 + 544, 0ull);
-put64(b, l4 + 552, 0ull);
-put64(b, l4 + 568, 0ull);
-put64(b, l4 + 576, 0ull);
-put64(b, l4 + 592, 0ull);
-put64(b, l4 + 600, 0ull);
-put64(b, l4 + 616, 0ull);
-put64(b, l4 + 624, 0ull);
-put64(b, l4 + 640, 0ull);
-put64(b, l4 + 648, 0ull);
-put64(b, l4 + 672, 0ull);
-put64(b, l4 + 664, 0ull);
-put64(b, l4 + 536, l4 + 1304ull);
-put64(b, l4 + 528, l4 + 368ull);
-put64(b, l4 + 560, l4 + 1304ull);
-put64(b, l4 + 584, l4 + 1304ull);
-put64(b, l4 + 608, l4 + 1304ull);
-put64(b, l4 + 632, l4 + 1304ull);
-put64(b, l4 + 656, l4 + 1304ull);
-put64(b, l4 + 688, 0ull);
-put64(b, l4 + 696, 0ull);
-put64(b, l4 + 712, 0ull);
-put64(b, l4 + 720, 0ull);
-put64(b, l4 + 736, 0ull);
-put64(b, l4 + 744, 0ull);
-put64(b, l4 + 760, 0ull);
-put64(b, l4 + 768, 0ull);
-put64(b, l4 + 784, 0ull);
-put64(b, l4 + 792, 0ull);
-put64(b, l4 + 800, 0ull);
-put64(b, l4 + 808, 2611923443488327891ull);
-put64(b, l4 + 680, l4 + 1304ull);
-put64(b, l4 + 704, l4 + 1304ull);
-put64(b, l4 + 728, l4 + 1304ull);
-put64(b, l4 + 752, l4 + 1304ull);
-put64(b, l4 + 776, l4 + 1304ull);
-put64(b, l4 + 816, l4 + 1304ull);
-put64(b, l4 + 832, 0ull);
-put64(b, l4 + 824, 0ull);
-put64(b, l4 + 856, 0ull);
-put64(b, l4 + 848, 0ull);
-put64(b, l4 + 880, 0ull);
-put64(b, l4 + 872, 0ull);
-put64(b, l4 + 904, 0ull);
-put64(b, l4 + 896, 0ull);
-put64(b, l4 + 928, 0ull);
-put64(b, l4 + 920, 0ull);
-put64(b, l4 + 952, 0ull);
-put64(b, l4 + 944, 0ull);
-put64(b, l4 + 840, l4 + 1304ull);
-put64(b, l4 + 864, l4 + 1304ull);
-put64(b, l4 + 888, l4 + 1304ull);
-put64(b, l4 + 912, l4 + 1304ull);
-put64(b, l4 + 936, l4 + 1304ull);
-put64(b, l4 + 960, l4 + 1304ull);
-put64(b, l4 + 984, 0ull);
-put64(b, l4 + 976, 0ull);
-put64(b, l4 + 968, 0ull);
-put64(b, l4 + 992, 2611923443488327891ull);
-put64(b, l4 + 1000, l4 + 1304ull);
-put64(b, l4 + 1016, 0ull);
-put64(b, l4 + 1008, 0ull);
-put64(b, l4 + 1024, l4 + 1304ull);
-put64(b, l4 + 1040, 0ull);
-put64(b, l4 + 1032, 0ull);
-put64(b, l4 + 1048, l4 + 1304ull);
-put64(b, l4 + 1064, 0ull);
-put64(b, l4 + 1056, 0ull);
-put64(b, l4 + 1072, l4 + 1304ull);
-put64(b, l4 + 1088, 0ull);
-put64(b, l4 + 1080, 0ull);
-put64(b, l4 + 1096, l4 + 1304ull);
-put64(b, l4 + 1112, 0ull);
-put64(b, l4 + 1104, 0ull);
-put64(b, l4 + 1120, l4 + 1304ull);
-put64(b, l4 + 1136, 0ull);
-put64(b, l4 + 1128, 0ull);
-put64(b, l4 + 1144, l4 + 1304ull);
-put64(b, l4 + 1160, 0ull);
-put64(b, l4 + 1152, 0ull);
-put64(b, l4 + 1168, l4 + 1304ull);
-put64(b, l4 + 1184, 0ull);
-put64(b, l4 + 1176, 0ull);
-put64(b, l4 + 1192, l4 + 1304ull);
-put64(b, l4 + 1208, 0ull);
-put64(b, l4 + 1200, 0ull);
-fill(b, l4 + 1216ull, 0u, 88u);
-f24(b, l4 + 1216ull, l4 + 528ull, l2);
-if (get8(b, l4 + 1216)) { goto L2; }
-l1 = get64(b, l4 + 1296);
-l5 = get64(b, l4 + 1280);
-l6 = get64(b, l4 + 1256);
-l7 = get64(b, l4 + 1272);
-f371(b, l4 + 8ull, l4 + 1224ull);
-l57 = get8(b, l4 + 9);
-l2 = get8(b, l4 + 8);
-f199(b, l4 + 1232ull);
-if (!l7) { goto L3; }
-rattle_dealloc(b, l6);
-L3:;
-if (!l1) { goto L1; }
-rattle_dealloc(b, l5);
-goto L1;
-L2:;
-l2 = (u32)(get8(b, l4 + 1220) != 0u);
-L1:;
-l58 = 0u;
-if (!(l2 & 255u)) { goto L7; }
-l59 = 0u;
-goto L6;
-L7:;
-l59 = 1u;
-if (!(l57 & 1u)) { goto L6; }
-l7 = get64(b, l4 + 432);
-if (l3 >= l7) { goto L8; }
-l1 = l3 * 120ull;
-l2 = (((u32)l3) << 1) | 1u;
-l8 = l4 + 1232ull;
-l9 = l4 + 1224ull;
-L9:;
-if (get64(b, l4 + 432) <= l3) { goto L5; }
-if (get64(b, get64(b, l4 + 424) + l1) != 186ull) { goto L10; }
-l57 = 0u;
-fill(b, l4 + 1216ull, 0u, 88u);
-f24(b, l4 + 1216ull, l4 + 528ull, l2);
-if (get8(b, l4 + 1216)) { goto L12; }
-l5 = get64(b, l4 + 1296);
-l10 = get64(b, l4 + 1280);
-l11 = get64(b, l4 + 1256);
-l6 = get64(b, l4 + 1272);
-f371(b, l4, l9);
-l57 = get8(b, l4 + 1);
-l59 = get8(b, l4);
-f199(b, l8);
-if (!l6) { goto L13; }
-rattle_dealloc(b, l11);
-L13:;
-if (!l5) { goto L11; }
-rattle_dealloc(b, l10);
-goto L11;
-L12:;
-l59 = (u32)(get8(b, l4 + 1220) != 0u);
-L11:;
-l58 = 0u;
-if (!(l59 & 255u)) { goto L14; }
-l59 = 0u;
-goto L6;
-L14:;
-l59 = 1u;
-if (!(l57 & 1u)) { goto L6; }
-L10:;
-l2 = l2 + 2u;
-l1 = l1 + 120ull;
-l3 = l3 + 1ull;
-if (l7 != l3) { goto L9; }
-L8:;
-l58 = 1u;
-l59 = 1u;
-L6:;
-l10 = get64(b, l4 + 1208);
-l12 = get64(b, l4 + 1192);
-l11 = get64(b, l4 + 1184);
-l13 = get64(b, l4 + 1168);
-l8 = get64(b, l4 + 1160);
-l14 = get64(b, l4 + 1144);
-l9 = get64(b, l4 + 1136);
-l15 = get64(b, l4 + 1120);
-l16 = get64(b, l4 + 1112);
-l17 = get64(b, l4 + 1096);
-l18 = get64(b, l4 + 1088);
-l19 = get64(b, l4 + 1072);
-l20 = get64(b, l4 + 1064);
-l21 = get64(b, l4 + 1048);
-l22 = get64(b, l4 + 1040);
-l1 = get64(b, l4 + 1032);
-l5 = get64(b, l4 + 1024);
-l23 = get64(b, l4 + 1016);
-l24 = get64(b, l4 + 1000);
-l25 = get64(b, l4 + 976);
-l26 = get64(b, l4 + 960);
-l27 = get64(b, l4 + 952);
-l28 = get64(b, l4 + 936);
-l29 = get64(b, l4 + 928);
-l30 = get64(b, l4 + 912);
-l31 = get64(b, l4 + 904);
-l32 = get64(b, l4 + 888);
-l33 = get64(b, l4 + 880);
-l34 = get64(b, l4 + 864);
-l35 = get64(b, l4 + 856);
-l7 = get64(b, l4 + 848);
-l6 = get64(b, l4 + 840);
-l3 = get64(b, l4 + 832);
-l36 = get64(b, l4 + 816);
-l37 = get64(b, l4 + 792);
-l38 = get64(b, l4 + 776);
-l39 = get64(b, l4 + 768);
-l40 = get64(b, l4 + 752);
-l41 = get64(b, l4 + 744);
-l42 = get64(b, l4 + 728);
-l43 = get64(b, l4 + 720);
-l44 = get64(b, l4 + 704);
-l45 = get64(b, l4 + 696);
-l46 = get64(b, l4 + 680);
-l47 = get64(b, l4 + 672);
-l48 = get64(b, l4 + 656);
-l49 = get64(b, l4 + 648);
-l50 = get64(b, l4 + 632);
-l51 = get64(b, l4 + 624);
-l52 = get64(b, l4 + 608);
-l53 = get64(b, l4 + 600);
-l54 = get64(b, l4 + 584);
-l55 = get64(b, l4 + 576);
-l56 = get64(b, l4 + 560);
-if (!get64(b, l4 + 552)) { goto L15; }
-rattle_dealloc(b, get64(b, l4 + 536));
-L15:;
-if (!l55) { goto L16; }
-rattle_dealloc(b, l56);
-L16:;
-if (!l53) { goto L17; }
-rattle_dealloc(b, l54);
-L17:;
-if (!l51) { goto L18; }
-rattle_dealloc(b, l52);
-L18:;
-if (!l49) { goto L19; }
-rattle_dealloc(b, l50);
-L19:;
-if (!l47) { goto L20; }
-rattle_dealloc(b, l48);
-L20:;
-if (!l45) { goto L21; }
-rattle_dealloc(b, l46);
-L21:;
-if (!l43) { goto L22; }
-rattle_dealloc(b, l44);
-L22:;
-if (!l41) { goto L23; }
-rattle_dealloc(b, l42);
-L23:;
-if (!l39) { goto L24; }
-rattle_dealloc(b, l40);
-L24:;
-if (!l37) { goto L25; }
-rattle_dealloc(b, l38);
-L25:;
-if (!l3) { goto L26; }
-rattle_dealloc(b, l36);
-L26:;
-if (!l7) { goto L27; }
-l3 = l6 + 24ull;
-L28:;
-if (!get64(b, l3)) { goto L29; }
-rattle_dealloc(b, get64(b, l3 + 18446744073709551600ull));
-L29:;
-l3 = l3 + 32ull;
-l7 = l7 + 18446744073709551615ull;
-if (l7 != 0ull) { goto L28; }
-L27:;
-if (!l35) { goto L30; }
-rattle_dealloc(b, l6);
-L30:;
-if (!l33) { goto L31; }
-rattle_dealloc(b, l34);
-L31:;
-if (!l31) { goto L32; }
-rattle_dealloc(b, l32);
-L32:;
-if (!l29) { goto L33; }
-rattle_dealloc(b, l30);
-L33:;
-if (!l27) { goto L34; }
-rattle_dealloc(b, l28);
-L34:;
-if (!l25) { goto L35; }
-rattle_dealloc(b, l26);
-L35:;
-if (!l23) { goto L36; }
-rattle_dealloc(b, l24);
-L36:;
-if (!l1) { goto L37; }
-l3 = l5 + 24ull;
-L38:;
-if (!get64(b, l3)) { goto L39; }
-rattle_dealloc(b, get64(b, l3 + 18446744073709551600ull));
-L39:;
-l3 = l3 + 32ull;
-l1 = l1 + 18446744073709551615ull;
-if (l1 != 0ull) { goto L38; }
-L37:;
-if (!l22) { goto L40; }
-rattle_dealloc(b, l5);
-L40:;
-if (!l20) { goto L41; }
-rattle_dealloc(b, l21);
-L41:;
-if (!l18) { goto L42; }
-rattle_dealloc(b, l19);
-L42:;
-if (!l16) { goto L43; }
-rattle_dealloc(b, l17);
-L43:;
-if (!l9) { goto L44; }
-rattle_dealloc(b, l15);
-L44:;
-if (!l8) { goto L45; }
-rattle_dealloc(b, l14);
-L45:;
-if (!l11) { goto L46; }
-rattle_dealloc(b, l13);
-L46:;
-if (!l10) { goto L47; }
-rattle_dealloc(b, l12);
-L47:;
-if (!l59) { goto L49; }
-if (l58) { goto L48; }
-put64(b, l4 + 16, get64(b, l4 + 392));
-put64(b, l4 + 24, get64(b, l4 + 400));
-put64(b, l4 + 32, get64(b, l4 + 408));
-put64(b, l4 + 40, get64(b, l4 + 416));
-l5 = get64(b, l4 + 464);
-l1 = get64(b, l4 + 456);
-l7 = get64(b, l4 + 448);
-l3 = get64(b, l4 + 440);
-l6 = get64(b, l4 + 424);
-if (!get64(b, l4 + 384)) { goto L50; }
-rattle_dealloc(b, get64(b, l4 + 368));
-L50:;
-f202(b, l4 + 24ull);
-if (!l3) { goto L51; }
-rattle_dealloc(b, l6);
-L51:;
-if (!l1) { goto L52; }
-l3 = l7;
-L53:;
-put64(b, l4 + 544, get64(b, l3 + 16));
-put64(b, l4 + 536, get64(b, l3 + 8));
-put64(b, l4 + 528, get64(b, l3));
-l3 = l3 + 24ull;
-f202(b, l4 + 528ull);
-l1 = l1 + 18446744073709551615ull;
-if (l1 != 0ull) { goto L53; }
-L52:;
-if (!l5) { goto L54; }
-rattle_dealloc(b, l7);
-L54:;
-l5 = get64(b, l4 + 496);
-l7 = get64(b, l4 + 480);
-l1 = get64(b, l4 + 488);
-if (!l1) { goto L55; }
-l3 = l7;
-L56:;
-copy(b, l4 + 528ull, l3, 152u);
-l3 = l3 + 152ull;
-f196(b, l4 + 528ull);
-l1 = l1 + 18446744073709551615ull;
-if (l1 != 0ull) { goto L56; }
-L55:;
-if (!l5) { goto L57; }
-rattle_dealloc(b, l7);
-L57:;
-if (!get64(b, l4 + 520)) { goto L58; }
-rattle_dealloc(b, get64(b, l4 + 504));
-L58:;
-put8(b, l0, 0u);
-put64(b, l0 + 8ull, 0ull);
-copy(b, l0 + 16ull, l4 + 208ull, 160u);
 goto L4;
 L49:;
-put64(b, l4 + 16, get64(b, l4 + 392));
-put64(b, l4 + 24, get64(b, l4 + 400));
-put64(b, l4 + 32, get64(b, l4 + 408));
-put64(b, l4 + 40, get64(b, l4 + 416));
-l5 = get64(b, l4 + 464);
-l1 = get64(b, l4 + 456);
-l7 = get64(b, l4 + 448);
-l3 = get64(b, l4 + 440);
-l6 = get64(b, l4 + 424);
-if (!get64(b, l4 + 384)) { goto L59; }
-rattle_dealloc(b, get64(b, l4 + 368));
-L59:;
-f202(b, l4 + 24ull);
-if (!l3) { goto L60; }
-rattle_dealloc(b, l6);
+if (!l10) { goto L59; }
+l2 = l11;
 L60:;
-if (!l1) { goto L61; }
-l3 = l7;
-L62:;
-put64(b, l4 + 544, get64(b, l3 + 16));
-put64(b, l4 + 536, get64(b, l3 + 8));
-put64(b, l4 + 528, get64(b, l3));
-l3 = l3 + 24ull;
-f202(b, l4 + 528ull);
-l1 = l1 + 18446744073709551615ull;
-if (l1 != 0ull) { goto L62; }
+copy(b, l5 + 288ull, l2, 152u);
+l2 = l2 + 152ull;
+f196(b, l5 + 288ull);
+l10 = l10 + 18446744073709551615ull;
+if (l10 != 0ull) { goto L60; }
+L59:;
+if (!l9) { goto L61; }
+rattle_dealloc(b, l11);
 L61:;
-if (!l5) { goto L63; }
-rattle_dealloc(b, l7);
+if (!l6) { goto L62; }
+rattle_dealloc(b, l8);
+L62:;
+if (!get64(b, l5 + 192)) { goto L63; }
+rattle_dealloc(b, get64(b, l5 + 176));
 L63:;
-l5 = get64(b, l4 + 496);
-l7 = get64(b, l4 + 480);
-l1 = get64(b, l4 + 488);
-if (!l1) { goto L64; }
-l3 = l7;
-L65:;
-copy(b, l4 + 528ull, l3, 152u);
-l3 = l3 + 152ull;
-f196(b, l4 + 528ull);
-l1 = l1 + 18446744073709551615ull;
-if (l1 != 0ull) { goto L65; }
+put64(b, l5 + 56, get64(b, l5 + 224));
+put64(b, l5 + 48, get64(b, l5 + 216));
+put64(b, l5 + 40, get64(b, l5 + 208));
+f203(b, l5 + 40ull);
+l10 = get64(b, l5 + 272);
+l4 = get64(b, l5 + 264);
+l1 = get64(b, l5 + 256);
+if (!get64(b, l5 + 248)) { goto L64; }
+rattle_dealloc(b, get64(b, l5 + 232));
 L64:;
-if (!l5) { goto L66; }
-rattle_dealloc(b, l7);
+if (!l4) { goto L65; }
+l2 = l1;
 L66:;
-if (!get64(b, l4 + 520)) { goto L67; }
-rattle_dealloc(b, get64(b, l4 + 504));
+put64(b, l5 + 304, get64(b, l2 + 16));
+put64(b, l5 + 296, get64(b, l2 + 8));
+put64(b, l5 + 288, get64(b, l2));
+l2 = l2 + 24ull;
+f203(b, l5 + 288ull);
+l4 = l4 + 18446744073709551615ull;
+if (l4 != 0ull) { goto L66; }
+L65:;
+if (!l10) { goto L67; }
+rattle_dealloc(b, l1);
 L67:;
 put8(b, l0, 1u);
 fill(b, l0 + 8ull, 0u, 168u);
 goto L4;
 L48:;
-copy(b, l4 + 48ull, l4 + 368ull, 112u);
-put64(b, l0 + 8ull, 1ull);
 put8(b, l0, 0u);
-put64(b, l4 + 176, get64(b, l4 + 496));
-put64(b, l4 + 168, get64(b, l4 + 488));
-put64(b, l4 + 160, get64(b, l4 + 480));
-put64(b, l4 + 184, get64(b, l4 + 504));
-put64(b, l4 + 192, get64(b, l4 + 512));
-put64(b, l4 + 200, get64(b, l4 + 520));
-copy(b, l0 + 16ull, l4 + 48ull, 160u);
+put64(b, l0 + 8ull, 1ull);
+copy(b, l0 + 16ull, l5 + 176ull, 112u);
+put64(b, l0 + 168ull, l6);
+put64(b, l0 + 160ull, l7);
+put64(b, l0 + 152ull, l8);
+put64(b, l0 + 144ull, l9);
+put64(b, l0 + 136ull, l10);
+put64(b, l0 + 128ull, l11);
 goto L4;
 L5:;
 abort();
 L4:;
-SP = l4 + 1312ull;
+SP = l5 + 1072ull;
 }
 
-FN void f202(B b, u64 l0) {
+FN void f203(B b, u64 l0) {
 u32 l7 = 0;
 u64 l1 = 0, l2 = 0, l3 = 0, l4 = 0, l5 = 0, l6 = 0;
 l1 = get64(b, l0 + 16);
@@ -39546,7 +39747,7 @@ rattle_dealloc(b, l2);
 L8:;
 }
 
-FN u32 f203(B b, u64 l0) {
+FN u32 f204(B b, u64 l0) {
 u32 l6 = 0;
 u64 l1 = 0, l2 = 0, l3 = 0, l4 = 0, l5 = 0;
 l1 = SP - 32ull;
@@ -39578,7 +39779,7 @@ SP = l1 + 32ull;
 return l6;
 }
 
-FN u32 f204(B b, u64 l0) {
+FN u32 f205(B b, u64 l0) {
 u32 l6 = 0;
 u64 l1 = 0, l2 = 0, l3 = 0, l4 = 0, l5 = 0;
 l1 = SP - 32ull;
@@ -39610,7 +39811,7 @@ SP = l1 + 32ull;
 return l6;
 }
 
-FN u32 f205(B b, u64 l0, u64 l1) {
+FN u32 f206(B b, u64 l0, u64 l1) {
 u32 l13 = 0, t0, t1, t2, t3, t4;
 u64 l2 = 0, l3 = 0, l4 = 0, l5 = 0, l6 = 0, l7 = 0, l8 = 0, l9 = 0, l10 = 0, l11 = 0, l12 = 0;
 l2 = SP - 96ull;
@@ -39650,7 +39851,7 @@ l1 = get64(b, l1 + 16ull);
 l4 = get64(b, l1);
 l1 = get64(b, l1 + 8ull);
 L7:;
-t0 = f223(b, l2 + 24ull, l4, l1);
+t0 = f224(b, l2 + 24ull, l4, l1);
 if (!(t0 & 255u)) { goto L3; }
 goto L2;
 L5:;
@@ -39666,7 +39867,7 @@ l6 = l2 + 95ull;
 l7 = get64(b, l2 + 40);
 l1 = get64(b, l2 + 32);
 if (l7 != l1) { goto L14; }
-t1 = f224(b, l2 + 24ull, 1ull);
+t1 = f225(b, l2 + 24ull, 1ull);
 if (!t1) { goto L2; }
 l7 = get64(b, l2 + 40);
 l6 = get64(b, l2 + 24);
@@ -39676,7 +39877,7 @@ put8(b, l6 + l1, 72u);
 l8 = l1 + 1ull;
 put64(b, l2 + 32, l8);
 if (l3 <= (l7 - l8)) { goto L15; }
-t2 = f224(b, l2 + 24ull, l3);
+t2 = f225(b, l2 + 24ull, l3);
 if (!t2) { goto L2; }
 l6 = get64(b, l2 + 24);
 l7 = get64(b, l2 + 40);
@@ -39724,11 +39925,11 @@ put64(b, l2 + 64, 0ull);
 put64(b, l2 + 56, 0ull);
 put64(b, l2 + 48, 0ull);
 f161(b, l2 + 8ull, l2 + 48ull, get64(b, l1 + 8ull));
-t3 = f223(b, l2 + 24ull, get64(b, l2 + 8), get64(b, l2 + 16));
+t3 = f224(b, l2 + 24ull, get64(b, l2 + 8), get64(b, l2 + 16));
 if (t3 & 255u) { goto L2; }
 L3:;
 l1 = get64(b, l2 + 24);
-t4 = f220(b, l0, l1, get64(b, l2 + 32));
+t4 = f221(b, l0, l1, get64(b, l2 + 32));
 l13 = t4 & 255u;
 if (!get64(b, l2 + 40)) { goto L1; }
 rattle_dealloc(b, l1);
@@ -39742,7 +39943,7 @@ SP = l2 + 96ull;
 return l13;
 }
 
-FN void f206(B b, u64 l0) {
+FN void f207(B b, u64 l0) {
 u32 l23 = 0, l24 = 0;
 u64 l1 = 0, l2 = 0, l3 = 0, l4 = 0, l5 = 0, l6 = 0, l7 = 0, l8 = 0, l9 = 0, l10 = 0, l11 = 0, l12 = 0, l13 = 0, l14 = 0, l15 = 0, l16 = 0, l17 = 0, l18 = 0, l19 = 0, l20 = 0, l21 = 0, l22 = 0;
 l1 = SP - 80ull;
@@ -39804,7 +40005,7 @@ if (!l14) { goto L8; }
 l16 = l2 + (l12 << 3);
 copy(b, l16, l16 + 8ull, l14);
 L8:;
-f206(b, l11);
+f207(b, l11);
 l21 = get64(b, l0 + 24ull);
 l22 = get64(b, l0 + 8ull);
 l15 = 0ull;
@@ -39973,10 +40174,10 @@ if (!l14) { goto L29; }
 l16 = l2 + (l12 << 3);
 copy(b, l16, l16 + 8ull, l14);
 L29:;
-f206(b, l6);
+f207(b, l6);
 goto L1;
 L2:;
-f225(b, l1);
+f226(b, l1);
 if (!(l24 & 65535u)) { goto L1; }
 l14 = l5 * 24ull;
 L30:;
@@ -39991,7 +40192,7 @@ rattle_dealloc(b, l0);
 SP = l1 + 80ull;
 }
 
-FN void f207(B b, u64 l0, u64 l1, u64 l2) {
+FN void f208(B b, u64 l0, u64 l1, u64 l2) {
 u64 l3 = 0, l4 = 0, l5 = 0, l6 = 0, l7 = 0, l8 = 0, l9 = 0, l10 = 0, l11 = 0, l12 = 0, l13 = 0, l14 = 0;
 l3 = SP;
 l4 = l0 + 8ull;
@@ -40134,7 +40335,7 @@ put64(b, l0 + 8ull, l5 + 1ull);
 put64(b, l0, l11);
 }
 
-FN void f208(B b, u64 l0, u64 l1, u32 l2) {
+FN void f209(B b, u64 l0, u64 l1, u32 l2) {
 u32 l13 = 0;
 u64 l3 = 0, l4 = 0, l5 = 0, l6 = 0, l7 = 0, l8 = 0, l9 = 0, l10 = 0, l11 = 0, l12 = 0;
 l3 = l0 + 8ull;
@@ -40231,7 +40432,7 @@ put64(b, l0 + 8ull, l4 + 1ull);
 put64(b, l0, l6);
 }
 
-FN void f209(B b, u64 l0, u64 l1, u64 l2) {
+FN void f210(B b, u64 l0, u64 l1, u64 l2) {
 u64 l3 = 0, l4 = 0, l5 = 0, l6 = 0, l7 = 0, l8 = 0, l9 = 0, l10 = 0, l11 = 0, l12 = 0, l13 = 0, l14 = 0, l15 = 0;
 l3 = l0 + 8ull;
 l4 = get64(b, l3);
@@ -40333,7 +40534,7 @@ put64(b, l0 + 8ull, l4 + 1ull);
 put64(b, l0, l6);
 }
 
-FN u32 f210(B b, u64 l0) {
+FN u32 f211(B b, u64 l0) {
 u32 l6 = 0;
 u64 l1 = 0, l2 = 0, l3 = 0, l4 = 0, l5 = 0;
 l1 = SP - 32ull;
@@ -40365,7 +40566,7 @@ SP = l1 + 32ull;
 return l6;
 }
 
-FN void f211(B b, u64 l0, u64 l1, u64 l2) {
+FN void f212(B b, u64 l0, u64 l1, u64 l2) {
 u32 l6 = 0, t0;
 u64 l3 = 0, l4 = 0, l5 = 0;
 l3 = SP - 48ull;
@@ -40424,7 +40625,7 @@ L1:;
 SP = l3 + 48ull;
 }
 
-FN void f212(B b, u64 l0, u64 l1, u64 l2, u64 l3) {
+FN void f213(B b, u64 l0, u64 l1, u64 l2, u64 l3) {
 u32 l20 = 0, l21 = 0, l22 = 0, l23 = 0, t0, t1, t2, t3, t4, t5, t6, t7, t8, t9, t10, t11;
 u64 l4 = 0, l5 = 0, l6 = 0, l7 = 0, l8 = 0, l9 = 0, l10 = 0, l11 = 0, l12 = 0, l13 = 0, l14 = 0, l15 = 0, l16 = 0, l17 = 0, l18 = 0, l19 = 0;
 l4 = SP - 464ull;
@@ -40469,7 +40670,7 @@ l8 = 0ull;
 L13:;
 l6 = get64(b, l2 + (l8 << 3));
 if (get64(b, l4 + 240) != l5) { goto L14; }
-t0 = f227(b, l4 + 224ull);
+t0 = f228(b, l4 + 224ull);
 if (!t0) { goto L11; }
 l5 = get64(b, l4 + 232);
 L14:;
@@ -40504,7 +40705,7 @@ l12 = get64(b, l4 + 200) + l12;
 if (get8(b, l12)) { goto L17; }
 put8(b, l12, 1u);
 if (get64(b, l4 + 240) != l5) { goto L19; }
-t1 = f227(b, l4 + 224ull);
+t1 = f228(b, l4 + 224ull);
 if (!t1) { goto L6; }
 l5 = get64(b, l4 + 232);
 l7 = l5 + 1ull;
@@ -40562,7 +40763,7 @@ if (!(u32)(!get64(b, l11 + 40ull))) { goto L26; }
 l5 = l7;
 goto L17;
 L26:;
-f228(b, l4 + 272ull, l1, l6);
+f229(b, l4 + 272ull, l1, l6);
 if (get8(b, l4 + 272)) { goto L6; }
 if (get8(b, l4 + 280) == 1u) { goto L28; }
 l5 = l7;
@@ -40578,7 +40779,7 @@ if (get8(b, l5)) { goto L33; }
 if (get8(b, l5 + 8ull) != 1u) { goto L33; }
 l12 = get64(b, l5 + 16ull);
 if (get64(b, l4 + 240) != l7) { goto L34; }
-t2 = f227(b, l4 + 224ull);
+t2 = f228(b, l4 + 224ull);
 if (!t2) { goto L30; }
 l10 = get64(b, l4 + 224);
 l7 = get64(b, l4 + 232);
@@ -40607,7 +40808,7 @@ goto L17;
 L18:;
 l7 = get64(b, l4 + 256);
 if (get64(b, l4 + 264) != l7) { goto L35; }
-t3 = f229(b, l4 + 248ull);
+t3 = f230(b, l4 + 248ull);
 if (!t3) { goto L6; }
 l5 = get64(b, l4 + 232);
 l7 = get64(b, l4 + 256);
@@ -40687,7 +40888,7 @@ put64(b, l4 + 352, 0ull);
 put64(b, l4 + 360, 0ull);
 put64(b, l4 + 368, 0ull);
 put64(b, l4 + 376, 0ull);
-f228(b, l4 + 200ull, l1, l5);
+f229(b, l4 + 200ull, l1, l5);
 if (get8(b, l4 + 200)) { goto L50; }
 if (get8(b, l4 + 208) != 1u) { goto L61; }
 l17 = get64(b, l4 + 248);
@@ -40704,7 +40905,7 @@ put64(b, l4 + 288, 0ull);
 put64(b, l4 + 280, 0ull);
 put64(b, l4 + 272, 0ull);
 f161(b, l4 + 72ull, l4 + 272ull, l6);
-t4 = f220(b, l4 + 408ull, get64(b, l4 + 72), get64(b, l4 + 80));
+t4 = f221(b, l4 + 408ull, get64(b, l4 + 72), get64(b, l4 + 80));
 if (t4 & 255u) { goto L59; }
 put64(b, l4 + 304, 0ull);
 put64(b, l4 + 296, 0ull);
@@ -40712,7 +40913,7 @@ put64(b, l4 + 288, 0ull);
 put64(b, l4 + 280, 0ull);
 put64(b, l4 + 272, 0ull);
 f161(b, l4 + 56ull, l4 + 272ull, l19);
-t5 = f220(b, l4 + 408ull, get64(b, l4 + 56), get64(b, l4 + 64));
+t5 = f221(b, l4 + 408ull, get64(b, l4 + 56), get64(b, l4 + 64));
 if (t5 & 255u) { goto L62; }
 if (!l12) { goto L64; }
 l6 = l18;
@@ -40737,7 +40938,7 @@ l19 = get64(b, l4 + 416);
 if (get64(b, l4 + 424) != l19) { goto L73; }
 l20 = 1u;
 l22 = 1u;
-t6 = f230(b, l4 + 408ull, 1ull);
+t6 = f231(b, l4 + 408ull, 1ull);
 if (!t6) { goto L67; }
 l19 = get64(b, l4 + 416);
 L73:;
@@ -40748,14 +40949,14 @@ put64(b, l4 + 296, 0ull);
 put64(b, l4 + 288, 0ull);
 put64(b, l4 + 280, 0ull);
 put64(b, l4 + 272, 0ull);
-f231(b, l4 + 40ull, l4 + 272ull, l23);
-t7 = f220(b, l4 + 408ull, get64(b, l4 + 40), get64(b, l4 + 48));
+f232(b, l4 + 40ull, l4 + 272ull, l23);
+t7 = f221(b, l4 + 408ull, get64(b, l4 + 40), get64(b, l4 + 48));
 l20 = t7 & 255u;
 goto L68;
 L72:;
 l19 = get64(b, l4 + 416);
 if (get64(b, l4 + 424) != l19) { goto L74; }
-t8 = f230(b, l4 + 408ull, 1ull);
+t8 = f231(b, l4 + 408ull, 1ull);
 if (t8) { goto L75; }
 l6 = get64(b, l4 + 424);
 goto L60;
@@ -40769,11 +40970,11 @@ L70:;
 put64(b, l16, 0ull);
 put64(b, l16 + 8, 0ull);
 put64(b, l4 + 432, 1ull);
-t9 = f205(b, l4 + 408ull, l4 + 432ull);
+t9 = f206(b, l4 + 408ull, l4 + 432ull);
 l20 = t9 & 255u;
 goto L68;
 L69:;
-t10 = f205(b, l4 + 408ull, get64(b, l6 + 8ull));
+t10 = f206(b, l4 + 408ull, get64(b, l6 + 8ull));
 l20 = t10 & 255u;
 L68:;
 l22 = l20;
@@ -40812,7 +41013,7 @@ put64(b, l4 + 392, 0ull);
 put64(b, l4 + 384, 0ull);
 goto L58;
 L61:;
-f232(b, l4 + 352ull, l5);
+f233(b, l4 + 352ull, l5);
 if (get8(b, l4 + 352)) { goto L50; }
 put64(b, l4 + 344, get64(b, l13 + 16));
 put64(b, l4 + 336, get64(b, l13 + 8));
@@ -40849,7 +41050,7 @@ l20 = 1u;
 l22 = 0u;
 goto L55;
 L56:;
-f214(b, l4 + 32ull, l4 + 176ull, l4 + 328ull);
+f215(b, l4 + 32ull, l4 + 176ull, l4 + 328ull);
 if (get8(b, l4 + 32)) { goto L50; }
 l20 = 2u;
 l22 = get32(b, l4 + 36);
@@ -40877,7 +41078,7 @@ put64(b, l4 + 224, 0ull);
 put64(b, l4 + 216, 0ull);
 put64(b, l4 + 208, 0ull);
 put64(b, l4 + 200, 0ull);
-f228(b, l4 + 200ull, l1, l7);
+f229(b, l4 + 200ull, l1, l7);
 if (get8(b, l4 + 200)) { goto L49; }
 if (get8(b, l4 + 208) != 1u) { goto L48; }
 l13 = get64(b, l4 + 232);
@@ -40927,7 +41128,7 @@ put64(b, l4 + 352, l4 + 456ull);
 goto L46;
 L50:;
 if (get8(b, l4 + 176) != 1u) { goto L90; }
-f233(b, get64(b, l4 + 184));
+f234(b, get64(b, l4 + 184));
 L90:;
 if (l21) { goto L91; }
 rattle_dealloc(b, l10);
@@ -40936,14 +41137,14 @@ if (!(u32)(!l15)) { goto L7; }
 goto L2;
 L49:;
 if (get8(b, l4 + 176) != 1u) { goto L92; }
-f233(b, get64(b, l4 + 184));
+f234(b, get64(b, l4 + 184));
 L92:;
 rattle_dealloc(b, l10);
 if (!(u32)(!l15)) { goto L7; }
 goto L2;
 L48:;
 if (get8(b, l4 + 176) != 1u) { goto L93; }
-f233(b, get64(b, l4 + 184));
+f234(b, get64(b, l4 + 184));
 L93:;
 if (l21) { goto L94; }
 rattle_dealloc(b, l10);
@@ -40984,14 +41185,14 @@ l11 = (u64)((s64)l5 >> 63) ^ l5;
 if (l11 > 4294967295ull) { goto L97; }
 if ((get64(b, l1 + 64ull) << 1) > l11) { goto L45; }
 L97:;
-f232(b, l4 + 200ull, l5);
+f233(b, l4 + 200ull, l5);
 if (get8(b, l4 + 200)) { goto L45; }
-f214(b, l4 + 8ull, l4 + 120ull, l12);
+f215(b, l4 + 8ull, l4 + 120ull, l12);
 if (get8(b, l4 + 8)) { goto L45; }
 l20 = get32(b, l4 + 12);
 L96:;
 if (get64(b, l4 + 368) != l6) { goto L100; }
-t11 = f234(b, l4 + 352ull);
+t11 = f235(b, l4 + 352ull);
 if (!t11) { goto L44; }
 l7 = get64(b, l4 + 352);
 l6 = get64(b, l4 + 360);
@@ -41036,7 +41237,7 @@ L42:;
 l20 = 1u;
 L41:;
 if (get8(b, l4 + 120) != 1u) { goto L103; }
-f233(b, get64(b, l4 + 128));
+f234(b, get64(b, l4 + 128));
 L103:;
 if (l21) { goto L104; }
 rattle_dealloc(b, l10);
@@ -41069,7 +41270,7 @@ L1:;
 SP = l4 + 464ull;
 }
 
-FN void f213(B b, u64 l0, u64 l1, u64 l2, u64 l3) {
+FN void f214(B b, u64 l0, u64 l1, u64 l2, u64 l3) {
 u32 t0, t1, t2;
 u64 l4 = 0;
 l4 = SP - 32ull;
@@ -41077,11 +41278,11 @@ SP = l4;
 put64(b, l4 + 8, 0ull);
 put64(b, l4 + 16, 0ull);
 put64(b, l4, l4 + 31ull);
-t0 = f219(b, l4, l1, l2, l3);
+t0 = f220(b, l4, l1, l2, l3);
 if (t0 & 255u) { goto L4; }
-t1 = f219(b, l4, l1, l2, l3 + 1ull);
+t1 = f220(b, l4, l1, l2, l3 + 1ull);
 if (t1 & 255u) { goto L3; }
-t2 = f219(b, l4, l1, l2, l3 + 2ull);
+t2 = f220(b, l4, l1, l2, l3 + 2ull);
 if (t2 & 255u) { goto L2; }
 put8(b, l0, 0u);
 put64(b, l0 + 8ull, get64(b, l4));
@@ -41118,7 +41319,7 @@ L1:;
 SP = l4 + 32ull;
 }
 
-FN void f214(B b, u64 l0, u64 l1, u64 l2) {
+FN void f215(B b, u64 l0, u64 l1, u64 l2) {
 u32 l26 = 0, l27 = 0, l28 = 0, l29 = 0;
 u64 l3 = 0, l4 = 0, l5 = 0, l6 = 0, l7 = 0, l8 = 0, l9 = 0, l10 = 0, l11 = 0, l12 = 0, l13 = 0, l14 = 0, l15 = 0, l16 = 0, l17 = 0, l18 = 0, l19 = 0, l20 = 0, l21 = 0, l22 = 0, l23 = 0, l24 = 0, l25 = 0;
 l3 = SP - 352ull;
@@ -41129,13 +41330,13 @@ put64(b, l3 + 136, get64(b, l2));
 l26 = get8(b, l1);
 if (l26 != 1u) { goto L3; }
 l4 = get64(b, l1 + 8ull);
-f236(b, l3 + 120ull, l4, l3 + 136ull);
+f237(b, l3 + 120ull, l4, l3 + 136ull);
 l5 = get64(b, l3 + 128);
 if (!get8(b, l3 + 120)) { goto L4; }
 L5:;
 if (!get16(b, l4 + 2ull)) { goto L3; }
 l4 = get64(b, (l4 + (l5 << 3)) + 432ull);
-f236(b, l3 + 104ull, l4, l3 + 136ull);
+f237(b, l3 + 104ull, l4, l3 + 136ull);
 l5 = get64(b, l3 + 112);
 if (get8(b, l3 + 104)) { goto L5; }
 L4:;
@@ -41167,7 +41368,7 @@ put64(b, l1, 1ull);
 if (l26 == 1u) { goto L1; }
 L8:;
 l26 = (u32)((l4 < 4294967296ull) ? l4 : 4294967296ull);
-f236(b, l3 + 72ull, l6, l3 + 184ull);
+f237(b, l3 + 72ull, l6, l3 + 184ull);
 l7 = l1 + 8ull;
 l27 = get16(b, l6 + 2ull);
 l8 = ((u64)l27) & 65535ull;
@@ -41185,7 +41386,7 @@ l11 = l4;
 l12 = l10;
 l9 = l12 << 3;
 l4 = get64(b, (l11 + l9) + 432ull);
-f236(b, l3 + 56ull, l4, l3 + 184ull);
+f237(b, l3 + 56ull, l4, l3 + 184ull);
 l10 = get64(b, l3 + 64);
 l5 = l10 + (l5 << 4);
 if (!get8(b, l3 + 56)) { goto L17; }
@@ -41456,9 +41657,9 @@ put64(b, l21, l10);
 put64(b, l3 + 224, get64(b, l3 + 248));
 put64(b, l3 + 232, get64(b, l3 + 256));
 put64(b, l3 + 240, get64(b, l3 + 264));
-f207(b, l3 + 272ull, l19, l3 + 224ull);
-f208(b, l15, l19, l29);
-f209(b, l14, l19 + 1ull, l12);
+f208(b, l3 + 272ull, l19, l3 + 224ull);
+f209(b, l15, l19, l29);
+f210(b, l14, l19 + 1ull, l12);
 l11 = get64(b, l3 + 344);
 put16(b, l11, (u32)get64(b, l3 + 280));
 put64(b, l17, l11);
@@ -41502,8 +41703,8 @@ l27 = get16(b, l4 + 2ull);
 put64(b, l3 + 336, l27 ? 16ull : 0ull);
 put64(b, l3 + 328, l27 ? (l2 + 1ull) : 0ull);
 l4 = l5 & 15ull;
-f207(b, l3 + 272ull, l4, l3 + 160ull);
-f208(b, l3 + 296ull, l4, l26);
+f208(b, l3 + 272ull, l4, l3 + 160ull);
+f209(b, l3 + 296ull, l4, l26);
 l4 = get64(b, l3 + 344);
 put16(b, l4, (u32)get64(b, l3 + 280));
 put64(b, l10, l4);
@@ -41540,7 +41741,7 @@ L1:;
 abort();
 }
 
-FN void f215(B b, u64 l0, u32 l1, u32 l2) {
+FN void f216(B b, u64 l0, u32 l1, u32 l2) {
 u32 t0, t1;
 u64 l3 = 0;
 l3 = SP - 144ull;
@@ -41553,16 +41754,16 @@ put64(b, l3 + 88, 0ull);
 put64(b, l3 + 96, 0ull);
 put64(b, l3 + 104, 0ull);
 put64(b, l3 + 112, l3 + 143ull);
-f231(b, l3 + 16ull, l3 + 72ull, l1);
-t0 = f220(b, l3 + 112ull, get64(b, l3 + 16), get64(b, l3 + 24));
+f232(b, l3 + 16ull, l3 + 72ull, l1);
+t0 = f221(b, l3 + 112ull, get64(b, l3 + 16), get64(b, l3 + 24));
 if (t0 & 255u) { goto L3; }
 put64(b, l3 + 64, 0ull);
 put64(b, l3 + 56, 0ull);
 put64(b, l3 + 48, 0ull);
 put64(b, l3 + 40, 0ull);
 put64(b, l3 + 32, 0ull);
-f231(b, l3, l3 + 32ull, l2);
-t1 = f220(b, l3 + 112ull, get64(b, l3), get64(b, l3 + 8));
+f232(b, l3, l3 + 32ull, l2);
+t1 = f221(b, l3 + 112ull, get64(b, l3), get64(b, l3 + 8));
 if (t1 & 255u) { goto L2; }
 put8(b, l0, 0u);
 put64(b, l0 + 8ull, get64(b, l3 + 112));
@@ -41590,7 +41791,7 @@ L1:;
 SP = l3 + 144ull;
 }
 
-FN u32 f216(B b, u64 l0) {
+FN u32 f217(B b, u64 l0) {
 u32 l6 = 0;
 u64 l1 = 0, l2 = 0, l3 = 0, l4 = 0, l5 = 0;
 l1 = SP - 32ull;
@@ -41622,7 +41823,7 @@ SP = l1 + 32ull;
 return l6;
 }
 
-FN u32 f217(B b, u64 l0) {
+FN u32 f218(B b, u64 l0) {
 u32 l6 = 0;
 u64 l1 = 0, l2 = 0, l3 = 0, l4 = 0, l5 = 0;
 l1 = SP - 32ull;
@@ -41654,7 +41855,7 @@ SP = l1 + 32ull;
 return l6;
 }
 
-FN void f218(B b, u64 l0) {
+FN void f219(B b, u64 l0) {
 u32 l23 = 0, l24 = 0;
 u64 l1 = 0, l2 = 0, l3 = 0, l4 = 0, l5 = 0, l6 = 0, l7 = 0, l8 = 0, l9 = 0, l10 = 0, l11 = 0, l12 = 0, l13 = 0, l14 = 0, l15 = 0, l16 = 0, l17 = 0, l18 = 0, l19 = 0, l20 = 0, l21 = 0, l22 = 0;
 l1 = SP - 80ull;
@@ -41716,7 +41917,7 @@ if (!l14) { goto L8; }
 l16 = l2 + (l12 << 3);
 copy(b, l16, l16 + 8ull, l14);
 L8:;
-f218(b, l11);
+f219(b, l11);
 l21 = get64(b, l0 + 24ull);
 l22 = get64(b, l0 + 8ull);
 l15 = 0ull;
@@ -41885,10 +42086,10 @@ if (!l14) { goto L29; }
 l16 = l2 + (l12 << 3);
 copy(b, l16, l16 + 8ull, l14);
 L29:;
-f218(b, l6);
+f219(b, l6);
 goto L1;
 L2:;
-f225(b, l1);
+f226(b, l1);
 if (!(l24 & 65535u)) { goto L1; }
 l14 = l5 * 24ull;
 L30:;
@@ -41903,7 +42104,7 @@ rattle_dealloc(b, l0);
 SP = l1 + 80ull;
 }
 
-FN u32 f219(B b, u64 l0, u64 l1, u64 l2, u64 l3) {
+FN u32 f220(B b, u64 l0, u64 l1, u64 l2, u64 l3) {
 u32 l7 = 0, t0, t1, t2;
 u64 l4 = 0, l5 = 0, l6 = 0;
 l4 = SP - 32ull;
@@ -41920,28 +42121,28 @@ if (!get64(b, get64(b, l1 + 56ull) + (l2 * 120ull))) { goto L2; }
 if (get64(b, l1 + 88ull) <= l2) { goto L2; }
 l2 = get64(b, l1 + 80ull) + (l2 * 24ull);
 if (get64(b, l2 + 8ull) <= l3) { goto L3; }
-t0 = f205(b, l0, get64(b, l2) + (l3 * 24ull));
+t0 = f206(b, l0, get64(b, l2) + (l3 * 24ull));
 l7 = t0 & 255u;
 goto L1;
 L3:;
 put64(b, l4 + 24, 0ull);
 put64(b, l4 + 16, 0ull);
 put64(b, l4 + 8, 0ull);
-t1 = f205(b, l0, l4 + 8ull);
+t1 = f206(b, l0, l4 + 8ull);
 l7 = t1 & 255u;
 goto L1;
 L2:;
 put64(b, l4 + 24, 0ull);
 put64(b, l4 + 16, 0ull);
 put64(b, l4 + 8, 0ull);
-t2 = f205(b, l0, l4 + 8ull);
+t2 = f206(b, l0, l4 + 8ull);
 l7 = t2 & 255u;
 L1:;
 SP = l4 + 32ull;
 return l7;
 }
 
-FN u32 f220(B b, u64 l0, u64 l1, u64 l2) {
+FN u32 f221(B b, u64 l0, u64 l1, u64 l2) {
 u32 l6 = 0, l7 = 0, t0, t1, t2;
 u64 l3 = 0, l4 = 0, l5 = 0;
 if (l2 != 0ull) { goto L3; }
@@ -41952,7 +42153,7 @@ l3 = get64(b, l0 + 8ull);
 L4:;
 l4 = l0 + 16ull;
 if (get64(b, l4) != l3) { goto L5; }
-t0 = f224(b, l0, 1ull);
+t0 = f225(b, l0, 1ull);
 if (t0) { goto L6; }
 return 1u;
 L6:;
@@ -41965,7 +42166,7 @@ l3 = l3 + 1ull;
 put64(b, l5, l3);
 l7 = get8(b, l1);
 if (get64(b, l4) != l3) { goto L7; }
-t1 = f224(b, l0, 1ull);
+t1 = f225(b, l0, 1ull);
 if (!t1) { goto L1; }
 l3 = get64(b, l0 + 8ull);
 L7:;
@@ -41977,7 +42178,7 @@ l2 = l2 + 18446744073709551615ull;
 if (l2 != 0ull) { goto L4; }
 L2:;
 if (get64(b, l0 + 16ull) != l3) { goto L8; }
-t2 = f224(b, l0, 1ull);
+t2 = f225(b, l0, 1ull);
 if (t2) { goto L9; }
 return 1u;
 L9:;
@@ -41990,7 +42191,7 @@ L1:;
 return l6;
 }
 
-FN void f221(B b, u64 l0, u64 l1, u64 l2, u64 l3, u64 l4) {
+FN void f222(B b, u64 l0, u64 l1, u64 l2, u64 l3, u64 l4) {
 u32 t0;
 u64 l5 = 0;
 l5 = SP - 32ull;
@@ -42000,7 +42201,7 @@ put64(b, l5 + 16, 0ull);
 put64(b, l5, l5 + 31ull);
 if (l3 >= l4) { goto L2; }
 L4:;
-t0 = f219(b, l5, l1, l2, l3);
+t0 = f220(b, l5, l1, l2, l3);
 if (t0 & 255u) { goto L3; }
 l3 = l3 + 1ull;
 if (l4 == l3) { goto L2; }
@@ -42023,7 +42224,7 @@ L1:;
 SP = l5 + 32ull;
 }
 
-FN u32 f222(B b, u64 l0) {
+FN u32 f223(B b, u64 l0) {
 u32 l6 = 0;
 u64 l1 = 0, l2 = 0, l3 = 0, l4 = 0, l5 = 0;
 l1 = SP - 32ull;
@@ -42055,7 +42256,7 @@ SP = l1 + 32ull;
 return l6;
 }
 
-FN u32 f223(B b, u64 l0, u64 l1, u64 l2) {
+FN u32 f224(B b, u64 l0, u64 l1, u64 l2) {
 u32 l19 = 0, l20 = 0, l21 = 0, t0, t1, t2, t3, t4, t5, t6, t7, t8, t9, t10, t11;
 u64 l3 = 0, l4 = 0, l5 = 0, l6 = 0, l7 = 0, l8 = 0, l9 = 0, l10 = 0, l11 = 0, l12 = 0, l13 = 0, l14 = 0, l15 = 0, l16 = 0, l17 = 0, l18 = 0;
 l3 = SP - 80ull;
@@ -42157,7 +42358,7 @@ l8 = l0 + 16ull;
 l7 = l0 + 8ull;
 l6 = get64(b, l7);
 if (get64(b, l8) != l6) { goto L19; }
-t0 = f224(b, l0, 1ull);
+t0 = f225(b, l0, 1ull);
 if (t0) { goto L20; }
 l20 = 1u;
 goto L16;
@@ -42169,7 +42370,7 @@ l9 = l6 + 1ull;
 put64(b, l7, l9);
 l12 = get64(b, l8);
 if (l2 <= (l12 - l9)) { goto L21; }
-t1 = f224(b, l0, l2);
+t1 = f225(b, l0, l2);
 if (t1) { goto L22; }
 l20 = 1u;
 goto L16;
@@ -42296,7 +42497,7 @@ if ((l5 | l7) != 0ull) { goto L43; }
 l20 = (u32)(l11 == l6);
 L45:;
 if (!l20) { goto L47; }
-t2 = f224(b, l0, 1ull);
+t2 = f225(b, l0, 1ull);
 if (t2) { goto L48; }
 l20 = 1u;
 goto L16;
@@ -42308,7 +42509,7 @@ put64(b, l0 + 8ull, l6 + 1ull);
 goto L17;
 L44:;
 if (l11 != l6) { goto L49; }
-t3 = f224(b, l0, 1ull);
+t3 = f225(b, l0, 1ull);
 if (t3) { goto L50; }
 l20 = 1u;
 goto L16;
@@ -42320,7 +42521,7 @@ l16 = l6 + 1ull;
 put64(b, l0 + 8ull, l16);
 l17 = get64(b, l0 + 16ull);
 if (l7 <= (l17 - l16)) { goto L51; }
-t4 = f224(b, l0, l7);
+t4 = f225(b, l0, l7);
 if (t4) { goto L52; }
 l20 = 1u;
 goto L16;
@@ -42361,7 +42562,7 @@ copy(b, l2, l4, l7);
 goto L42;
 L43:;
 if (l11 != l6) { goto L57; }
-t5 = f224(b, l0, 1ull);
+t5 = f225(b, l0, 1ull);
 if (t5) { goto L58; }
 l20 = 1u;
 goto L16;
@@ -42373,7 +42574,7 @@ l16 = l6 + 1ull;
 put64(b, l0 + 8ull, l16);
 l17 = get64(b, l0 + 16ull);
 if (l7 <= (l17 - l16)) { goto L59; }
-t6 = f224(b, l0, l7);
+t6 = f225(b, l0, l7);
 if (t6) { goto L60; }
 l20 = 1u;
 goto L16;
@@ -42417,7 +42618,7 @@ put64(b, l0 + 16ull, l17);
 l1 = l16 + l7;
 put64(b, l0 + 8ull, l1);
 if (l5 <= (l17 - l1)) { goto L65; }
-t7 = f224(b, l0, l5);
+t7 = f225(b, l0, l5);
 if (t7) { goto L66; }
 l20 = 1u;
 goto L16;
@@ -42474,7 +42675,7 @@ f47(b, l3 + 8ull, l3 + 40ull, l14 + 13835058055282163712ull);
 l7 = get64(b, l3 + 16);
 l10 = get64(b, l3 + 8);
 if (l17 != l9) { goto L73; }
-t8 = f224(b, l0, 1ull);
+t8 = f225(b, l0, 1ull);
 if (t8) { goto L74; }
 l20 = 1u;
 goto L16;
@@ -42487,7 +42688,7 @@ l5 = l9 + 1ull;
 put64(b, l12, l5);
 l2 = get64(b, l15);
 if (l7 <= (l2 - l5)) { goto L75; }
-t9 = f224(b, l0, l7);
+t9 = f225(b, l0, l7);
 if (t9) { goto L76; }
 l20 = 1u;
 goto L16;
@@ -42539,7 +42740,7 @@ f47(b, l3 + 24ull, l3 + 40ull, 4611686018427387904ull - l14);
 l7 = get64(b, l3 + 32);
 l10 = get64(b, l3 + 24);
 if (l17 != l9) { goto L82; }
-t10 = f224(b, l0, 1ull);
+t10 = f225(b, l0, 1ull);
 if (t10) { goto L83; }
 l20 = 1u;
 goto L16;
@@ -42552,7 +42753,7 @@ l5 = l9 + 1ull;
 put64(b, l12, l5);
 l2 = get64(b, l15);
 if (l7 <= (l2 - l5)) { goto L84; }
-t11 = f224(b, l0, l7);
+t11 = f225(b, l0, l7);
 if (t11) { goto L85; }
 l20 = 1u;
 goto L16;
@@ -42605,7 +42806,7 @@ SP = l3 + 80ull;
 return l20;
 }
 
-FN u32 f224(B b, u64 l0, u64 l1) {
+FN u32 f225(B b, u64 l0, u64 l1) {
 u32 l6 = 0;
 u64 l2 = 0, l3 = 0, l4 = 0, l5 = 0;
 l2 = SP - 32ull;
@@ -42638,7 +42839,7 @@ SP = l2 + 32ull;
 return l6;
 }
 
-FN void f225(B b, u64 l0) {
+FN void f226(B b, u64 l0) {
 u32 l10 = 0;
 u64 l1 = 0, l2 = 0, l3 = 0, l4 = 0, l5 = 0, l6 = 0, l7 = 0, l8 = 0, l9 = 0;
 l1 = SP - 32ull;
@@ -42851,7 +43052,7 @@ put64(b, l3 + 16, l4);
 goto L1;
 L2:;
 l5 = l3 >> 1;
-f226(b, l2, l2 + ((l3 - l5) * 24ull), l5);
+f227(b, l2, l2 + ((l3 - l5) * 24ull), l5);
 L1:;
 l2 = get64(b, l0 + 24ull);
 l0 = get64(b, l0 + 32ull);
@@ -42959,7 +43160,7 @@ L15:;
 SP = l1 + 32ull;
 }
 
-FN void f226(B b, u64 l0, u64 l1, u64 l2) {
+FN void f227(B b, u64 l0, u64 l1, u64 l2) {
 u64 l3 = 0, l4 = 0, l5 = 0, l6 = 0;
 l1 = ((l2 * 24ull) + l1) + 18446744073709551592ull;
 L1:;
@@ -42980,7 +43181,7 @@ l2 = l2 + 18446744073709551615ull;
 if (l2 != 0ull) { goto L1; }
 }
 
-FN u32 f227(B b, u64 l0) {
+FN u32 f228(B b, u64 l0) {
 u32 l6 = 0;
 u64 l1 = 0, l2 = 0, l3 = 0, l4 = 0, l5 = 0;
 l1 = SP - 32ull;
@@ -43012,7 +43213,7 @@ SP = l1 + 32ull;
 return l6;
 }
 
-FN void f228(B b, u64 l0, u64 l1, u64 l2) {
+FN void f229(B b, u64 l0, u64 l1, u64 l2) {
 u32 l22 = 0, l23 = 0, l24 = 0, t0, t1;
 u64 l3 = 0, l4 = 0, l5 = 0, l6 = 0, l7 = 0, l8 = 0, l9 = 0, l10 = 0, l11 = 0, l12 = 0, l13 = 0, l14 = 0, l15 = 0, l16 = 0, l17 = 0, l18 = 0, l19 = 0, l20 = 0, l21 = 0;
 l3 = SP - 192ull;
@@ -43141,7 +43342,7 @@ put64(b, l3 + 168, 0ull);
 put64(b, l3 + 176, 0ull);
 l2 = get64(b, l4 + 40ull);
 put64(b, l3 + 160, l3 + 184ull);
-t0 = f235(b, l3 + 160ull);
+t0 = f236(b, l3 + 160ull);
 if (!t0) { goto L25; }
 l19 = get64(b, l3 + 160);
 l4 = get64(b, l3 + 168);
@@ -43226,7 +43427,7 @@ l18 = 0ull;
 l4 = l22 ? 0ull : l2;
 L39:;
 if (get64(b, l3 + 176) != l16) { goto L42; }
-t1 = f235(b, l3 + 160ull);
+t1 = f236(b, l3 + 160ull);
 if (!t1) { goto L24; }
 l19 = get64(b, l3 + 160);
 l16 = get64(b, l3 + 168);
@@ -43319,7 +43520,7 @@ L1:;
 SP = l3 + 192ull;
 }
 
-FN u32 f229(B b, u64 l0) {
+FN u32 f230(B b, u64 l0) {
 u32 l6 = 0;
 u64 l1 = 0, l2 = 0, l3 = 0, l4 = 0, l5 = 0;
 l1 = SP - 32ull;
@@ -43351,7 +43552,7 @@ SP = l1 + 32ull;
 return l6;
 }
 
-FN u32 f230(B b, u64 l0, u64 l1) {
+FN u32 f231(B b, u64 l0, u64 l1) {
 u32 l6 = 0;
 u64 l2 = 0, l3 = 0, l4 = 0, l5 = 0;
 l2 = SP - 32ull;
@@ -43384,7 +43585,7 @@ SP = l2 + 32ull;
 return l6;
 }
 
-FN void f231(B b, u64 l0, u64 l1, u32 l2) {
+FN void f232(B b, u64 l0, u64 l1, u32 l2) {
 u32 l7 = 0, t0;
 u64 l3 = 0, l4 = 0, l5 = 0, l6 = 0;
 l3 = (u64)l2;
@@ -43428,7 +43629,7 @@ put64(b, l0 + 8, 40ull - l4);
 put64(b, l0, l1 + l4);
 }
 
-FN void f232(B b, u64 l0, u64 l1) {
+FN void f233(B b, u64 l0, u64 l1) {
 u32 l13 = 0, t0, t1;
 u64 l2 = 0, l3 = 0, l4 = 0, l5 = 0, l6 = 0, l7 = 0, l8 = 0, l9 = 0, l10 = 0, l11 = 0, l12 = 0;
 l2 = SP - 96ull;
@@ -43436,7 +43637,7 @@ SP = l2;
 put64(b, l2 + 72, 0ull);
 put64(b, l2 + 80, 0ull);
 put64(b, l2 + 64, l2 + 95ull);
-t0 = f230(b, l2 + 64ull, 1ull);
+t0 = f231(b, l2 + 64ull, 1ull);
 l13 = t0;
 l3 = get64(b, l2 + 80);
 if (!l13) { goto L4; }
@@ -43454,7 +43655,7 @@ f161(b, l2 + 8ull, l2 + 24ull, l1);
 l7 = get64(b, l2 + 8);
 l1 = get64(b, l2 + 16);
 if (l1 <= (l3 - l6)) { goto L5; }
-t1 = f230(b, l2 + 64ull, l1);
+t1 = f231(b, l2 + 64ull, l1);
 if (!t1) { goto L3; }
 l4 = get64(b, l2 + 64);
 l3 = get64(b, l2 + 80);
@@ -43521,7 +43722,7 @@ L1:;
 SP = l2 + 96ull;
 }
 
-FN void f233(B b, u64 l0) {
+FN void f234(B b, u64 l0) {
 u32 l23 = 0, l24 = 0;
 u64 l1 = 0, l2 = 0, l3 = 0, l4 = 0, l5 = 0, l6 = 0, l7 = 0, l8 = 0, l9 = 0, l10 = 0, l11 = 0, l12 = 0, l13 = 0, l14 = 0, l15 = 0, l16 = 0, l17 = 0, l18 = 0, l19 = 0, l20 = 0, l21 = 0, l22 = 0;
 l1 = SP - 80ull;
@@ -43583,7 +43784,7 @@ if (!l14) { goto L8; }
 l16 = l2 + (l12 << 3);
 copy(b, l16, l16 + 8ull, l14);
 L8:;
-f233(b, l11);
+f234(b, l11);
 l21 = get64(b, l0 + 24ull);
 l22 = get64(b, l0 + 8ull);
 l15 = 0ull;
@@ -43752,10 +43953,10 @@ if (!l14) { goto L29; }
 l16 = l2 + (l12 << 3);
 copy(b, l16, l16 + 8ull, l14);
 L29:;
-f233(b, l6);
+f234(b, l6);
 goto L1;
 L2:;
-f225(b, l1);
+f226(b, l1);
 if (!(l24 & 65535u)) { goto L1; }
 l14 = l5 * 24ull;
 L30:;
@@ -43770,7 +43971,7 @@ rattle_dealloc(b, l0);
 SP = l1 + 80ull;
 }
 
-FN u32 f234(B b, u64 l0) {
+FN u32 f235(B b, u64 l0) {
 u32 l6 = 0;
 u64 l1 = 0, l2 = 0, l3 = 0, l4 = 0, l5 = 0;
 l1 = SP - 32ull;
@@ -43802,7 +44003,7 @@ SP = l1 + 32ull;
 return l6;
 }
 
-FN u32 f235(B b, u64 l0) {
+FN u32 f236(B b, u64 l0) {
 u32 l6 = 0;
 u64 l1 = 0, l2 = 0, l3 = 0, l4 = 0, l5 = 0;
 l1 = SP - 32ull;
@@ -43834,7 +44035,7 @@ SP = l1 + 32ull;
 return l6;
 }
 
-FN void f236(B b, u64 l0, u64 l1, u64 l2) {
+FN void f237(B b, u64 l0, u64 l1, u64 l2) {
 u32 l3 = 0, l4 = 0, l5 = 0;
 u64 l6 = 0, l7 = 0, l8 = 0, l9 = 0, l10 = 0, l11 = 0, l12 = 0, l13 = 0, l14 = 0, l15 = 0, l16 = 0, l17 = 0, l18 = 0;
 l3 = 1u;
@@ -43912,7 +44113,7 @@ put64(b, l0 + 8, l7);
 put8(b, l0, l3);
 }
 
-FN u32 f237(B b, u64 l0) {
+FN u32 f238(B b, u64 l0) {
 u32 l6 = 0;
 u64 l1 = 0, l2 = 0, l3 = 0, l4 = 0, l5 = 0;
 l1 = SP - 32ull;
@@ -43944,7 +44145,7 @@ SP = l1 + 32ull;
 return l6;
 }
 
-FN u32 f238(B b, u64 l0) {
+FN u32 f239(B b, u64 l0) {
 u32 l6 = 0;
 u64 l1 = 0, l2 = 0, l3 = 0, l4 = 0, l5 = 0;
 l1 = SP - 32ull;
@@ -43976,7 +44177,7 @@ SP = l1 + 32ull;
 return l6;
 }
 
-FN u32 f239(B b, u64 l0) {
+FN u32 f240(B b, u64 l0) {
 u32 l6 = 0;
 u64 l1 = 0, l2 = 0, l3 = 0, l4 = 0, l5 = 0;
 l1 = SP - 32ull;
@@ -44008,7 +44209,7 @@ SP = l1 + 32ull;
 return l6;
 }
 
-FN void f240(B b, u64 l0, u64 l1, u64 l2, u64 l3) {
+FN void f241(B b, u64 l0, u64 l1, u64 l2, u64 l3) {
 u32 l11 = 0, l12 = 0, l13 = 0, t0;
 u64 l4 = 0, l5 = 0, l6 = 0, l7 = 0, l8 = 0, l9 = 0, l10 = 0;
 l4 = SP - 32ull;
@@ -44115,7 +44316,7 @@ L1:;
 SP = l4 + 32ull;
 }
 
-FN u32 f241(B b, u64 l0) {
+FN u32 f242(B b, u64 l0) {
 u32 l6 = 0;
 u64 l1 = 0, l2 = 0, l3 = 0, l4 = 0, l5 = 0;
 l1 = SP - 32ull;
@@ -44147,7 +44348,7 @@ SP = l1 + 32ull;
 return l6;
 }
 
-FN void f242(B b, u64 l0, u64 l1, u64 l2) {
+FN void f243(B b, u64 l0, u64 l1, u64 l2) {
 u32 l9 = 0, t0;
 u64 l3 = 0, l4 = 0, l5 = 0, l6 = 0, l7 = 0, l8 = 0;
 l3 = SP - 32ull;
@@ -44198,7 +44399,7 @@ L1:;
 abort();
 }
 
-FN void f243(B b, u64 l0, u64 l1, u64 l2, u64 l3) {
+FN void f244(B b, u64 l0, u64 l1, u64 l2, u64 l3) {
 u32 l50 = 0, l51 = 0, l52 = 0, l53 = 0, l54 = 0, l55 = 0, l56 = 0, l57 = 0, l58 = 0, l59 = 0, l60 = 0, l61 = 0, l62 = 0, l63 = 0, l64 = 0, l65 = 0, l66 = 0, l67 = 0, t0, t1, t2, t3, t4, t5, t6, t7, t8, t9, t10, t11, t12, t13, t14, t15, t16, t17, t18, t19, t20, t21, t22, t23, t24, t25, t26, t27, t28, t29, t30, t31, t32, t33;
 u64 l4 = 0, l5 = 0, l6 = 0, l7 = 0, l8 = 0, l9 = 0, l10 = 0, l11 = 0, l12 = 0, l13 = 0, l14 = 0, l15 = 0, l16 = 0, l17 = 0, l18 = 0, l19 = 0, l20 = 0, l21 = 0, l22 = 0, l23 = 0, l24 = 0, l25 = 0, l26 = 0, l27 = 0, l28 = 0, l29 = 0, l30 = 0, l31 = 0, l32 = 0, l33 = 0, l34 = 0, l35 = 0, l36 = 0, l37 = 0, l38 = 0, l39 = 0, l40 = 0, l41 = 0, l42 = 0, l43 = 0, l44 = 0, l45 = 0, l46 = 0, l47 = 0, l48 = 0, l49 = 0;
 l4 = SP - 2656ull;
@@ -44467,7 +44668,7 @@ l13 = get64(b, l4 + 2464);
 l8 = get64(b, l4 + 2440);
 l12 = l8;
 if (get64(b, l4 + 2448) != l8) { goto L35; }
-t0 = f244(b, l4 + 2432ull);
+t0 = f245(b, l4 + 2432ull);
 if (!t0) { goto L34; }
 l12 = get64(b, l4 + 2440);
 L35:;
@@ -44501,7 +44702,7 @@ l12 = get64(b, l4 + 2488);
 l3 = get64(b, l4 + 2464);
 l8 = l3;
 if (get64(b, l4 + 2472) != l3) { goto L42; }
-t1 = f245(b, l4 + 2456ull);
+t1 = f246(b, l4 + 2456ull);
 if (!t1) { goto L41; }
 l8 = get64(b, l4 + 2464);
 L42:;
@@ -44595,7 +44796,7 @@ l53 = (u32)((l3 < 4294967295ull) ? l3 : 4294967295ull);
 L45:;
 l8 = get64(b, l4 + 2488);
 if (get64(b, l4 + 2496) != l8) { goto L61; }
-t2 = f246(b, l4 + 2480ull, 1ull);
+t2 = f247(b, l4 + 2480ull, 1ull);
 if (!t2) { goto L60; }
 l8 = get64(b, l4 + 2488);
 L61:;
@@ -44615,7 +44816,7 @@ put8(b, l4 + 503, 1u);
 L59:;
 l3 = get64(b, l4 + 2512);
 if (get64(b, l4 + 2520) != l3) { goto L64; }
-t3 = f247(b, l4 + 2504ull, 1ull);
+t3 = f248(b, l4 + 2504ull, 1ull);
 if (!t3) { goto L63; }
 l3 = get64(b, l4 + 2512);
 L64:;
@@ -44628,7 +44829,7 @@ put8(b, l4 + 503, 1u);
 L62:;
 l3 = get64(b, l4 + 2536);
 if (get64(b, l4 + 2544) != l3) { goto L67; }
-t4 = f247(b, l4 + 2528ull, 1ull);
+t4 = f248(b, l4 + 2528ull, 1ull);
 if (!t4) { goto L66; }
 l3 = get64(b, l4 + 2536);
 L67:;
@@ -44801,7 +45002,7 @@ put64(b, l4 + 1232, get64(b, l4 + 1016));
 l8 = get64(b, l4 + 1696);
 if (get64(b, l4 + 1704) != l8) { goto L94; }
 l52 = 1u;
-t5 = f248(b, l4 + 1688ull);
+t5 = f249(b, l4 + 1688ull);
 if (!t5) { goto L93; }
 l8 = get64(b, l4 + 1696);
 L94:;
@@ -44866,7 +45067,7 @@ L100:;
 l8 = get64(b, l4 + 1696);
 if (get64(b, l4 + 1704) != l8) { goto L102; }
 l53 = 1u;
-t6 = f249(b, l4 + 1688ull);
+t6 = f250(b, l4 + 1688ull);
 if (!t6) { goto L101; }
 l8 = get64(b, l4 + 1696);
 L102:;
@@ -44940,7 +45141,7 @@ L108:;
 l11 = get64(b, l4 + 1128);
 if (get64(b, l4 + 1136) != l11) { goto L112; }
 l53 = 1u;
-t7 = f250(b, l4 + 1120ull);
+t7 = f251(b, l4 + 1120ull);
 if (!t7) { goto L111; }
 l11 = get64(b, l4 + 1128);
 L112:;
@@ -44960,7 +45161,7 @@ if (l13 != l12) { goto L107; }
 put8(b, l4 + 503, l53);
 L103:;
 l58 = (u32)((l13 < 4294967295ull) ? l13 : 4294967295ull);
-f251(b, l4 + 1688ull, l4 + 503ull, l4 + 1120ull, l58);
+f252(b, l4 + 1688ull, l4 + 503ull, l4 + 1120ull, l58);
 put64(b, l4 + 1560, get64(b, l4 + 1704));
 put64(b, l4 + 1552, get64(b, l4 + 1696));
 put64(b, l4 + 1544, get64(b, l4 + 1688));
@@ -45000,7 +45201,7 @@ l53 = get32(b, l3);
 l11 = get64(b, l4 + 1128);
 if (get64(b, l4 + 1136) != l11) { goto L119; }
 l55 = 1u;
-t8 = f250(b, l4 + 1120ull);
+t8 = f251(b, l4 + 1120ull);
 if (!t8) { goto L118; }
 l11 = get64(b, l4 + 1128);
 L119:;
@@ -45018,7 +45219,7 @@ l8 = l8 + 1ull;
 if (l13 != l8) { goto L117; }
 put8(b, l4 + 503, l55);
 L113:;
-f251(b, l4 + 1688ull, l4 + 503ull, l4 + 1120ull, l58);
+f252(b, l4 + 1688ull, l4 + 503ull, l4 + 1120ull, l58);
 put64(b, l4 + 1304, get64(b, l4 + 1704));
 put64(b, l4 + 1296, get64(b, l4 + 1696));
 put64(b, l4 + 1288, get64(b, l4 + 1688));
@@ -45070,7 +45271,7 @@ L125:;
 l11 = get64(b, l4 + 1128);
 if (get64(b, l4 + 1136) != l11) { goto L128; }
 l52 = 1u;
-t9 = f250(b, l4 + 1120ull);
+t9 = f251(b, l4 + 1120ull);
 if (!t9) { goto L127; }
 l11 = get64(b, l4 + 1128);
 L128:;
@@ -45088,7 +45289,7 @@ l3 = l3 + 1ull;
 if (l13 != l3) { goto L124; }
 put8(b, l4 + 503, l52);
 L120:;
-f251(b, l4 + 1688ull, l4 + 503ull, l4 + 1120ull, l58);
+f252(b, l4 + 1688ull, l4 + 503ull, l4 + 1120ull, l58);
 put64(b, l4 + 1846, get64(b, l4 + 2432));
 put64(b, l4 + 1854, get64(b, l4 + 2440));
 l3 = get64(b, l4 + 2448);
@@ -45253,7 +45454,7 @@ L135:;
 l12 = get64(b, l4 + 2440);
 if (get64(b, l4 + 2448) != l12) { goto L140; }
 l53 = 1u;
-t10 = f252(b, l4 + 2432ull);
+t10 = f253(b, l4 + 2432ull);
 if (!t10) { goto L139; }
 l12 = get64(b, l4 + 2440);
 L140:;
@@ -45270,7 +45471,7 @@ L132:;
 put64(b, l4 + 1856, get64(b, l4 + 2448));
 put64(b, l4 + 1848, get64(b, l4 + 2440));
 put64(b, l4 + 1840, get64(b, l4 + 2432));
-f253(b, l4 + 2272ull, l4 + 503ull, l4 + 1840ull, l58);
+f254(b, l4 + 2272ull, l4 + 503ull, l4 + 1840ull, l58);
 l24 = get64(b, l4 + 2288);
 l10 = get64(b, l4 + 2280);
 l23 = get64(b, l4 + 2272);
@@ -45319,7 +45520,7 @@ L147:;
 l12 = get64(b, l4 + 2064);
 if (get64(b, l4 + 2072) != l12) { goto L149; }
 l59 = 1u;
-t11 = f250(b, l4 + 2056ull);
+t11 = f251(b, l4 + 2056ull);
 if (!t11) { goto L148; }
 l12 = get64(b, l4 + 2064);
 L149:;
@@ -45339,7 +45540,7 @@ l3 = l3 + 1ull;
 if (l14 != l3) { goto L145; }
 put8(b, l4 + 503, l59);
 L141:;
-f251(b, l4 + 2432ull, l4 + 503ull, l4 + 2056ull, (u32)l14);
+f252(b, l4 + 2432ull, l4 + 503ull, l4 + 2056ull, (u32)l14);
 l26 = get64(b, l4 + 2448);
 l21 = get64(b, l4 + 2440);
 l22 = get64(b, l4 + 2432);
@@ -45351,7 +45552,7 @@ put64(b, l4 + 2432, l4 + 2648ull);
 l10 = l4 + 2648ull;
 if (!l3) { goto L150; }
 l3 = (l3 < 4294967295ull) ? l3 : 4294967295ull;
-t12 = f254(b, l4 + 2432ull, l3);
+t12 = f255(b, l4 + 2432ull, l3);
 if (!t12) { goto L151; }
 l10 = get64(b, l4 + 2432);
 l8 = get64(b, l4 + 2440);
@@ -45389,7 +45590,7 @@ put64(b, l4 + 2448, 0ull);
 put64(b, l4 + 2440, 0ull);
 put64(b, l4 + 2432, l4 + 2648ull);
 if (!l18) { goto L159; }
-t13 = f247(b, l4 + 2432ull, l20);
+t13 = f248(b, l4 + 2432ull, l20);
 if (!t13) { goto L161; }
 l11 = get64(b, l4 + 2432);
 l3 = get64(b, l4 + 2440);
@@ -45408,7 +45609,7 @@ l16 = get64(b, l4 + 2448);
 put64(b, l4 + 2448, 0ull);
 put64(b, l4 + 2440, 0ull);
 put64(b, l4 + 2432, l4 + 2648ull);
-t14 = f247(b, l4 + 2432ull, l20);
+t14 = f248(b, l4 + 2432ull, l20);
 if (!t14) { goto L158; }
 l18 = get64(b, l4 + 2432);
 l3 = get64(b, l4 + 2440);
@@ -45517,7 +45718,7 @@ l10 = l4 + 2648ull;
 l12 = 0ull;
 l11 = 0ull;
 if (!l8) { goto L174; }
-t15 = f246(b, l4 + 1664ull, l8);
+t15 = f247(b, l4 + 1664ull, l8);
 if (!t15) { goto L172; }
 l3 = get64(b, l4 + 1672);
 l12 = l3 + l8;
@@ -45584,7 +45785,7 @@ put64(b, l4 + 1672, 0ull);
 put64(b, l4 + 1664, l4 + 2648ull);
 if (!l3) { goto L178; }
 l3 = (l3 < 4294967295ull) ? l3 : 4294967295ull;
-t16 = f254(b, l4 + 1664ull, l3);
+t16 = f255(b, l4 + 1664ull, l3);
 if (!t16) { goto L179; }
 l8 = get64(b, l4 + 1672);
 l12 = l8 + l3;
@@ -45632,7 +45833,7 @@ l55 = get8(b, l3);
 l8 = get64(b, l4 + 1672);
 if (get64(b, l4 + 1680) != l8) { goto L187; }
 l52 = 1u;
-t17 = f254(b, l4 + 1664ull, 1ull);
+t17 = f255(b, l4 + 1664ull, 1ull);
 if (!t17) { goto L186; }
 l8 = get64(b, l4 + 1672);
 L187:;
@@ -45654,7 +45855,7 @@ put64(b, l4 + 1656, 0ull);
 put64(b, l4 + 1640, l4 + 2648ull);
 if (!l13) { goto L188; }
 l3 = (l13 < 4294967295ull) ? l13 : 4294967295ull;
-t18 = f247(b, l4 + 1640ull, l3);
+t18 = f248(b, l4 + 1640ull, l3);
 if (!t18) { goto L189; }
 l8 = get64(b, l4 + 1648);
 l12 = l8 + l3;
@@ -45703,7 +45904,7 @@ l59 = get32(b, l3);
 l13 = get64(b, l4 + 1672);
 if (get64(b, l4 + 1680) != l13) { goto L197; }
 l52 = 1u;
-t19 = f255(b, l4 + 1664ull, 1ull);
+t19 = f256(b, l4 + 1664ull, 1ull);
 if (!t19) { goto L196; }
 l13 = get64(b, l4 + 1672);
 L197:;
@@ -45755,7 +45956,7 @@ L202:;
 l8 = get64(b, l4 + 1672);
 if (get64(b, l4 + 1680) != l8) { goto L204; }
 l52 = 1u;
-t20 = f256(b, l4 + 1664ull, 1ull);
+t20 = f257(b, l4 + 1664ull, 1ull);
 if (!t20) { goto L203; }
 l8 = get64(b, l4 + 1672);
 L204:;
@@ -45816,9 +46017,9 @@ put64(b, l4 + 2640, 0ull);
 put16(b, l4 + 2637, get16(b, l4 + 1228));
 put8(b, l4 + 2639, get8(b, l4 + 1230));
 put64(b, l4 + 2608, l4 + 2648ull);
-f257(b, l4 + 1120ull, l4 + 503ull, l4 + 768ull, l4 + 2432ull);
+f258(b, l4 + 1120ull, l4 + 503ull, l4 + 768ull, l4 + 2432ull);
 copy(b, l4 + 2272ull, l4 + 1120ull, 104u);
-f258(b, l4 + 503ull, l4 + 768ull, l4 + 2432ull, l4 + 2272ull, l4 + 728ull);
+f259(b, l4 + 503ull, l4 + 768ull, l4 + 2432ull, l4 + 2272ull, l4 + 728ull);
 if (get8(b, l4 + 764)) { goto L207; }
 if (get32(b, l4 + 760) < 24u) { goto L206; }
 L207:;
@@ -45865,7 +46066,7 @@ put64(b, l4 + 1512, l4 + 2648ull);
 l20 = l4 + 2648ull;
 if (!l3) { goto L217; }
 l3 = (l3 < 4294967295ull) ? l3 : 4294967295ull;
-t21 = f247(b, l4 + 1512ull, l3);
+t21 = f248(b, l4 + 1512ull, l3);
 if (!t21) { goto L218; }
 l20 = get64(b, l4 + 1512);
 l8 = get64(b, l4 + 1520);
@@ -45915,7 +46116,7 @@ l23 = l4 + 1520ull;
 put64(b, l23 + 8, 0ull);
 put64(b, l23, 0ull);
 put64(b, l4 + 1512, l4 + 2648ull);
-t22 = f247(b, l4 + 1512ull, l24);
+t22 = f248(b, l4 + 1512ull, l24);
 if (!t22) { goto L226; }
 l14 = get64(b, l4 + 1512);
 l3 = get64(b, l4 + 1520);
@@ -45973,7 +46174,7 @@ if (l52 == l53) { goto L235; }
 l8 = get64(b, l4 + 1520);
 if (get64(b, l4 + 1528) != l8) { goto L236; }
 l52 = 1u;
-t23 = f247(b, l4 + 1512ull, 1ull);
+t23 = f248(b, l4 + 1512ull, 1ull);
 if (!t23) { goto L234; }
 l8 = get64(b, l4 + 1520);
 L236:;
@@ -45993,7 +46194,7 @@ put32(b, l4 + 1568, 1u);
 put64(b, l4 + 1560, l3);
 put64(b, l4 + 1552, l13);
 put64(b, l4 + 1544, l8);
-f259(b, l4 + 503ull, l4 + 1664ull, l4 + 1544ull);
+f260(b, l4 + 503ull, l4 + 1664ull, l4 + 1544ull);
 goto L237;
 L238:;
 if (!l3) { goto L237; }
@@ -46005,7 +46206,7 @@ L239:;
 put64(b, l23 + 8, 0ull);
 put64(b, l23, 0ull);
 put64(b, l4 + 1512, l4 + 2648ull);
-t24 = f247(b, l4 + 1512ull, l24);
+t24 = f248(b, l4 + 1512ull, l24);
 if (t24) { goto L241; }
 put8(b, l4 + 503, 1u);
 l13 = get64(b, l4 + 1520);
@@ -46073,7 +46274,7 @@ if (l52 == l53) { goto L252; }
 l8 = get64(b, l4 + 1520);
 if (get64(b, l4 + 1528) != l8) { goto L253; }
 l52 = 1u;
-t25 = f247(b, l4 + 1512ull, 1ull);
+t25 = f248(b, l4 + 1512ull, 1ull);
 if (!t25) { goto L251; }
 l8 = get64(b, l4 + 1520);
 L253:;
@@ -46093,7 +46294,7 @@ put32(b, l4 + 1568, 1u);
 put64(b, l4 + 1560, l3);
 put64(b, l4 + 1552, l12);
 put64(b, l4 + 1544, l8);
-f259(b, l4 + 503ull, l4 + 1664ull, l4 + 1544ull);
+f260(b, l4 + 503ull, l4 + 1664ull, l4 + 1544ull);
 goto L254;
 L255:;
 if (!l3) { goto L254; }
@@ -46113,7 +46314,7 @@ l21 = 0ull;
 L259:;
 if (get8(b, l4 + 764)) { goto L258; }
 if (get32(b, l4 + 760) > 23u) { goto L258; }
-f260(b, l4 + 1840ull, l4 + 503ull, l4 + 2432ull);
+f261(b, l4 + 1840ull, l4 + 503ull, l4 + 2432ull);
 copy(b, l4 + 2056ull, l4 + 1840ull, 216u);
 l8 = l22 + (l21 << 5);
 l3 = get64(b, l8 + 8ull);
@@ -46147,9 +46348,9 @@ L260:;
 l52 = get32(b, l8 + 24ull);
 l53 = l52 + get32(b, l4 + 2256);
 put32(b, l4 + 2256, (l53 < l52) ? 4294967295u : l53);
-f261(b, l4 + 1016ull, l4 + 503ull, l4 + 768ull, l4 + 2056ull, l4 + 2272ull);
+f262(b, l4 + 1016ull, l4 + 503ull, l4 + 768ull, l4 + 2056ull, l4 + 2272ull);
 copy(b, l4 + 1688ull, l4 + 1016ull, 104u);
-f258(b, l4 + 503ull, l4 + 768ull, l4 + 2056ull, l4 + 1688ull, l4 + 728ull);
+f259(b, l4 + 503ull, l4 + 768ull, l4 + 2056ull, l4 + 1688ull, l4 + 728ull);
 if (!get64(b, l4 + 1704)) { goto L265; }
 rattle_dealloc(b, get64(b, l4 + 1688));
 L265:;
@@ -46236,7 +46437,7 @@ l14 = get64(b, l4 + 736);
 l10 = get64(b, l4 + 752);
 l12 = get64(b, l4 + 744);
 fill(b, l4 + 1840ull, 0u, 216u);
-f262(b, l4 + 1840ull, l4 + 503ull, get64(b, l4 + 904), get64(b, l4 + 928));
+f263(b, l4 + 1840ull, l4 + 503ull, get64(b, l4 + 904), get64(b, l4 + 928));
 copy(b, l4 + 2056ull, l4 + 1840ull, 216u);
 put64(b, l4 + 1024, 0ull);
 put64(b, l4 + 1032, 0ull);
@@ -46262,8 +46463,8 @@ copy(b, l4 + 1688ull, l8, 152u);
 goto L292;
 L293:;
 copy(b, l4 + 2432ull, l8, 216u);
-f263(b, l4 + 1120ull, l4 + 503ull, l4 + 768ull, l4 + 2432ull, l4 + 2056ull);
-f264(b, l4 + 2272ull, l4 + 503ull, l4 + 768ull, l4 + 2056ull, l4 + 2432ull, l4 + 1120ull, l59);
+f264(b, l4 + 1120ull, l4 + 503ull, l4 + 768ull, l4 + 2432ull, l4 + 2056ull);
+f265(b, l4 + 2272ull, l4 + 503ull, l4 + 768ull, l4 + 2056ull, l4 + 2432ull, l4 + 1120ull, l59);
 if (!get64(b, l4 + 2448)) { goto L294; }
 rattle_dealloc(b, get64(b, l4 + 2432));
 L294:;
@@ -46294,7 +46495,7 @@ if (l52 != 1u) { goto L291; }
 L292:;
 l13 = get64(b, l4 + 1024);
 if (get64(b, l4 + 1032) != l13) { goto L303; }
-t26 = f265(b, l4 + 1016ull);
+t26 = f266(b, l4 + 1016ull);
 if (!t26) { goto L302; }
 l13 = get64(b, l4 + 1024);
 L303:;
@@ -46307,7 +46508,7 @@ put8(b, l8 + 159, 0u);
 put64(b, l4 + 1024, l13 + 1ull);
 goto L291;
 L302:;
-f266(b, l4 + 1688ull);
+f267(b, l4 + 1688ull);
 put8(b, l4 + 503, 1u);
 L291:;
 l3 = l3 + 240ull;
@@ -46349,7 +46550,7 @@ put64(b, l4 + 2432, l4 + 2648ull);
 l59 = (u32)(!l20);
 if (l59) { goto L313; }
 l3 = (l20 < 4294967295ull) ? l20 : 4294967295ull;
-t27 = f254(b, l4 + 2432ull, l3);
+t27 = f255(b, l4 + 2432ull, l3);
 if (!t27) { goto L315; }
 l16 = get64(b, l4 + 2432);
 l8 = get64(b, l4 + 2440);
@@ -46380,11 +46581,11 @@ put64(b, l4 + 2448, 0ull);
 put64(b, l4 + 2056, 0ull);
 put64(b, l4 + 2064, 0ull);
 put64(b, l4 + 2072, 0ull);
-f267(b, l4 + 2432ull, l4 + 503ull, l12, l3, l18, l17);
+f268(b, l4 + 2432ull, l4 + 503ull, l12, l3, l18, l17);
 l22 = get64(b, l4 + 2448);
 l13 = get64(b, l4 + 2432);
 l3 = get64(b, l4 + 2440);
-f267(b, l4 + 2056ull, l4 + 503ull, get64(b, l8 + 8ull), get64(b, l8 + 16ull), l18, l17);
+f268(b, l4 + 2056ull, l4 + 503ull, get64(b, l8 + 8ull), get64(b, l8 + 16ull), l18, l17);
 l23 = get64(b, l4 + 2072);
 l11 = get64(b, l4 + 2056);
 if (l3 != get64(b, l4 + 2064)) { goto L325; }
@@ -46526,7 +46727,7 @@ l3 = l21;
 L351:;
 copy(b, l4 + 768ull, l3, 152u);
 l3 = l3 + 160ull;
-f266(b, l4 + 768ull);
+f267(b, l4 + 768ull);
 l20 = l20 + 18446744073709551615ull;
 if (l20 != 0ull) { goto L351; }
 L350:;
@@ -47249,7 +47450,7 @@ l3 = l15 + (l24 << 5);
 l14 = get64(b, l3 + 8ull);
 l3 = get64(b, l3 + 16ull);
 if (l3 <= (l19 - l11)) { goto L466; }
-t28 = f268(b, l4 + 2432ull, l3);
+t28 = f269(b, l4 + 2432ull, l3);
 if (!t28) { goto L462; }
 l25 = get64(b, l4 + 2432);
 l19 = get64(b, l4 + 2448);
@@ -47611,7 +47812,7 @@ if (get8(b, l3)) { goto L516; }
 if (!(get8(b, l3 + 4ull) & 1u)) { goto L516; }
 l52 = get32(b, l3 + 8ull);
 if (get64(b, l4 + 784) != l13) { goto L517; }
-t29 = f269(b, l4 + 768ull);
+t29 = f270(b, l4 + 768ull);
 if (!t29) { goto L401; }
 l12 = get64(b, l4 + 768);
 l13 = get64(b, l4 + 776);
@@ -47639,7 +47840,7 @@ if (!get8(b, l3)) { goto L519; }
 if (!(get8(b, l3 + 4ull) & 1u)) { goto L519; }
 l52 = get32(b, l3 + 8ull);
 if (get64(b, l4 + 2448) != l8) { goto L520; }
-t30 = f269(b, l4 + 2432ull);
+t30 = f270(b, l4 + 2432ull);
 if (!t30) { goto L400; }
 l12 = get64(b, l4 + 2432);
 l8 = get64(b, l4 + 2440);
@@ -47667,7 +47868,7 @@ if (!(get8(b, l3 + 18446744073709551604ull) & 1u)) { goto L523; }
 l55 = get32(b, l3 + 18446744073709551608ull);
 l8 = get64(b, l4 + 2064);
 if (get64(b, l4 + 2072) != l8) { goto L524; }
-t31 = f269(b, l4 + 2056ull);
+t31 = f270(b, l4 + 2056ull);
 if (!t31) { goto L399; }
 l8 = get64(b, l4 + 2064);
 L524:;
@@ -47677,7 +47878,7 @@ L523:;
 if (!(l52 & 1u)) { goto L525; }
 l8 = get64(b, l4 + 2064);
 if (get64(b, l4 + 2072) != l8) { goto L526; }
-t32 = f269(b, l4 + 2056ull);
+t32 = f270(b, l4 + 2056ull);
 if (!t32) { goto L399; }
 l8 = get64(b, l4 + 2064);
 L526:;
@@ -47854,7 +48055,7 @@ put64(b, l4 + 776, 0ull);
 put64(b, l4 + 768, 0ull);
 l3 = (u64)get32(b, l4 + 288);
 if (get64(b, l1 + 16ull) <= l3) { goto L356; }
-f270(b, l4 + 768ull, l1, l4 + 288ull, get8(b, (get64(b, l1 + 8ull) + (l3 << 5)) + 4ull));
+f271(b, l4 + 768ull, l1, l4 + 288ull, get8(b, (get64(b, l1 + 8ull) + (l3 << 5)) + 4ull));
 if (get8(b, l4 + 768)) { goto L2; }
 l53 = 1u;
 if ((get8(b, l4 + 776) & 255u) != 1u) { goto L356; }
@@ -47880,7 +48081,7 @@ put32(b, l4 + 771, 0u);
 put32(b, l4 + 768, 0u);
 l3 = get64(b, l4 + 456);
 if (get64(b, l4 + 464) != l3) { goto L555; }
-t33 = f271(b, l4 + 448ull);
+t33 = f272(b, l4 + 448ull);
 if (!t33) { goto L390; }
 l3 = get64(b, l4 + 456);
 L555:;
@@ -47905,14 +48106,14 @@ L390:;
 l3 = l4 + 775ull;
 copy(b, l3, l4 + 2432ull, 160u);
 copy(b, l4 + 2432ull, l3, 160u);
-f272(b, l4 + 2432ull);
+f273(b, l4 + 2432ull);
 if (!l20) { goto L558; }
 if (l23 >= (l18 + l26)) { goto L558; }
 l3 = 1ull;
 L559:;
 copy(b, l4 + 768ull, l22, 160u);
 l22 = l22 + 160ull;
-f272(b, l4 + 768ull);
+f273(b, l4 + 768ull);
 l3 = l3 + 1ull;
 if (l26 != l3) { goto L559; }
 L558:;
@@ -47927,7 +48128,7 @@ l3 = l12;
 L562:;
 copy(b, l4 + 768ull, l3, 160u);
 l3 = l3 + 160ull;
-f272(b, l4 + 768ull);
+f273(b, l4 + 768ull);
 l8 = l8 + 18446744073709551615ull;
 if (l8 != 0ull) { goto L562; }
 L561:;
@@ -48105,7 +48306,7 @@ l3 = 1ull;
 L595:;
 copy(b, l4 + 768ull, l22, 160u);
 l22 = l22 + 160ull;
-f272(b, l4 + 768ull);
+f273(b, l4 + 768ull);
 l3 = l3 + 1ull;
 if (l26 != l3) { goto L595; }
 L594:;
@@ -48120,7 +48321,7 @@ l3 = l12;
 L598:;
 copy(b, l4 + 768ull, l3, 160u);
 l3 = l3 + 160ull;
-f272(b, l4 + 768ull);
+f273(b, l4 + 768ull);
 l8 = l8 + 18446744073709551615ull;
 if (l8 != 0ull) { goto L598; }
 L597:;
@@ -48136,7 +48337,7 @@ L1:;
 SP = l4 + 2656ull;
 }
 
-FN u32 f244(B b, u64 l0) {
+FN u32 f245(B b, u64 l0) {
 u32 l6 = 0;
 u64 l1 = 0, l2 = 0, l3 = 0, l4 = 0, l5 = 0;
 l1 = SP - 32ull;
@@ -48168,7 +48369,7 @@ SP = l1 + 32ull;
 return l6;
 }
 
-FN u32 f245(B b, u64 l0) {
+FN u32 f246(B b, u64 l0) {
 u32 l6 = 0;
 u64 l1 = 0, l2 = 0, l3 = 0, l4 = 0, l5 = 0;
 l1 = SP - 32ull;
@@ -48200,7 +48401,7 @@ SP = l1 + 32ull;
 return l6;
 }
 
-FN u32 f246(B b, u64 l0, u64 l1) {
+FN u32 f247(B b, u64 l0, u64 l1) {
 u32 l6 = 0;
 u64 l2 = 0, l3 = 0, l4 = 0, l5 = 0;
 l2 = SP - 32ull;
@@ -48233,7 +48434,7 @@ SP = l2 + 32ull;
 return l6;
 }
 
-FN u32 f247(B b, u64 l0, u64 l1) {
+FN u32 f248(B b, u64 l0, u64 l1) {
 u32 l6 = 0;
 u64 l2 = 0, l3 = 0, l4 = 0, l5 = 0;
 l2 = SP - 32ull;
@@ -48266,7 +48467,7 @@ SP = l2 + 32ull;
 return l6;
 }
 
-FN u32 f248(B b, u64 l0) {
+FN u32 f249(B b, u64 l0) {
 u32 l6 = 0;
 u64 l1 = 0, l2 = 0, l3 = 0, l4 = 0, l5 = 0;
 l1 = SP - 32ull;
@@ -48298,7 +48499,7 @@ SP = l1 + 32ull;
 return l6;
 }
 
-FN u32 f249(B b, u64 l0) {
+FN u32 f250(B b, u64 l0) {
 u32 l6 = 0;
 u64 l1 = 0, l2 = 0, l3 = 0, l4 = 0, l5 = 0;
 l1 = SP - 32ull;
@@ -48330,7 +48531,7 @@ SP = l1 + 32ull;
 return l6;
 }
 
-FN u32 f250(B b, u64 l0) {
+FN u32 f251(B b, u64 l0) {
 u32 l6 = 0;
 u64 l1 = 0, l2 = 0, l3 = 0, l4 = 0, l5 = 0;
 l1 = SP - 32ull;
@@ -48362,7 +48563,7 @@ SP = l1 + 32ull;
 return l6;
 }
 
-FN void f251(B b, u64 l0, u64 l1, u64 l2, u32 l3) {
+FN void f252(B b, u64 l0, u64 l1, u64 l2, u32 l3) {
 u32 l9 = 0, l10 = 0, l11 = 0, l12 = 0, l13 = 0, l14 = 0, l15 = 0, l16 = 0, t0, t1;
 u64 l4 = 0, l5 = 0, l6 = 0, l7 = 0, l8 = 0;
 l4 = SP - 64ull;
@@ -48370,7 +48571,7 @@ SP = l4;
 put64(b, l4 + 24, get64(b, l2 + 16));
 put64(b, l4 + 16, get64(b, l2 + 8));
 put64(b, l4 + 8, get64(b, l2));
-t0 = f273(b, l4 + 8ull);
+t0 = f274(b, l4 + 8ull);
 if (!(t0 & 255u)) { goto L1; }
 put8(b, l1, 1u);
 L1:;
@@ -48381,7 +48582,7 @@ put64(b, l4 + 32, l4 + 60ull);
 l6 = l4 + 60ull;
 if (!l3) { goto L2; }
 l2 = (u64)l3;
-t1 = f247(b, l4 + 32ull, l2);
+t1 = f248(b, l4 + 32ull, l2);
 if (!t1) { goto L3; }
 l6 = get64(b, l4 + 32);
 l1 = get64(b, l4 + 40);
@@ -48440,7 +48641,7 @@ put64(b, l0, l6);
 SP = l4 + 64ull;
 }
 
-FN u32 f252(B b, u64 l0) {
+FN u32 f253(B b, u64 l0) {
 u32 l6 = 0;
 u64 l1 = 0, l2 = 0, l3 = 0, l4 = 0, l5 = 0;
 l1 = SP - 32ull;
@@ -48472,7 +48673,7 @@ SP = l1 + 32ull;
 return l6;
 }
 
-FN void f253(B b, u64 l0, u64 l1, u64 l2, u32 l3) {
+FN void f254(B b, u64 l0, u64 l1, u64 l2, u32 l3) {
 u32 l17 = 0, l18 = 0, l19 = 0, l20 = 0, l21 = 0, t0, t1, t2;
 u64 l4 = 0, l5 = 0, l6 = 0, l7 = 0, l8 = 0, l9 = 0, l10 = 0, l11 = 0, l12 = 0, l13 = 0, l14 = 0, l15 = 0, l16 = 0;
 l4 = SP - 144ull;
@@ -48580,7 +48781,7 @@ if (l10 != l7) { goto L14; }
 if (!l18) { goto L2; }
 L15:;
 l2 = l7 >> 1;
-f285(b, l6, l6 + ((l7 - l2) << 3), l2);
+f286(b, l6, l6 + ((l7 - l2) << 3), l2);
 l20 = 0u;
 goto L1;
 L14:;
@@ -48597,7 +48798,7 @@ l8 = l7 >> 1;
 l2 = 64ull;
 if (l7 > 64ull) { goto L32; }
 if (l10 >= l8) { goto L32; }
-f286(b, l6, l7, l7, 126u - (((u32)clz64(l7)) << 1), l4 + 112ull);
+f287(b, l6, l7, l7, 126u - (((u32)clz64(l7)) << 1), l4 + 112ull);
 goto L27;
 L32:;
 l11 = 0ull;
@@ -48653,14 +48854,14 @@ l20 = 0u;
 goto L1;
 L30:;
 l2 = l10 >> 1;
-f285(b, l6, l6 + ((l10 - l2) << 3), l2);
+f286(b, l6, l6 + ((l10 - l2) << 3), l2);
 L29:;
 l17 = 1u;
 L28:;
-f287(b, l4 + 48ull, l6, l7, 0ull, l10, l17, 0u, l15, l14, l4 + 112ull);
+f288(b, l4 + 48ull, l6, l7, 0ull, l10, l17, 0u, l15, l14, l4 + 112ull);
 if (get8(b, l4 + 56) & 1u) { goto L27; }
 l2 = get64(b, l4 + 48);
-f286(b, l6, l2, l2, 126u - (((u32)clz64(l2)) << 1), l4 + 112ull);
+f287(b, l6, l2, l2, 126u - (((u32)clz64(l2)) << 1), l4 + 112ull);
 L27:;
 rattle_dealloc(b, l13);
 L2:;
@@ -48711,7 +48912,7 @@ l19 = get32(b, l10 + 4);
 l17 = (u32)(l17 == ((u32)l11));
 l9 = get64(b, l4 + 56);
 if (get64(b, l4 + 64) != l9) { goto L49; }
-t0 = f250(b, l4 + 48ull);
+t0 = f251(b, l4 + 48ull);
 if (!t0) { goto L48; }
 l9 = get64(b, l4 + 56);
 L49:;
@@ -48737,7 +48938,7 @@ L40:;
 put64(b, l4 + 104, l10);
 put64(b, l4 + 88, l11);
 put64(b, l4 + 96, l2);
-f251(b, l4 + 112ull, l1, l4 + 88ull, (u32)((l2 < 4294967295ull) ? l2 : 4294967295ull));
+f252(b, l4 + 112ull, l1, l4 + 88ull, (u32)((l2 < 4294967295ull) ? l2 : 4294967295ull));
 l13 = get64(b, l4 + 128);
 l12 = get64(b, l4 + 112);
 l2 = 0ull;
@@ -48781,7 +48982,7 @@ L57:;
 l18 = get32(b, l10);
 l10 = get64(b, l4 + 56);
 if (get64(b, l4 + 64) != l10) { goto L60; }
-t1 = f252(b, l4 + 48ull);
+t1 = f253(b, l4 + 48ull);
 if (!t1) { goto L59; }
 l10 = get64(b, l4 + 56);
 L60:;
@@ -48821,7 +49022,7 @@ put64(b, l4 + 48, l4 + 140ull);
 l6 = l4 + 140ull;
 if (!l3) { goto L64; }
 l2 = (u64)l3;
-t2 = f247(b, l4 + 48ull, l2);
+t2 = f248(b, l4 + 48ull, l2);
 if (!t2) { goto L65; }
 l6 = get64(b, l4 + 48);
 l11 = get64(b, l4 + 56);
@@ -48872,7 +49073,7 @@ put64(b, l0, l6);
 SP = l4 + 144ull;
 }
 
-FN u32 f254(B b, u64 l0, u64 l1) {
+FN u32 f255(B b, u64 l0, u64 l1) {
 u32 l6 = 0;
 u64 l2 = 0, l3 = 0, l4 = 0, l5 = 0;
 l2 = SP - 32ull;
@@ -48905,7 +49106,7 @@ SP = l2 + 32ull;
 return l6;
 }
 
-FN u32 f255(B b, u64 l0, u64 l1) {
+FN u32 f256(B b, u64 l0, u64 l1) {
 u32 l6 = 0;
 u64 l2 = 0, l3 = 0, l4 = 0, l5 = 0;
 l2 = SP - 32ull;
@@ -48938,7 +49139,7 @@ SP = l2 + 32ull;
 return l6;
 }
 
-FN u32 f256(B b, u64 l0, u64 l1) {
+FN u32 f257(B b, u64 l0, u64 l1) {
 u32 l6 = 0;
 u64 l2 = 0, l3 = 0, l4 = 0, l5 = 0;
 l2 = SP - 32ull;
@@ -48971,7 +49172,7 @@ SP = l2 + 32ull;
 return l6;
 }
 
-FN void f257(B b, u64 l0, u64 l1, u64 l2, u64 l3) {
+FN void f258(B b, u64 l0, u64 l1, u64 l2, u64 l3) {
 u32 l20 = 0, l21 = 0, l22 = 0, l23 = 0, l24 = 0, l25 = 0, l26 = 0, l27 = 0, l28 = 0, l29 = 0, l30 = 0, t0, t1, t2, t3;
 u64 l4 = 0, l5 = 0, l6 = 0, l7 = 0, l8 = 0, l9 = 0, l10 = 0, l11 = 0, l12 = 0, l13 = 0, l14 = 0, l15 = 0, l16 = 0, l17 = 0, l18 = 0, l19 = 0;
 l4 = SP - 272ull;
@@ -48983,7 +49184,7 @@ put64(b, l4 + 248, 0ull);
 put64(b, l4 + 240, l4 + 268ull);
 if (!l5) { goto L1; }
 l7 = (l5 < 4294967295ull) ? l5 : 4294967295ull;
-t0 = f293(b, l4 + 240ull, l7);
+t0 = f294(b, l4 + 240ull, l7);
 if (!t0) { goto L2; }
 l8 = get64(b, l4 + 248);
 l9 = l8 + l7;
@@ -49026,7 +49227,7 @@ put64(b, l4 + 232, get64(b, l4 + 256));
 put64(b, l4 + 224, get64(b, l4 + 248));
 put64(b, l4 + 216, get64(b, l4 + 240));
 l5 = l3 + 112ull;
-f294(b, l4 + 8ull, l1, get64(b, l5), l4 + 216ull);
+f295(b, l4 + 8ull, l1, get64(b, l5), l4 + 216ull);
 copy(b, l4 + 112ull, l4 + 8ull, 104u);
 l5 = get64(b, l5);
 put64(b, l4 + 256, 0ull);
@@ -49035,7 +49236,7 @@ put64(b, l4 + 240, l4 + 268ull);
 l10 = l4 + 268ull;
 if (!l5) { goto L7; }
 l5 = (l5 < 4294967295ull) ? l5 : 4294967295ull;
-t1 = f247(b, l4 + 240ull, l5);
+t1 = f248(b, l4 + 240ull, l5);
 if (!t1) { goto L8; }
 l10 = get64(b, l4 + 240);
 l7 = get64(b, l4 + 248);
@@ -49209,7 +49410,7 @@ L33:;
 if (l25 == l28) { goto L36; }
 l5 = get64(b, l4 + 192);
 if (get64(b, l4 + 200) != l5) { goto L38; }
-t2 = f295(b, l4 + 184ull);
+t2 = f296(b, l4 + 184ull);
 if (!t2) { goto L37; }
 l5 = get64(b, l4 + 192);
 L38:;
@@ -49228,7 +49429,7 @@ L31:;
 if (l27 == l29) { goto L12; }
 l5 = get64(b, l4 + 192);
 if (get64(b, l4 + 200) != l5) { goto L40; }
-t3 = f295(b, l4 + 184ull);
+t3 = f296(b, l4 + 184ull);
 if (!t3) { goto L39; }
 l5 = get64(b, l4 + 192);
 L40:;
@@ -49308,7 +49509,7 @@ copy(b, l0, l4 + 112ull, 104u);
 SP = l4 + 272ull;
 }
 
-FN void f258(B b, u64 l0, u64 l1, u64 l2, u64 l3, u64 l4) {
+FN void f259(B b, u64 l0, u64 l1, u64 l2, u64 l3, u64 l4) {
 u32 l37 = 0, l38 = 0, l39 = 0, l40 = 0, l41 = 0, l42 = 0, l43 = 0, l44 = 0, l45 = 0, l46 = 0, l47 = 0, l48 = 0, l49 = 0, l50 = 0, t0, t1, t2, t3, t4, t5, t6, t7, t8, t9;
 u64 l5 = 0, l6 = 0, l7 = 0, l8 = 0, l9 = 0, l10 = 0, l11 = 0, l12 = 0, l13 = 0, l14 = 0, l15 = 0, l16 = 0, l17 = 0, l18 = 0, l19 = 0, l20 = 0, l21 = 0, l22 = 0, l23 = 0, l24 = 0, l25 = 0, l26 = 0, l27 = 0, l28 = 0, l29 = 0, l30 = 0, l31 = 0, l32 = 0, l33 = 0, l34 = 0, l35 = 0, l36 = 0;
 l5 = SP - 1136ull;
@@ -49328,7 +49529,7 @@ L3:;
 if (get8(b, l4 + 36ull)) { goto L2; }
 if (get32(b, l4 + 32ull) > 23u) { goto L2; }
 fill(b, l5 + 672ull, 0u, 216u);
-f262(b, l5 + 672ull, l0, get64(b, l1 + 136ull), get64(b, l1 + 160ull));
+f263(b, l5 + 672ull, l0, get64(b, l1 + 136ull), get64(b, l1 + 160ull));
 copy(b, l5 + 888ull, l5 + 672ull, 216u);
 switch (l39) {
 case 0: goto L8;
@@ -49345,7 +49546,7 @@ put64(b, l7, 0ull);
 put64(b, l5 + 456, l5 + 1132ull);
 if (!l8) { goto L5; }
 l9 = (l8 < 4294967295ull) ? l8 : 4294967295ull;
-t0 = f247(b, l5 + 456ull, l9);
+t0 = f248(b, l5 + 456ull, l9);
 if (!t0) { goto L10; }
 l10 = get64(b, l5 + 456);
 l8 = get64(b, l5 + 464);
@@ -49364,7 +49565,7 @@ l13 = get64(b, l5 + 472);
 put64(b, l7 + 8, 0ull);
 put64(b, l7, 0ull);
 put64(b, l5 + 456, l5 + 1132ull);
-t1 = f247(b, l5 + 456ull, l9);
+t1 = f248(b, l5 + 456ull, l9);
 if (!t1) { goto L12; }
 l14 = get64(b, l5 + 456);
 l8 = get64(b, l5 + 464);
@@ -49498,17 +49699,17 @@ if (!l13) { goto L5; }
 rattle_dealloc(b, l10);
 goto L5;
 L6:;
-f300(b, l0, l1, l3, l5 + 888ull, get64(b, l1 + 176ull), get64(b, l1 + 184ull), 0u);
+f301(b, l0, l1, l3, l5 + 888ull, get64(b, l1 + 176ull), get64(b, l1 + 184ull), 0u);
 switch (l39 + 4294967294u) {
 case 0: goto L32;
 case 1: goto L31;
 default: goto L5;
 }
 L32:;
-f300(b, l0, l1, l3, l5 + 888ull, get64(b, l1 + 200ull), get64(b, l1 + 208ull), 1u);
+f301(b, l0, l1, l3, l5 + 888ull, get64(b, l1 + 200ull), get64(b, l1 + 208ull), 1u);
 goto L5;
 L31:;
-f300(b, l0, l1, l3, l5 + 888ull, get64(b, l1 + 224ull), get64(b, l1 + 232ull), 2u);
+f301(b, l0, l1, l3, l5 + 888ull, get64(b, l1 + 224ull), get64(b, l1 + 232ull), 2u);
 L5:;
 l12 = get64(b, l3 + 80ull);
 if (!(u32)(!l12)) { goto L33; }
@@ -49580,7 +49781,7 @@ l12 = l12 + 18446744073709551615ull;
 if (l12 != 0ull) { goto L40; }
 L39:;
 if (get64(b, l5 + 24) != l17) { goto L44; }
-t2 = f301(b, l5 + 8ull);
+t2 = f302(b, l5 + 8ull);
 if (!t2) { goto L43; }
 l9 = get64(b, l5 + 8);
 l17 = get64(b, l5 + 16);
@@ -49632,7 +49833,7 @@ if (l40) { goto L45; }
 if (l50) { goto L45; }
 if (l44) { goto L45; }
 if (l37) { goto L45; }
-f302(b, l0, l1, l5 + 888ull, l2, l3, l4);
+f303(b, l0, l1, l5 + 888ull, l2, l3, l4);
 if (!get64(b, l5 + 904)) { goto L46; }
 rattle_dealloc(b, get64(b, l5 + 888));
 L46:;
@@ -49687,7 +49888,7 @@ put64(b, l5 + 696, l25);
 put64(b, l5 + 688, l14);
 put64(b, l5 + 680, l36);
 put64(b, l5 + 672, l13);
-f260(b, l5 + 136ull, l0, l2);
+f261(b, l5 + 136ull, l0, l2);
 copy(b, l5 + 456ull, l5 + 136ull, 216u);
 l8 = get64(b, l1 + 136ull);
 if (!l8) { goto L53; }
@@ -49724,7 +49925,7 @@ l37 = l42 ? l40 : l37;
 L58:;
 l17 = get64(b, l5 + 776);
 if (get64(b, l5 + 784) != l17) { goto L62; }
-t3 = f303(b, l5 + 768ull);
+t3 = f304(b, l5 + 768ull);
 if (!t3) { goto L61; }
 l17 = get64(b, l5 + 776);
 L62:;
@@ -49741,7 +49942,7 @@ put8(b, l0, 1u);
 l17 = get64(b, l5 + 776);
 L60:;
 if (get64(b, l5 + 784) != l17) { goto L64; }
-t4 = f303(b, l5 + 768ull);
+t4 = f304(b, l5 + 768ull);
 if (!t4) { goto L63; }
 l17 = get64(b, l5 + 776);
 L64:;
@@ -49782,7 +49983,7 @@ L68:;
 if (l40 != l37) { goto L69; }
 l17 = get64(b, l5 + 776);
 if (get64(b, l5 + 784) != l17) { goto L71; }
-t5 = f303(b, l5 + 768ull);
+t5 = f304(b, l5 + 768ull);
 if (!t5) { goto L70; }
 l17 = get64(b, l5 + 776);
 L71:;
@@ -49812,7 +50013,7 @@ l27 = l5 + 1132ull;
 l15 = 0ull;
 l41 = (u32)(!l8);
 if (l41) { goto L72; }
-t6 = f247(b, l5 + 1104ull, l20);
+t6 = f248(b, l5 + 1104ull, l20);
 if (!t6) { goto L74; }
 l27 = get64(b, l5 + 1104);
 l8 = get64(b, l5 + 1112);
@@ -49834,7 +50035,7 @@ put64(b, l6, 0ull);
 put64(b, l5 + 1104, l5 + 1132ull);
 if (!l37) { goto L78; }
 l8 = (u64)l37;
-t7 = f247(b, l5 + 1104ull, l8);
+t7 = f248(b, l5 + 1104ull, l8);
 if (!t7) { goto L77; }
 l11 = get64(b, l5 + 1104);
 l12 = get64(b, l5 + 1112);
@@ -49895,7 +50096,7 @@ L87:;
 put64(b, l6 + 8, 0ull);
 put64(b, l6, 0ull);
 put64(b, l5 + 1104, l5 + 1132ull);
-t8 = f247(b, l5 + 1104ull, 1ull);
+t8 = f248(b, l5 + 1104ull, 1ull);
 if (!t8) { goto L89; }
 l8 = get64(b, l5 + 1112);
 put32(b, get64(b, l5 + 1104) + (l8 << 2), (u32)l17);
@@ -49948,7 +50149,7 @@ put32(b, get64(b, l5 + 792) + (l8 << 2), l42);
 L99:;
 l8 = get64(b, l5 + 1112);
 if (get64(b, l5 + 1120) != l8) { goto L101; }
-t9 = f247(b, l5 + 1104ull, 1ull);
+t9 = f248(b, l5 + 1104ull, 1ull);
 if (!t9) { goto L100; }
 l8 = get64(b, l5 + 1112);
 L101:;
@@ -50098,9 +50299,9 @@ put8(b, l5 + 660, (u32)(!(l50 | l40)) & get8(b, l5 + 660));
 l37 = l50 ? (l37 + 3u) : l37;
 l40 = l37 + get32(b, l5 + 656);
 put32(b, l5 + 656, (l40 < l37) ? 4294967295u : l40);
-f257(b, l5 + 32ull, l0, l1, l5 + 456ull);
+f258(b, l5 + 32ull, l0, l1, l5 + 456ull);
 copy(b, l5 + 352ull, l5 + 32ull, 104u);
-f302(b, l0, l1, l5 + 672ull, l5 + 456ull, l5 + 352ull, l4);
+f303(b, l0, l1, l5 + 672ull, l5 + 456ull, l5 + 352ull, l4);
 if (!get64(b, l5 + 368)) { goto L124; }
 rattle_dealloc(b, get64(b, l5 + 352));
 L124:;
@@ -50195,7 +50396,7 @@ L150:;
 SP = l5 + 1136ull;
 }
 
-FN void f259(B b, u64 l0, u64 l1, u64 l2) {
+FN void f260(B b, u64 l0, u64 l1, u64 l2) {
 u32 t0;
 u64 l3 = 0, l4 = 0, l5 = 0, l6 = 0, l7 = 0, l8 = 0, l9 = 0, l10 = 0, l11 = 0;
 l3 = get64(b, l2 + 24);
@@ -50232,7 +50433,7 @@ rattle_dealloc(b, l6);
 L8:;
 return;
 L2:;
-t0 = f297(b, l1);
+t0 = f298(b, l1);
 if (!t0) { goto L9; }
 l7 = get64(b, l1 + 8ull);
 goto L1;
@@ -50251,7 +50452,7 @@ put64(b, l2, l6);
 put64(b, l1 + 8ull, l7 + 1ull);
 }
 
-FN void f260(B b, u64 l0, u64 l1, u64 l2) {
+FN void f261(B b, u64 l0, u64 l1, u64 l2) {
 u32 l17 = 0, l18 = 0, l19 = 0, l20 = 0, t0, t1, t2, t3, t4, t5, t6, t7;
 u64 l3 = 0, l4 = 0, l5 = 0, l6 = 0, l7 = 0, l8 = 0, l9 = 0, l10 = 0, l11 = 0, l12 = 0, l13 = 0, l14 = 0, l15 = 0, l16 = 0;
 l3 = SP - 368ull;
@@ -50291,7 +50492,7 @@ put64(b, l3 + 352, 0ull);
 put64(b, l3 + 344, 0ull);
 put64(b, l3 + 336, l3 + 364ull);
 if (!l5) { goto L5; }
-t0 = f246(b, l3 + 336ull, l5);
+t0 = f247(b, l3 + 336ull, l5);
 if (!t0) { goto L2; }
 l7 = get64(b, l3 + 344);
 l8 = l7 + l5;
@@ -50371,7 +50572,7 @@ l16 = l3 + 364ull;
 l13 = 0ull;
 l17 = (u32)(!l5);
 if (l17) { goto L13; }
-t1 = f254(b, l3 + 336ull, l5);
+t1 = f255(b, l3 + 336ull, l5);
 if (!t1) { goto L12; }
 l16 = get64(b, l3 + 336);
 l14 = get64(b, l3 + 352);
@@ -50428,7 +50629,7 @@ l16 = l3 + 364ull;
 l13 = 0ull;
 l17 = (u32)(!l5);
 if (l17) { goto L21; }
-t2 = f254(b, l3 + 336ull, l5);
+t2 = f255(b, l3 + 336ull, l5);
 if (!t2) { goto L20; }
 l16 = get64(b, l3 + 336);
 l14 = get64(b, l3 + 352);
@@ -50487,7 +50688,7 @@ l4 = l5;
 l7 = 0ull;
 goto L29;
 L30:;
-t3 = f247(b, l3 + 336ull, l5);
+t3 = f248(b, l3 + 336ull, l5);
 if (!t3) { goto L31; }
 l6 = get64(b, l3 + 344);
 l4 = l6 + l5;
@@ -50551,7 +50752,7 @@ l4 = l5;
 l7 = 0ull;
 goto L37;
 L38:;
-t4 = f255(b, l3 + 336ull, l5);
+t4 = f256(b, l3 + 336ull, l5);
 if (!t4) { goto L39; }
 l6 = get64(b, l3 + 344);
 l4 = l6 + l5;
@@ -50624,7 +50825,7 @@ l4 = l5;
 l7 = 0ull;
 goto L45;
 L46:;
-t5 = f256(b, l3 + 336ull, l5);
+t5 = f257(b, l3 + 336ull, l5);
 if (!t5) { goto L47; }
 l6 = get64(b, l3 + 344);
 l4 = l6 + l5;
@@ -50682,7 +50883,7 @@ put64(b, l3 + 352, 0ull);
 put64(b, l3 + 344, 0ull);
 put64(b, l3 + 336, l3 + 364ull);
 if (!l5) { goto L55; }
-t6 = f298(b, l3 + 336ull, l5);
+t6 = f299(b, l3 + 336ull, l5);
 if (!t6) { goto L52; }
 l7 = get64(b, l3 + 344);
 l8 = l7 + l5;
@@ -50764,7 +50965,7 @@ l4 = l5;
 l7 = 0ull;
 goto L63;
 L64:;
-t7 = f299(b, l3 + 336ull, l5);
+t7 = f300(b, l3 + 336ull, l5);
 if (!t7) { goto L65; }
 l6 = get64(b, l3 + 344);
 l4 = l6 + l5;
@@ -50857,7 +51058,7 @@ put8(b, l0 + 207, get8(b, l3 + 206));
 SP = l3 + 368ull;
 }
 
-FN void f261(B b, u64 l0, u64 l1, u64 l2, u64 l3, u64 l4) {
+FN void f262(B b, u64 l0, u64 l1, u64 l2, u64 l3, u64 l4) {
 u32 l20 = 0, l21 = 0, l22 = 0, l23 = 0, t0, t1, t2;
 u64 l5 = 0, l6 = 0, l7 = 0, l8 = 0, l9 = 0, l10 = 0, l11 = 0, l12 = 0, l13 = 0, l14 = 0, l15 = 0, l16 = 0, l17 = 0, l18 = 0, l19 = 0;
 l5 = SP - 272ull;
@@ -50874,7 +51075,7 @@ l10 = l6;
 l11 = 0ull;
 goto L3;
 L4:;
-t0 = f293(b, l5 + 240ull, l6);
+t0 = f294(b, l5 + 240ull, l6);
 if (!t0) { goto L5; }
 l8 = get64(b, l5 + 248);
 l10 = l8 + l6;
@@ -50936,7 +51137,7 @@ put64(b, l5 + 232, get64(b, l5 + 256));
 put64(b, l5 + 224, get64(b, l5 + 248));
 put64(b, l5 + 216, get64(b, l5 + 240));
 l6 = l3 + 112ull;
-f294(b, l5 + 8ull, l1, get64(b, l6), l5 + 216ull);
+f295(b, l5 + 8ull, l1, get64(b, l6), l5 + 216ull);
 copy(b, l5 + 112ull, l5 + 8ull, 104u);
 l6 = get64(b, l6);
 l15 = 0ull;
@@ -50946,7 +51147,7 @@ put64(b, l5 + 240, l5 + 268ull);
 l14 = l5 + 268ull;
 if (!l6) { goto L9; }
 l6 = (l6 < 4294967295ull) ? l6 : 4294967295ull;
-t1 = f247(b, l5 + 240ull, l6);
+t1 = f248(b, l5 + 240ull, l6);
 if (!t1) { goto L10; }
 l14 = get64(b, l5 + 240);
 l8 = get64(b, l5 + 248);
@@ -51040,7 +51241,7 @@ if (get32(b, get64(b, l3 + 72ull) + (l8 << 2)) == 4294967295u) { goto L26; }
 l11 = get64(b, l6 + 4ull);
 l8 = get64(b, l5 + 192);
 if (get64(b, l5 + 200) != l8) { goto L28; }
-t2 = f295(b, l5 + 184ull);
+t2 = f296(b, l5 + 184ull);
 if (!t2) { goto L27; }
 l8 = get64(b, l5 + 192);
 L28:;
@@ -51120,7 +51321,7 @@ copy(b, l0, l5 + 112ull, 104u);
 SP = l5 + 272ull;
 }
 
-FN void f262(B b, u64 l0, u64 l1, u64 l2, u64 l3) {
+FN void f263(B b, u64 l0, u64 l1, u64 l2, u64 l3) {
 u32 l11 = 0, l12 = 0, t0, t1, t2, t3, t4, t5, t6;
 u64 l4 = 0, l5 = 0, l6 = 0, l7 = 0, l8 = 0, l9 = 0, l10 = 0;
 l4 = SP - 304ull;
@@ -51140,7 +51341,7 @@ l5 = (l2 < 4294967295ull) ? l2 : 4294967295ull;
 put64(b, l4 + 224, l4 + 300ull);
 l11 = (u32)(!l2);
 if (l11) { goto L2; }
-t0 = f247(b, l4 + 224ull, l5);
+t0 = f248(b, l4 + 224ull, l5);
 if (!t0) { goto L4; }
 l2 = get64(b, l4 + 232);
 l6 = l2 + l5;
@@ -51160,7 +51361,7 @@ put64(b, l4 + 64, get64(b, l4 + 240));
 put64(b, l4 + 240, 0ull);
 put64(b, l4 + 232, 0ull);
 put64(b, l4 + 224, l4 + 300ull);
-t1 = f254(b, l4 + 224ull, l5);
+t1 = f255(b, l4 + 224ull, l5);
 if (!t1) { goto L6; }
 l2 = get64(b, l4 + 232);
 l6 = l2 + l5;
@@ -51189,7 +51390,7 @@ put64(b, l4 + 240, 0ull);
 put64(b, l4 + 232, 0ull);
 put64(b, l4 + 224, l4 + 300ull);
 if (l11) { goto L11; }
-t2 = f304(b, l4 + 224ull, l5);
+t2 = f305(b, l4 + 224ull, l5);
 if (!t2) { goto L10; }
 l2 = get64(b, l4 + 232);
 l6 = l2 + l5;
@@ -51216,7 +51417,7 @@ put64(b, l4, get64(b, l4 + 224));
 put64(b, l4 + 208, 0ull);
 put64(b, l4 + 216, 0ull);
 put64(b, l4 + 200, l4 + 300ull);
-t3 = f254(b, l4 + 200ull, l5);
+t3 = f255(b, l4 + 200ull, l5);
 if (!t3) { goto L13; }
 l2 = get64(b, l4 + 208);
 l6 = l2 + l5;
@@ -51236,7 +51437,7 @@ put64(b, l4 + 232, 0ull);
 put64(b, l4 + 224, l4 + 300ull);
 l12 = (u32)(!l3);
 if (l12) { goto L18; }
-t4 = f247(b, l4 + 224ull, l8);
+t4 = f248(b, l4 + 224ull, l8);
 if (!t4) { goto L17; }
 l9 = get64(b, l4 + 224);
 l5 = get64(b, l4 + 232);
@@ -51305,7 +51506,7 @@ l5 = get64(b, l4 + 240);
 put64(b, l4 + 264, 0ull);
 put64(b, l4 + 256, 0ull);
 put64(b, l4 + 248, l4 + 300ull);
-t5 = f247(b, l4 + 248ull, l8);
+t5 = f248(b, l4 + 248ull, l8);
 if (!t5) { goto L28; }
 l3 = get64(b, l4 + 256);
 l6 = l3 + l8;
@@ -51323,7 +51524,7 @@ put64(b, l4 + 288, 0ull);
 put64(b, l4 + 280, 0ull);
 put64(b, l4 + 272, l4 + 300ull);
 if (l12) { goto L30; }
-t6 = f247(b, l4 + 272ull, l8);
+t6 = f248(b, l4 + 272ull, l8);
 if (!t6) { goto L31; }
 l3 = get64(b, l4 + 280);
 l6 = l3 + l8;
@@ -51370,7 +51571,7 @@ put16(b, l0 + 214, get16(b, l4 + 76));
 SP = l4 + 304ull;
 }
 
-FN void f263(B b, u64 l0, u64 l1, u64 l2, u64 l3, u64 l4) {
+FN void f264(B b, u64 l0, u64 l1, u64 l2, u64 l3, u64 l4) {
 u32 l19 = 0, l20 = 0, l21 = 0, l22 = 0, t0, t1, t2;
 u64 l5 = 0, l6 = 0, l7 = 0, l8 = 0, l9 = 0, l10 = 0, l11 = 0, l12 = 0, l13 = 0, l14 = 0, l15 = 0, l16 = 0, l17 = 0, l18 = 0;
 l5 = SP - 64ull;
@@ -51394,7 +51595,7 @@ put64(b, l5 + 32, l5 + 60ull);
 l8 = l5 + 60ull;
 if (!l6) { goto L3; }
 l6 = (l6 < 4294967295ull) ? l6 : 4294967295ull;
-t0 = f254(b, l5 + 32ull, l6);
+t0 = f255(b, l5 + 32ull, l6);
 if (!t0) { goto L4; }
 l8 = get64(b, l5 + 32);
 l9 = get64(b, l5 + 40);
@@ -51442,7 +51643,7 @@ put64(b, l5 + 40, 0ull);
 put64(b, l5 + 32, l5 + 60ull);
 if (!l6) { goto L12; }
 l15 = (l6 < 4294967295ull) ? l6 : 4294967295ull;
-t1 = f247(b, l5 + 32ull, l15);
+t1 = f248(b, l5 + 32ull, l15);
 if (!t1) { goto L11; }
 l10 = get64(b, l5 + 32);
 l6 = get64(b, l5 + 40);
@@ -51499,7 +51700,7 @@ if (l17 <= l18) { goto L21; }
 l21 = get32(b, l3 + (l18 * 44ull));
 L21:;
 if (get64(b, l5 + 24) != l12) { goto L23; }
-t2 = f324(b, l5 + 8ull);
+t2 = f325(b, l5 + 8ull);
 if (!t2) { goto L22; }
 l12 = get64(b, l5 + 16);
 L23:;
@@ -51534,7 +51735,7 @@ L1:;
 SP = l5 + 64ull;
 }
 
-FN void f264(B b, u64 l0, u64 l1, u64 l2, u64 l3, u64 l4, u64 l5, u32 l6) {
+FN void f265(B b, u64 l0, u64 l1, u64 l2, u64 l3, u64 l4, u64 l5, u32 l6) {
 u32 l24 = 0, l25 = 0, l26 = 0, l27 = 0, l28 = 0, l29 = 0, l30 = 0, l31 = 0, l32 = 0, l33 = 0, l34 = 0, l35 = 0, l36 = 0, l37 = 0, l38 = 0, l39 = 0, l40 = 0, l41 = 0, l42 = 0, l43 = 0, l44 = 0, l45 = 0, t0, t1, t2, t3, t4, t5, t6, t7, t8, t9, t10, t11, t12, t13, t14, t15, t16, t17;
 u64 l7 = 0, l8 = 0, l9 = 0, l10 = 0, l11 = 0, l12 = 0, l13 = 0, l14 = 0, l15 = 0, l16 = 0, l17 = 0, l18 = 0, l19 = 0, l20 = 0, l21 = 0, l22 = 0, l23 = 0;
 l7 = SP - 912ull;
@@ -51567,7 +51768,7 @@ put64(b, l7 + 872, 0ull);
 put64(b, l7 + 864, l7 + 904ull);
 if (!l5) { goto L4; }
 l9 = (l5 < 4294967295ull) ? l5 : 4294967295ull;
-t0 = f254(b, l7 + 864ull, l9);
+t0 = f255(b, l7 + 864ull, l9);
 if (!t0) { goto L3; }
 l10 = get64(b, l7 + 864);
 l5 = get64(b, l7 + 872);
@@ -51620,7 +51821,7 @@ put64(b, l7 + 872, 0ull);
 put64(b, l7 + 864, l7 + 904ull);
 if (!l5) { goto L13; }
 l15 = (l5 < 4294967295ull) ? l5 : 4294967295ull;
-t1 = f254(b, l7 + 864ull, l15);
+t1 = f255(b, l7 + 864ull, l15);
 if (!t1) { goto L12; }
 l16 = get64(b, l7 + 864);
 l5 = get64(b, l7 + 872);
@@ -51694,7 +51895,7 @@ l5 = get64(b, l4 + 112ull);
 put64(b, l7 + 824, l7 + 904ull);
 if (!l5) { goto L10; }
 l5 = (l5 < 4294967295ull) ? l5 : 4294967295ull;
-t2 = f247(b, l7 + 824ull, l5);
+t2 = f248(b, l7 + 824ull, l5);
 if (!t2) { goto L22; }
 l12 = get64(b, l7 + 832);
 l13 = l12 + l5;
@@ -51714,7 +51915,7 @@ l5 = get64(b, l4 + 136ull);
 put64(b, l7 + 864, l7 + 904ull);
 if (!l5) { goto L24; }
 l5 = (l5 < 4294967295ull) ? l5 : 4294967295ull;
-t3 = f247(b, l7 + 864ull, l5);
+t3 = f248(b, l7 + 864ull, l5);
 if (!t3) { goto L25; }
 l12 = get64(b, l7 + 872);
 l13 = l12 + l5;
@@ -51788,7 +51989,7 @@ l12 = get64(b, l7 + 712);
 put32(b, l13, (u32)((l12 < 4294967295ull) ? l12 : 4294967295ull));
 L35:;
 if (get64(b, l7 + 720) != l12) { goto L39; }
-t4 = f247(b, l7 + 704ull, 1ull);
+t4 = f248(b, l7 + 704ull, 1ull);
 if (!t4) { goto L38; }
 l12 = get64(b, l7 + 712);
 L39:;
@@ -51819,7 +52020,7 @@ l11 = get64(b, l7 + 736);
 put32(b, l12, (u32)((l11 < 4294967295ull) ? l11 : 4294967295ull));
 L43:;
 if (get64(b, l7 + 744) != l11) { goto L46; }
-t5 = f247(b, l7 + 728ull, 1ull);
+t5 = f248(b, l7 + 728ull, 1ull);
 if (!t5) { goto L45; }
 l11 = get64(b, l7 + 736);
 L46:;
@@ -51843,7 +52044,7 @@ l11 = get64(b, l7 + 736);
 put32(b, l12, (u32)((l11 < 4294967295ull) ? l11 : 4294967295ull));
 L48:;
 if (get64(b, l7 + 744) != l11) { goto L51; }
-t6 = f247(b, l7 + 728ull, 1ull);
+t6 = f248(b, l7 + 728ull, 1ull);
 if (!t6) { goto L50; }
 l11 = get64(b, l7 + 736);
 L51:;
@@ -51867,7 +52068,7 @@ l11 = get64(b, l7 + 736);
 put32(b, l12, (u32)((l11 < 4294967295ull) ? l11 : 4294967295ull));
 L53:;
 if (get64(b, l7 + 744) != l11) { goto L56; }
-t7 = f247(b, l7 + 728ull, 1ull);
+t7 = f248(b, l7 + 728ull, 1ull);
 if (!t7) { goto L55; }
 l11 = get64(b, l7 + 736);
 L56:;
@@ -51889,7 +52090,7 @@ put64(b, l7 + 872, 0ull);
 put64(b, l7 + 864, l7 + 904ull);
 if (!l5) { goto L60; }
 l9 = (l5 < 4294967295ull) ? l5 : 4294967295ull;
-t8 = f247(b, l7 + 864ull, l9);
+t8 = f248(b, l7 + 864ull, l9);
 if (!t8) { goto L59; }
 l16 = get64(b, l7 + 864);
 l5 = get64(b, l7 + 872);
@@ -51950,7 +52151,7 @@ put64(b, l7 + 824, 0ull);
 put64(b, l7 + 616, 0ull);
 put64(b, l7 + 624, 0ull);
 put64(b, l7 + 608, l7 + 904ull);
-t9 = f247(b, l7 + 608ull, l9);
+t9 = f248(b, l7 + 608ull, l9);
 if (!t9) { goto L67; }
 l5 = get64(b, l7 + 616);
 l11 = l5 + l9;
@@ -52238,7 +52439,7 @@ l37 = 1u;
 put64(b, l7 + 640, l7 + 560ull);
 put64(b, l7 + 632, l7 + 416ull);
 l25 = (l43 ^ l25) & 1u;
-f325(b, l7 + 88ull, l1, l7 + 608ull, l7 + 336ull, l25 ? l36 : l26);
+f326(b, l7 + 88ull, l1, l7 + 608ull, l7 + 336ull, l25 ? l36 : l26);
 put64(b, l7 + 880, l3);
 put64(b, l7 + 872, l4);
 put64(b, l7 + 864, l2);
@@ -52246,7 +52447,7 @@ put64(b, l7 + 896, l7 + 560ull);
 put64(b, l7 + 888, l7 + 416ull);
 l35 = get32(b, l7 + 92);
 l44 = get8(b, l7 + 88);
-f325(b, l7 + 80ull, l1, l7 + 864ull, l7 + 336ull, l25 ? l26 : l36);
+f326(b, l7 + 80ull, l1, l7 + 864ull, l7 + 336ull, l25 ? l26 : l36);
 l39 = get32(b, l7 + 84);
 l45 = get8(b, l7 + 80);
 if (get64(b, l7 + 424) <= l5) { goto L113; }
@@ -52290,7 +52491,7 @@ put64(b, l7 + 832, l4);
 put64(b, l7 + 824, l2);
 put64(b, l7 + 856, l7 + 560ull);
 put64(b, l7 + 848, l7 + 416ull);
-f325(b, l7 + 96ull, l1, l7 + 824ull, l7 + 336ull, l27);
+f326(b, l7 + 96ull, l1, l7 + 824ull, l7 + 336ull, l27);
 l27 = get8(b, l7 + 96);
 l36 = get32(b, l7 + 100);
 if (get64(b, l7 + 448) <= l5) { goto L119; }
@@ -52325,7 +52526,7 @@ l39 = 0u;
 L96:;
 l11 = get64(b, l7 + 808);
 if (get64(b, l7 + 816) != l11) { goto L125; }
-t11 = f326(b, l7 + 800ull);
+t11 = f327(b, l7 + 800ull);
 if (!t11) { goto L124; }
 l11 = get64(b, l7 + 808);
 L125:;
@@ -52353,7 +52554,7 @@ l13 = get64(b, l7 + 800);
 L89:;
 l11 = get64(b, l7 + 784);
 if (get64(b, l7 + 792) != l11) { goto L128; }
-t12 = f327(b, l7 + 776ull);
+t12 = f328(b, l7 + 776ull);
 if (!t12) { goto L127; }
 l11 = get64(b, l7 + 784);
 L128:;
@@ -52392,7 +52593,7 @@ l14 = 0ull;
 L76:;
 l11 = get64(b, l7 + 760);
 if (get64(b, l7 + 768) != l11) { goto L132; }
-t13 = f328(b, l7 + 752ull);
+t13 = f329(b, l7 + 752ull);
 if (!t13) { goto L131; }
 l11 = get64(b, l7 + 760);
 L132:;
@@ -52472,7 +52673,7 @@ put64(b, l7 + 616, l4);
 put64(b, l7 + 608, l2);
 put64(b, l7 + 640, l7 + 560ull);
 put64(b, l7 + 632, l7 + 416ull);
-f325(b, l7 + 56ull, l1, l7 + 608ull, l7 + 336ull, l27);
+f326(b, l7 + 56ull, l1, l7 + 608ull, l7 + 336ull, l27);
 put64(b, l7 + 880, l3);
 put64(b, l7 + 872, l4);
 put64(b, l7 + 864, l2);
@@ -52480,7 +52681,7 @@ put64(b, l7 + 896, l7 + 560ull);
 put64(b, l7 + 888, l7 + 416ull);
 l26 = get32(b, l7 + 60);
 l36 = get8(b, l7 + 56);
-f325(b, l7 + 48ull, l1, l7 + 864ull, l7 + 336ull, l24);
+f326(b, l7 + 48ull, l1, l7 + 864ull, l7 + 336ull, l24);
 l13 = get64(b, l7 + 448);
 if (l13 <= l11) { goto L145; }
 if (get8(b, get64(b, l7 + 440) + l11) != 1u) { goto L145; }
@@ -52524,7 +52725,7 @@ l27 = get32(b, get64(b, l7 + 488) + (l5 << 2));
 L148:;
 l11 = get64(b, l7 + 832);
 if (get64(b, l7 + 840) != l11) { goto L154; }
-t14 = f329(b, l7 + 824ull);
+t14 = f330(b, l7 + 824ull);
 if (!t14) { goto L153; }
 l11 = get64(b, l7 + 832);
 L154:;
@@ -52582,7 +52783,7 @@ l24 = get32(b, get64(b, l2 + 152ull) + (l11 * 12ull));
 L161:;
 l11 = get64(b, l7 + 616);
 if (get64(b, l7 + 624) != l11) { goto L164; }
-t15 = f330(b, l7 + 608ull);
+t15 = f331(b, l7 + 608ull);
 if (!t15) { goto L163; }
 l11 = get64(b, l7 + 616);
 L164:;
@@ -52674,7 +52875,7 @@ l27 = get32(b, get64(b, l7 + 464) + (l11 << 2));
 L176:;
 l11 = get64(b, l7 + 616);
 if (get64(b, l7 + 624) != l11) { goto L182; }
-t16 = f331(b, l7 + 608ull);
+t16 = f332(b, l7 + 608ull);
 if (!t16) { goto L181; }
 l11 = get64(b, l7 + 616);
 L182:;
@@ -52695,7 +52896,7 @@ l13 = get64(b, l7 + 608);
 L170:;
 l11 = get64(b, l7 + 872);
 if (get64(b, l7 + 880) != l11) { goto L185; }
-t17 = f332(b, l7 + 864ull);
+t17 = f333(b, l7 + 864ull);
 if (!t17) { goto L184; }
 l11 = get64(b, l7 + 872);
 L185:;
@@ -52852,7 +53053,7 @@ put32(b, l0 + 8ull, l6);
 SP = l7 + 912ull;
 }
 
-FN u32 f265(B b, u64 l0) {
+FN u32 f266(B b, u64 l0) {
 u32 l6 = 0;
 u64 l1 = 0, l2 = 0, l3 = 0, l4 = 0, l5 = 0;
 l1 = SP - 32ull;
@@ -52884,7 +53085,7 @@ SP = l1 + 32ull;
 return l6;
 }
 
-FN void f266(B b, u64 l0) {
+FN void f267(B b, u64 l0) {
 u64 l1 = 0, l2 = 0, l3 = 0, l4 = 0, l5 = 0, l6 = 0, l7 = 0, l8 = 0, l9 = 0, l10 = 0, l11 = 0, l12 = 0, l13 = 0, l14 = 0, l15 = 0, l16 = 0, l17 = 0, l18 = 0;
 l1 = get64(b, l0 + 144);
 l2 = get64(b, l0 + 136);
@@ -52954,7 +53155,7 @@ rattle_dealloc(b, l3);
 L15:;
 }
 
-FN void f267(B b, u64 l0, u64 l1, u64 l2, u64 l3, u64 l4, u64 l5) {
+FN void f268(B b, u64 l0, u64 l1, u64 l2, u64 l3, u64 l4, u64 l5) {
 u32 l10 = 0, l11 = 0, l12 = 0, t0;
 u64 l6 = 0, l7 = 0, l8 = 0, l9 = 0;
 l6 = SP - 112ull;
@@ -52973,7 +53174,7 @@ if (get8(b, l2)) { goto L4; }
 l10 = get32(b, l4);
 l8 = get64(b, l6 + 32);
 if (get64(b, l6 + 40) != l8) { goto L6; }
-t0 = f247(b, l6 + 24ull, 1ull);
+t0 = f248(b, l6 + 24ull, 1ull);
 if (!t0) { goto L5; }
 l8 = get64(b, l6 + 32);
 L6:;
@@ -53068,7 +53269,7 @@ l8 = l9 >> 1;
 l2 = 64ull;
 if (l9 > 64ull) { goto L26; }
 if (l7 >= l8) { goto L26; }
-f334(b, l5, l9, l9, 126u - (((u32)clz64(l9)) << 1), l6 + 48ull);
+f335(b, l5, l9, l9, 126u - (((u32)clz64(l9)) << 1), l6 + 48ull);
 rattle_dealloc(b, l1);
 goto L7;
 L26:;
@@ -53201,10 +53402,10 @@ l12 = 1u;
 L23:;
 l4 = l7;
 L22:;
-f335(b, l6 + 64ull, l5, l9, 0ull, l4, l12, 0u, l2, l3, l6 + 48ull);
+f336(b, l6 + 64ull, l5, l9, 0ull, l4, l12, 0u, l2, l3, l6 + 48ull);
 if (get8(b, l6 + 72) & 1u) { goto L41; }
 l7 = get64(b, l6 + 64);
-f334(b, l5, l7, l7, 126u - (((u32)clz64(l7)) << 1), l6 + 48ull);
+f335(b, l5, l7, l7, 126u - (((u32)clz64(l7)) << 1), l6 + 48ull);
 L41:;
 rattle_dealloc(b, l1);
 L7:;
@@ -53214,7 +53415,7 @@ put64(b, l0, get64(b, l6 + 24));
 SP = l6 + 112ull;
 }
 
-FN u32 f268(B b, u64 l0, u64 l1) {
+FN u32 f269(B b, u64 l0, u64 l1) {
 u32 l6 = 0;
 u64 l2 = 0, l3 = 0, l4 = 0, l5 = 0;
 l2 = SP - 32ull;
@@ -53247,7 +53448,7 @@ SP = l2 + 32ull;
 return l6;
 }
 
-FN u32 f269(B b, u64 l0) {
+FN u32 f270(B b, u64 l0) {
 u32 l6 = 0;
 u64 l1 = 0, l2 = 0, l3 = 0, l4 = 0, l5 = 0;
 l1 = SP - 32ull;
@@ -53279,7 +53480,7 @@ SP = l1 + 32ull;
 return l6;
 }
 
-FN void f270(B b, u64 l0, u64 l1, u64 l2, u32 l3) {
+FN void f271(B b, u64 l0, u64 l1, u64 l2, u32 l3) {
 u32 l40 = 0, l41 = 0, l42 = 0, l43 = 0, l44 = 0, l45 = 0, l46 = 0, l47 = 0, l48 = 0, l49 = 0, t0, t1, t2, t3, t4, t5, t6, t7, t8, t9, t10, t11;
 u64 l4 = 0, l5 = 0, l6 = 0, l7 = 0, l8 = 0, l9 = 0, l10 = 0, l11 = 0, l12 = 0, l13 = 0, l14 = 0, l15 = 0, l16 = 0, l17 = 0, l18 = 0, l19 = 0, l20 = 0, l21 = 0, l22 = 0, l23 = 0, l24 = 0, l25 = 0, l26 = 0, l27 = 0, l28 = 0, l29 = 0, l30 = 0, l31 = 0, l32 = 0, l33 = 0, l34 = 0, l35 = 0, l36 = 0, l37 = 0, l38 = 0, l39 = 0;
 l4 = SP - 3520ull;
@@ -53352,7 +53553,7 @@ put64(b, l4 + 1888, 0ull);
 put64(b, l4 + 1880, l12);
 L20:;
 if (get64(b, l4 + 1896) != l9) { goto L21; }
-t0 = f340(b, l4 + 1880ull);
+t0 = f341(b, l4 + 1880ull);
 if (!t0) { goto L3; }
 l12 = get64(b, l4 + 1880);
 l9 = get64(b, l4 + 1888);
@@ -53378,7 +53579,7 @@ l11 = l15 + (l11 * 24ull);
 l12 = l11 + 8ull;
 l5 = get64(b, l12);
 if (get64(b, l11 + 16ull) != l5) { goto L24; }
-t1 = f341(b, l11);
+t1 = f342(b, l11);
 if (!t1) { goto L5; }
 l5 = get64(b, l11 + 8ull);
 L24:;
@@ -53401,7 +53602,7 @@ l5 = l15 + (l5 * 24ull);
 l12 = l5 + 8ull;
 l8 = get64(b, l12);
 if (get64(b, l5 + 16ull) != l8) { goto L28; }
-t2 = f341(b, l5);
+t2 = f342(b, l5);
 if (!t2) { goto L6; }
 l8 = get64(b, l5 + 8ull);
 L28:;
@@ -54041,13 +54242,13 @@ put64(b, l4 + 3480, 0ull);
 if (!l45) { goto L96; }
 put32(b, l4 + 3504, 0u);
 put64(b, l4 + 3496, 0ull);
-f342(b, l4 + 3496ull, l19, l47, l40, get64(b, l4 + 2880));
+f343(b, l4 + 3496ull, l19, l47, l40, get64(b, l4 + 2880));
 if (get8(b, l4 + 3496)) { goto L94; }
 l12 = get64(b, l4 + 3500);
 if (!(l12 & 4294967296ull)) { goto L97; }
 l6 = get64(b, l4 + 2880);
 if (get64(b, l4 + 2888) != l6) { goto L98; }
-t3 = f343(b, l4 + 2872ull);
+t3 = f344(b, l4 + 2872ull);
 if (!t3) { goto L94; }
 l6 = get64(b, l4 + 2880);
 L98:;
@@ -54061,7 +54262,7 @@ l47 = 0u;
 l45 = 1u;
 goto L95;
 L96:;
-f344(b, l4 + 3480ull, l4 + 2656ull, l47, l40, l46 & 1u);
+f345(b, l4 + 3480ull, l4 + 2656ull, l47, l40, l46 & 1u);
 if (get8(b, l4 + 3480)) { goto L94; }
 l47 = get8(b, l4 + 3492);
 l40 = get32(b, l4 + 3488);
@@ -54352,7 +54553,7 @@ put32(b, l4 + 3332, 0u);
 put32(b, l4 + 3328, l45);
 if (!l5) { goto L119; }
 L120:;
-f344(b, l4 + 3424ull, l4 + 2656ull, get8(b, l11), get32(b, l11 + 4ull), get8(b, l11 + 8ull));
+f345(b, l4 + 3424ull, l4 + 2656ull, get8(b, l11), get32(b, l11 + 4ull), get8(b, l11 + 8ull));
 if (get8(b, l4 + 3424)) { goto L123; }
 l40 = get8(b, l4 + 3436);
 l47 = get8(b, l4 + 3428);
@@ -54470,7 +54671,7 @@ if (!l6) { goto L65; }
 L66:;
 rattle_dealloc(b, l18);
 L65:;
-f345(b, l4 + 3080ull);
+f346(b, l4 + 3080ull);
 put32(b, l4 + 2303, 0u);
 put64(b, l4 + 2296, 0ull);
 put64(b, l4 + 2288, 0ull);
@@ -54495,7 +54696,7 @@ put64(b, l4 + 3344, get64(b, l11 + 16));
 put64(b, l4 + 3336, get64(b, l11 + 8));
 put64(b, l4 + 3328, get64(b, l11));
 l11 = l11 + 32ull;
-f345(b, l4 + 3328ull);
+f346(b, l4 + 3328ull);
 l5 = l5 + 18446744073709551615ull;
 if (l5 != 0ull) { goto L130; }
 L129:;
@@ -54579,7 +54780,7 @@ L145:;
 put64(b, l4 + 3344, get64(b, l4 + 2299));
 put64(b, l4 + 3336, get64(b, l4 + 2291));
 put64(b, l4 + 3328, get64(b, l4 + 2283));
-f345(b, l4 + 3328ull);
+f346(b, l4 + 3328ull);
 l7 = get64(b, l4 + 2648);
 l8 = get64(b, l4 + 2632);
 l5 = get64(b, l4 + 2640);
@@ -54590,7 +54791,7 @@ put64(b, l4 + 3344, get64(b, l11 + 16));
 put64(b, l4 + 3336, get64(b, l11 + 8));
 put64(b, l4 + 3328, get64(b, l11));
 l11 = l11 + 32ull;
-f345(b, l4 + 3328ull);
+f346(b, l4 + 3328ull);
 l5 = l5 + 18446744073709551615ull;
 if (l5 != 0ull) { goto L147; }
 L146:;
@@ -54736,7 +54937,7 @@ l7 = l4 + 1408ull;
 l5 = 0ull;
 l11 = l19;
 L171:;
-t10 = f346(b, l7, get8(b, l11), get32(b, l11 + 4ull), l5);
+t10 = f347(b, l7, get8(b, l11), get32(b, l11 + 4ull), l5);
 if (!t10) { goto L167; }
 l11 = l11 + 8ull;
 l5 = l5 + 1ull;
@@ -54749,7 +54950,7 @@ l12 = l4 + 1584ull;
 l5 = 0ull;
 l11 = l18;
 L173:;
-t11 = f346(b, l12, get8(b, l11), get32(b, l11 + 4ull), l5);
+t11 = f347(b, l12, get8(b, l11), get32(b, l11 + 4ull), l5);
 if (!t11) { goto L167; }
 l11 = l11 + 8ull;
 l5 = l5 + 1ull;
@@ -55027,7 +55228,7 @@ put64(b, l4 + 1896, get64(b, l11 + 16));
 put64(b, l4 + 1888, get64(b, l11 + 8));
 put64(b, l4 + 1880, get64(b, l11));
 l11 = l11 + 32ull;
-f345(b, l4 + 1880ull);
+f346(b, l4 + 1880ull);
 l5 = l5 + 18446744073709551615ull;
 if (l5 != 0ull) { goto L225; }
 L224:;
@@ -55110,11 +55311,11 @@ L187:;
 rattle_dealloc(b, l20);
 L186:;
 copy(b, l4 + 400ull, l4 + 1336ull, 400u);
-f347(b, l4 + 1736ull, get32(b, l1), l4 + 400ull);
+f348(b, l4 + 1736ull, get32(b, l1), l4 + 400ull);
 put64(b, l4 + 344, l16);
 put64(b, l4 + 336, l9);
 put64(b, l4 + 328, l15);
-f348(b, l4 + 328ull);
+f349(b, l4 + 328ull);
 l40 = get8(b, l4 + 1744);
 l47 = get8(b, l4 + 1736);
 copy(b, l4 + 200ull, l4 + 1752ull, 128u);
@@ -55133,7 +55334,7 @@ L167:;
 put64(b, l4 + 392, get64(b, l4 + 1352));
 put64(b, l4 + 384, get64(b, l4 + 1344));
 put64(b, l4 + 376, get64(b, l4 + 1336));
-f349(b, l4 + 376ull);
+f350(b, l4 + 376ull);
 if (!get64(b, l4 + 1376)) { goto L243; }
 rattle_dealloc(b, get64(b, l4 + 1360));
 L243:;
@@ -55196,7 +55397,7 @@ L255:;
 put64(b, l4 + 368, l16);
 put64(b, l4 + 360, l9);
 put64(b, l4 + 352, l15);
-f348(b, l4 + 352ull);
+f349(b, l4 + 352ull);
 copy(b, l4 + 200ull, l4 + 800ull, 128u);
 l40 = 0u;
 L12:;
@@ -55301,7 +55502,7 @@ L274:;
 if (!get64(b, l4 + 1456)) { goto L262; }
 rattle_dealloc(b, get64(b, l4 + 1440));
 L262:;
-f350(b, l4 + 208ull);
+f351(b, l4 + 208ull);
 if (!l37) { goto L275; }
 rattle_dealloc(b, l21);
 L275:;
@@ -55367,7 +55568,7 @@ L290:;
 l10 = l10 + 1ull;
 if (l10 != l18) { goto L259; }
 L258:;
-f350(b, l4 + 208ull);
+f351(b, l4 + 208ull);
 if (!l37) { goto L291; }
 rattle_dealloc(b, l21);
 L291:;
@@ -55419,7 +55620,7 @@ L303:;
 if (!get64(b, l4 + 1456)) { goto L304; }
 rattle_dealloc(b, get64(b, l4 + 1440));
 L304:;
-f350(b, l4 + 208ull);
+f351(b, l4 + 208ull);
 if (!l37) { goto L305; }
 rattle_dealloc(b, l21);
 L305:;
@@ -55574,7 +55775,7 @@ L1:;
 SP = l4 + 3520ull;
 }
 
-FN u32 f271(B b, u64 l0) {
+FN u32 f272(B b, u64 l0) {
 u32 l6 = 0;
 u64 l1 = 0, l2 = 0, l3 = 0, l4 = 0, l5 = 0;
 l1 = SP - 32ull;
@@ -55606,7 +55807,7 @@ SP = l1 + 32ull;
 return l6;
 }
 
-FN void f272(B b, u64 l0) {
+FN void f273(B b, u64 l0) {
 u64 l1 = 0, l2 = 0, l3 = 0, l4 = 0, l5 = 0, l6 = 0, l7 = 0, l8 = 0, l9 = 0, l10 = 0, l11 = 0, l12 = 0, l13 = 0, l14 = 0, l15 = 0, l16 = 0, l17 = 0, l18 = 0;
 l1 = get64(b, l0 + 144);
 l2 = get64(b, l0 + 136);
@@ -55676,7 +55877,7 @@ rattle_dealloc(b, l3);
 L15:;
 }
 
-FN u32 f273(B b, u64 l0) {
+FN u32 f274(B b, u64 l0) {
 u32 l15 = 0, l16 = 0, l17 = 0;
 u64 l1 = 0, l2 = 0, l3 = 0, l4 = 0, l5 = 0, l6 = 0, l7 = 0, l8 = 0, l9 = 0, l10 = 0, l11 = 0, l12 = 0, l13 = 0, l14 = 0;
 l1 = SP - 144ull;
@@ -55684,17 +55885,17 @@ SP = l1;
 l2 = get64(b, l0);
 l0 = get64(b, l0 + 8ull);
 if (l0 > 20ull) { goto L3; }
-f274(b, l2, l0, 1ull);
+f275(b, l2, l0, 1ull);
 goto L2;
 L3:;
-f275(b, l1 + 24ull, l2, l0, 0ull);
+f276(b, l1 + 24ull, l2, l0, 0ull);
 l15 = get8(b, l1 + 32);
 l3 = get64(b, l1 + 24);
 if (l3 != l0) { goto L4; }
 l16 = 0u;
 if (!(l15 & 1u)) { goto L1; }
 l4 = l0 >> 1;
-f276(b, l2, l2 + ((l0 - l4) * 20ull), l4);
+f277(b, l2, l2 + ((l0 - l4) * 20ull), l4);
 goto L1;
 L4:;
 l4 = l0 * 20ull;
@@ -55714,7 +55915,7 @@ l6 = l0 >> 1;
 l4 = 64ull;
 if (l0 > 64ull) { goto L7; }
 if (l3 >= l6) { goto L7; }
-f277(b, l2, l0, l0, 126u - (((u32)clz64(l0)) << 1), l1 + 40ull);
+f278(b, l2, l0, l0, 126u - (((u32)clz64(l0)) << 1), l1 + 40ull);
 goto L6;
 L7:;
 l7 = 0ull;
@@ -55781,15 +55982,15 @@ if (l11 != l6) { goto L13; }
 goto L11;
 L12:;
 l4 = l3 >> 1;
-f276(b, l2, l2 + ((l3 - l4) * 20ull), l4);
+f277(b, l2, l2 + ((l3 - l4) * 20ull), l4);
 L11:;
 l16 = 1u;
 l4 = l3;
 L10:;
-f278(b, l1 + 56ull, l2, l0, 0ull, l4, l16, 0u, l9, l10, l1 + 40ull);
+f279(b, l1 + 56ull, l2, l0, 0ull, l4, l16, 0u, l9, l10, l1 + 40ull);
 if (get8(b, l1 + 64) & 1u) { goto L6; }
 l0 = get64(b, l1 + 56);
-f277(b, l2, l0, l0, 126u - (((u32)clz64(l0)) << 1), l1 + 40ull);
+f278(b, l2, l0, l0, 126u - (((u32)clz64(l0)) << 1), l1 + 40ull);
 L6:;
 rattle_dealloc(b, l5);
 L2:;
@@ -55799,7 +56000,7 @@ SP = l1 + 144ull;
 return l16;
 }
 
-FN void f274(B b, u64 l0, u64 l1, u64 l2) {
+FN void f275(B b, u64 l0, u64 l1, u64 l2) {
 u32 l7 = 0, l8 = 0, l9 = 0, l10 = 0, l11 = 0, l12 = 0;
 u64 l3 = 0, l4 = 0, l5 = 0, l6 = 0;
 if (l2 >= l1) { goto L1; }
@@ -55903,7 +56104,7 @@ if (l2 != l1) { goto L2; }
 L1:;
 }
 
-FN void f275(B b, u64 l0, u64 l1, u64 l2, u64 l3) {
+FN void f276(B b, u64 l0, u64 l1, u64 l2, u64 l3) {
 u32 l6 = 0, l7 = 0, l8 = 0;
 u64 l4 = 0, l5 = 0;
 l4 = l3 + 2ull;
@@ -56011,7 +56212,7 @@ put8(b, l0 + 8, l8);
 put64(b, l0, l4);
 }
 
-FN void f276(B b, u64 l0, u64 l1, u64 l2) {
+FN void f277(B b, u64 l0, u64 l1, u64 l2) {
 u32 l6 = 0, l7 = 0;
 u64 l3 = 0, l4 = 0, l5 = 0;
 l1 = ((l2 * 20ull) + l1) + 18446744073709551596ull;
@@ -56033,24 +56234,24 @@ l2 = l2 + 18446744073709551615ull;
 if (l2 != 0ull) { goto L1; }
 }
 
-FN void f277(B b, u64 l0, u64 l1, u64 l2, u32 l3, u64 l4) {
+FN void f278(B b, u64 l0, u64 l1, u64 l2, u32 l3, u64 l4) {
 u32 l19 = 0, l20 = 0, l21 = 0, l22 = 0, l23 = 0, l24 = 0;
 u64 l5 = 0, l6 = 0, l7 = 0, l8 = 0, l9 = 0, l10 = 0, l11 = 0, l12 = 0, l13 = 0, l14 = 0, l15 = 0, l16 = 0, l17 = 0, l18 = 0, t0, t1;
 if (l1 < 33ull) { goto L1; }
 L2:;
 if (l3) { goto L3; }
-f279(b, l0, l1, l4);
+f280(b, l0, l1, l4);
 return;
 L3:;
 l5 = l1 >> 3;
 l6 = l5 * 7ull;
 l7 = l5 << 2;
 if (l1 > 63ull) { goto L5; }
-t0 = f280(b, l0, 0ull, l7, l6);
+t0 = f281(b, l0, 0ull, l7, l6);
 l8 = t0;
 goto L4;
 L5:;
-t1 = f281(b, l0, 0ull, l7, l6, l5);
+t1 = f282(b, l0, 0ull, l7, l6, l5);
 l8 = t1;
 L4:;
 if (l2 < l1) { goto L9; }
@@ -56245,7 +56446,7 @@ L29:;
 put64(b, l4 + 8, l9);
 put64(b, l4, l10);
 l3 = l3 + 4294967295u;
-f277(b, l0, l2, l1, l3, l4);
+f278(b, l0, l2, l1, l3, l4);
 l1 = l15;
 goto L6;
 L7:;
@@ -56405,10 +56606,10 @@ l0 = l8;
 l1 = l17;
 if (l17 >= 33ull) { goto L2; }
 L1:;
-f282(b, l0, l1, l4);
+f283(b, l0, l1, l4);
 }
 
-FN void f278(B b, u64 l0, u64 l1, u64 l2, u64 l3, u64 l4, u32 l5, u32 l6, u64 l7, u64 l8, u64 l9) {
+FN void f279(B b, u64 l0, u64 l1, u64 l2, u64 l3, u64 l4, u32 l5, u32 l6, u64 l7, u64 l8, u64 l9) {
 u32 l19 = 0, l20 = 0, l21 = 0, l22 = 0;
 u64 l10 = 0, l11 = 0, l12 = 0, l13 = 0, l14 = 0, l15 = 0, l16 = 0, l17 = 0, l18 = 0;
 l10 = SP - 80ull;
@@ -56429,7 +56630,7 @@ l19 = 0u;
 l11 = l2;
 l20 = 0u;
 if ((l2 - l4) < l7) { goto L3; }
-f275(b, l10, l1, l2, l4);
+f276(b, l10, l1, l2, l4);
 l11 = get64(b, l10);
 l12 = l11 - l4;
 if (l12 >= l7) { goto L4; }
@@ -56646,7 +56847,7 @@ put32(b, l12 + 16, l22);
 goto L3;
 L5:;
 l15 = l12 >> 1;
-f276(b, l13, l13 + ((l12 - l15) * 20ull), l15);
+f277(b, l13, l13 + ((l12 - l15) * 20ull), l15);
 L3:;
 put32(b, l10 + 25, 0u);
 put8(b, l10 + 24, l5);
@@ -56665,7 +56866,7 @@ if (l6 > l22) { goto L18; }
 l14 = l1 + (l3 * 20ull);
 L19:;
 l11 = l4;
-f278(b, l10 + 16ull, l1, l2, l11, get64(b, l10 + 32), get8(b, l10 + 40), l21, l7, l8, l9);
+f279(b, l10 + 16ull, l1, l2, l11, get64(b, l10 + 32), get8(b, l10 + 40), l21, l7, l8, l9);
 l4 = get64(b, l10 + 16);
 l21 = get8(b, l10 + 24);
 if ((l21 | l5) & 1u) { goto L21; }
@@ -56674,12 +56875,12 @@ goto L20;
 L21:;
 if (l5 & 1u) { goto L22; }
 l13 = l11 - l3;
-f277(b, l14, l13, l13, 126u - (((u32)clz64(l13)) << 1), l9);
+f278(b, l14, l13, l13, 126u - (((u32)clz64(l13)) << 1), l9);
 L22:;
 l13 = l11 * 20ull;
 if (l21 & 1u) { goto L23; }
 l15 = l4 - l11;
-f277(b, l1 + l13, l15, l15, 126u - (((u32)clz64(l15)) << 1), l9);
+f278(b, l1 + l13, l15, l15, 126u - (((u32)clz64(l15)) << 1), l9);
 L23:;
 l13 = l1 + l13;
 l5 = get32(b, l13);
@@ -56708,7 +56909,7 @@ goto L24;
 L29:;
 if (get32(b, l13 + 16ull) >= get32(b, l13 + 18446744073709551612ull)) { goto L24; }
 L25:;
-f284(b, l14, l4 - l3, l11 - l3, l9);
+f285(b, l14, l4 - l3, l11 - l3, l9);
 L24:;
 l5 = 1u;
 L20:;
@@ -56735,19 +56936,19 @@ L1:;
 SP = l10 + 80ull;
 }
 
-FN void f279(B b, u64 l0, u64 l1, u64 l2) {
+FN void f280(B b, u64 l0, u64 l1, u64 l2) {
 u64 l3 = 0;
 if (l1 >= 33ull) { goto L1; }
-f282(b, l0, l1, l2);
+f283(b, l0, l1, l2);
 return;
 L1:;
 l3 = l1 >> 1;
-f279(b, l0, l3, l2);
-f279(b, l0 + (l3 * 20ull), l1 - l3, l2);
-f284(b, l0, l1, l3, l2);
+f280(b, l0, l3, l2);
+f280(b, l0 + (l3 * 20ull), l1 - l3, l2);
+f285(b, l0, l1, l3, l2);
 }
 
-FN u64 f280(B b, u64 l0, u64 l1, u64 l2, u64 l3) {
+FN u64 f281(B b, u64 l0, u64 l1, u64 l2, u64 l3) {
 u32 l6 = 0, l7 = 0, l8 = 0, l9 = 0, l10 = 0;
 u64 l4 = 0, l5 = 0;
 l4 = l0 + (l1 * 20ull);
@@ -56834,34 +57035,34 @@ L11:;
 return l1;
 }
 
-FN u64 f281(B b, u64 l0, u64 l1, u64 l2, u64 l3, u64 l4) {
+FN u64 f282(B b, u64 l0, u64 l1, u64 l2, u64 l3, u64 l4) {
 u64 l5 = 0, l6 = 0, t0, t1, t2, t3, t4;
 if (l4 >= 8ull) { goto L1; }
-t0 = f280(b, l0, l1, l2, l3);
+t0 = f281(b, l0, l1, l2, l3);
 return t0;
 L1:;
 l4 = l4 >> 3;
 l5 = l4 << 2;
 l6 = l4 * 7ull;
-t1 = f281(b, l0, l1, l5 + l1, l6 + l1, l4);
-t2 = f281(b, l0, l2, l5 + l2, l6 + l2, l4);
-t3 = f281(b, l0, l3, l5 + l3, l6 + l3, l4);
-t4 = f280(b, l0, t1, t2, t3);
+t1 = f282(b, l0, l1, l5 + l1, l6 + l1, l4);
+t2 = f282(b, l0, l2, l5 + l2, l6 + l2, l4);
+t3 = f282(b, l0, l3, l5 + l3, l6 + l3, l4);
+t4 = f281(b, l0, t1, t2, t3);
 return t4;
 }
 
-FN void f282(B b, u64 l0, u64 l1, u64 l2) {
+FN void f283(B b, u64 l0, u64 l1, u64 l2) {
 u32 l18 = 0, l19 = 0;
 u64 l3 = 0, l4 = 0, l5 = 0, l6 = 0, l7 = 0, l8 = 0, l9 = 0, l10 = 0, l11 = 0, l12 = 0, l13 = 0, l14 = 0, l15 = 0, l16 = 0, l17 = 0;
 l3 = SP - 32ull;
 SP = l3;
 if (l1 >= 16ull) { goto L2; }
-f283(b, l0, l1, l2);
+f284(b, l0, l1, l2);
 goto L1;
 L2:;
 l4 = l1 >> 1;
-f283(b, l0, l4, l2);
-f283(b, l0 + (l4 * 20ull), l1 - l4, l2);
+f284(b, l0, l4, l2);
+f284(b, l0 + (l4 * 20ull), l1 - l4, l2);
 l5 = get64(b, l2 + 8);
 l6 = get64(b, l2);
 l7 = 0ull;
@@ -57031,12 +57232,12 @@ put64(b, l2 + 8, l5);
 put64(b, l2, l6);
 goto L1;
 L15:;
-f274(b, l0, l1, 1ull);
+f275(b, l0, l1, 1ull);
 L1:;
 SP = l3 + 32ull;
 }
 
-FN void f283(B b, u64 l0, u64 l1, u64 l2) {
+FN void f284(B b, u64 l0, u64 l1, u64 l2) {
 u32 l28 = 0, l29 = 0, l30 = 0, l31 = 0, l32 = 0, l33 = 0, l34 = 0, l35 = 0, l36 = 0;
 u64 l3 = 0, l4 = 0, l5 = 0, l6 = 0, l7 = 0, l8 = 0, l9 = 0, l10 = 0, l11 = 0, l12 = 0, l13 = 0, l14 = 0, l15 = 0, l16 = 0, l17 = 0, l18 = 0, l19 = 0, l20 = 0, l21 = 0, l22 = 0, l23 = 0, l24 = 0, l25 = 0, l26 = 0, l27 = 0;
 if (l1 < 8ull) { goto L1; }
@@ -57729,7 +57930,7 @@ l6 = 4ull;
 L92:;
 put64(b, l2 + 8, l14);
 put64(b, l2, l8);
-f274(b, l0, l1, l6);
+f275(b, l0, l1, l6);
 return;
 L1:;
 l8 = 1ull;
@@ -57940,10 +58141,10 @@ put64(b, l2 + 8, l10);
 put64(b, l2, l8);
 l8 = 4ull;
 L96:;
-f274(b, l0, l1, l8);
+f275(b, l0, l1, l8);
 }
 
-FN void f284(B b, u64 l0, u64 l1, u64 l2, u64 l3) {
+FN void f285(B b, u64 l0, u64 l1, u64 l2, u64 l3) {
 u32 l19 = 0, l20 = 0;
 u64 l4 = 0, l5 = 0, l6 = 0, l7 = 0, l8 = 0, l9 = 0, l10 = 0, l11 = 0, l12 = 0, l13 = 0, l14 = 0, l15 = 0, l16 = 0, l17 = 0, l18 = 0;
 l4 = l1 >> 2;
@@ -58520,7 +58721,7 @@ put64(b, l3 + 8, l16);
 put64(b, l3, l13);
 }
 
-FN void f285(B b, u64 l0, u64 l1, u64 l2) {
+FN void f286(B b, u64 l0, u64 l1, u64 l2) {
 u64 l3 = 0, l4 = 0, l5 = 0, l6 = 0, l7 = 0, l8 = 0, l9 = 0;
 l3 = l2 & 9223372036854775806ull;
 l4 = l2 & 1ull;
@@ -58546,13 +58747,13 @@ put64(b, l5, l6);
 L2:;
 }
 
-FN void f286(B b, u64 l0, u64 l1, u64 l2, u32 l3, u64 l4) {
+FN void f287(B b, u64 l0, u64 l1, u64 l2, u32 l3, u64 l4) {
 u32 l17 = 0, l18 = 0, l19 = 0, l20 = 0;
 u64 l5 = 0, l6 = 0, l7 = 0, l8 = 0, l9 = 0, l10 = 0, l11 = 0, l12 = 0, l13 = 0, l14 = 0, l15 = 0, l16 = 0, t0;
 if (l1 < 33ull) { goto L1; }
 L2:;
 if (l3) { goto L3; }
-f288(b, l0, l1, l4);
+f289(b, l0, l1, l4);
 return;
 L3:;
 l5 = l1 >> 3;
@@ -58587,7 +58788,7 @@ L10:;
 l9 = (l19 ^ l17) ? l6 : l7;
 goto L4;
 L5:;
-t0 = f289(b, l0, 0ull, l7, l6, l5);
+t0 = f290(b, l0, 0ull, l7, l6, l5);
 l9 = t0;
 L4:;
 if (l2 < l1) { goto L14; }
@@ -58802,7 +59003,7 @@ L39:;
 put64(b, l4 + 8, l11);
 put64(b, l4, l12);
 l3 = l3 + 4294967295u;
-f286(b, l0, l6, l1, l3, l4);
+f287(b, l0, l6, l1, l3, l4);
 l1 = l15;
 L12:;
 l2 = l1;
@@ -58810,10 +59011,10 @@ l0 = l14;
 l1 = l9;
 if (l9 >= 33ull) { goto L2; }
 L1:;
-f290(b, l0, l1, l4);
+f291(b, l0, l1, l4);
 }
 
-FN void f287(B b, u64 l0, u64 l1, u64 l2, u64 l3, u64 l4, u32 l5, u32 l6, u64 l7, u64 l8, u64 l9) {
+FN void f288(B b, u64 l0, u64 l1, u64 l2, u64 l3, u64 l4, u32 l5, u32 l6, u64 l7, u64 l8, u64 l9) {
 u32 l17 = 0, l18 = 0, l19 = 0, l20 = 0;
 u64 l10 = 0, l11 = 0, l12 = 0, l13 = 0, l14 = 0, l15 = 0, l16 = 0;
 l10 = SP - 48ull;
@@ -58988,7 +59189,7 @@ put64(b, l13, l14);
 goto L3;
 L16:;
 l14 = l13 >> 1;
-f285(b, l12, l12 + ((l13 - l14) << 3), l14);
+f286(b, l12, l12 + ((l13 - l14) << 3), l14);
 L3:;
 put32(b, l10 + 17, 0u);
 put8(b, l10 + 16, l5);
@@ -59007,7 +59208,7 @@ if (l6 > l20) { goto L29; }
 l15 = l1 + (l3 << 3);
 L30:;
 l11 = l4;
-f287(b, l10 + 8ull, l1, l2, l11, get64(b, l10 + 24), get8(b, l10 + 32), l19, l7, l8, l9);
+f288(b, l10 + 8ull, l1, l2, l11, get64(b, l10 + 24), get8(b, l10 + 32), l19, l7, l8, l9);
 l4 = get64(b, l10 + 8);
 l19 = get8(b, l10 + 16);
 if ((l19 | l5) & 1u) { goto L32; }
@@ -59016,12 +59217,12 @@ goto L31;
 L32:;
 if (l5 & 1u) { goto L33; }
 l12 = l11 - l3;
-f286(b, l15, l12, l12, 126u - (((u32)clz64(l12)) << 1), l9);
+f287(b, l15, l12, l12, 126u - (((u32)clz64(l12)) << 1), l9);
 L33:;
 l12 = l11 << 3;
 if (l19 & 1u) { goto L34; }
 l14 = l4 - l11;
-f286(b, l1 + l12, l14, l14, 126u - (((u32)clz64(l14)) << 1), l9);
+f287(b, l1 + l12, l14, l14, 126u - (((u32)clz64(l14)) << 1), l9);
 L34:;
 l12 = l1 + l12;
 l5 = get32(b, l12);
@@ -59032,7 +59233,7 @@ goto L35;
 L37:;
 if (l5 >= l19) { goto L35; }
 L36:;
-f292(b, l15, l4 - l3, l11 - l3, l9);
+f293(b, l15, l4 - l3, l11 - l3, l9);
 L35:;
 l5 = 1u;
 L31:;
@@ -59059,19 +59260,19 @@ L1:;
 SP = l10 + 48ull;
 }
 
-FN void f288(B b, u64 l0, u64 l1, u64 l2) {
+FN void f289(B b, u64 l0, u64 l1, u64 l2) {
 u64 l3 = 0;
 if (l1 >= 33ull) { goto L1; }
-f290(b, l0, l1, l2);
+f291(b, l0, l1, l2);
 return;
 L1:;
 l3 = l1 >> 1;
-f288(b, l0, l3, l2);
-f288(b, l0 + (l3 << 3), l1 - l3, l2);
-f292(b, l0, l1, l3, l2);
+f289(b, l0, l3, l2);
+f289(b, l0 + (l3 << 3), l1 - l3, l2);
+f293(b, l0, l1, l3, l2);
 }
 
-FN u64 f289(B b, u64 l0, u64 l1, u64 l2, u64 l3, u64 l4) {
+FN u64 f290(B b, u64 l0, u64 l1, u64 l2, u64 l3, u64 l4) {
 u32 l5 = 0, l6 = 0, l7 = 0, l8 = 0;
 u64 l9 = 0, l10 = 0, t0, t1, t2;
 if (l4 >= 8ull) { goto L2; }
@@ -59105,11 +59306,11 @@ L2:;
 l4 = l4 >> 3;
 l9 = l4 << 2;
 l10 = l4 * 7ull;
-t0 = f289(b, l0, l1, l9 + l1, l10 + l1, l4);
+t0 = f290(b, l0, l1, l9 + l1, l10 + l1, l4);
 l1 = t0;
-t1 = f289(b, l0, l2, l9 + l2, l10 + l2, l4);
+t1 = f290(b, l0, l2, l9 + l2, l10 + l2, l4);
 l2 = t1;
-t2 = f289(b, l0, l3, l9 + l3, l10 + l3, l4);
+t2 = f290(b, l0, l3, l9 + l3, l10 + l3, l4);
 l3 = t2;
 l4 = l0 + (l1 << 3);
 l5 = get32(b, l4);
@@ -59141,18 +59342,18 @@ L1:;
 return l1;
 }
 
-FN void f290(B b, u64 l0, u64 l1, u64 l2) {
+FN void f291(B b, u64 l0, u64 l1, u64 l2) {
 u32 l18 = 0, l19 = 0, l20 = 0;
 u64 l3 = 0, l4 = 0, l5 = 0, l6 = 0, l7 = 0, l8 = 0, l9 = 0, l10 = 0, l11 = 0, l12 = 0, l13 = 0, l14 = 0, l15 = 0, l16 = 0, l17 = 0;
 l3 = SP - 32ull;
 SP = l3;
 if (l1 >= 16ull) { goto L2; }
-f291(b, l0, l1, l2);
+f292(b, l0, l1, l2);
 goto L1;
 L2:;
 l4 = l1 >> 1;
-f291(b, l0, l4, l2);
-f291(b, l0 + (l4 << 3), l1 - l4, l2);
+f292(b, l0, l4, l2);
+f292(b, l0 + (l4 << 3), l1 - l4, l2);
 l5 = get64(b, l2 + 8);
 l6 = get64(b, l2);
 l7 = 0ull;
@@ -59302,7 +59503,7 @@ L1:;
 SP = l3 + 32ull;
 }
 
-FN void f291(B b, u64 l0, u64 l1, u64 l2) {
+FN void f292(B b, u64 l0, u64 l1, u64 l2) {
 u32 l3 = 0, l4 = 0, l5 = 0, l6 = 0, l7 = 0, l8 = 0, l9 = 0, l10 = 0, l11 = 0;
 u64 l12 = 0, l13 = 0, l14 = 0, l15 = 0, l16 = 0, l17 = 0, l18 = 0, l19 = 0, l20 = 0, l21 = 0, l22 = 0, l23 = 0, l24 = 0, l25 = 0, l26 = 0, l27 = 0, l28 = 0, l29 = 0;
 if (l1 < 8ull) { goto L2; }
@@ -59689,7 +59890,7 @@ if (l13 != l1) { goto L52; }
 L51:;
 }
 
-FN void f292(B b, u64 l0, u64 l1, u64 l2, u64 l3) {
+FN void f293(B b, u64 l0, u64 l1, u64 l2, u64 l3) {
 u32 l17 = 0, l18 = 0;
 u64 l4 = 0, l5 = 0, l6 = 0, l7 = 0, l8 = 0, l9 = 0, l10 = 0, l11 = 0, l12 = 0, l13 = 0, l14 = 0, l15 = 0, l16 = 0;
 if (l1 < 4097ull) { goto L2; }
@@ -60047,7 +60248,7 @@ put64(b, l3 + 8, l15);
 put64(b, l3, l4);
 }
 
-FN u32 f293(B b, u64 l0, u64 l1) {
+FN u32 f294(B b, u64 l0, u64 l1) {
 u32 l6 = 0;
 u64 l2 = 0, l3 = 0, l4 = 0, l5 = 0;
 l2 = SP - 32ull;
@@ -60080,7 +60281,7 @@ SP = l2 + 32ull;
 return l6;
 }
 
-FN void f294(B b, u64 l0, u64 l1, u64 l2, u64 l3) {
+FN void f295(B b, u64 l0, u64 l1, u64 l2, u64 l3) {
 u32 t0, t1;
 u64 l4 = 0, l5 = 0, l6 = 0;
 l4 = SP - 208ull;
@@ -60093,7 +60294,7 @@ put64(b, l4 + 160, 0ull);
 put64(b, l4 + 152, l4 + 204ull);
 if (!l2) { goto L2; }
 l3 = (l2 < 4294967295ull) ? l2 : 4294967295ull;
-t0 = f247(b, l4 + 152ull, l3);
+t0 = f248(b, l4 + 152ull, l3);
 if (!t0) { goto L4; }
 l2 = get64(b, l4 + 160);
 l5 = l2 + l3;
@@ -60113,7 +60314,7 @@ put64(b, l4 + 24, get64(b, l4 + 168));
 put64(b, l4 + 184, 0ull);
 put64(b, l4 + 192, 0ull);
 put64(b, l4 + 176, l4 + 204ull);
-t1 = f247(b, l4 + 176ull, l3);
+t1 = f248(b, l4 + 176ull, l3);
 if (!t1) { goto L6; }
 l2 = get64(b, l4 + 184);
 l1 = l2 + l3;
@@ -60152,7 +60353,7 @@ put64(b, l0 + 72, l4 + 204ull);
 SP = l4 + 208ull;
 }
 
-FN u32 f295(B b, u64 l0) {
+FN u32 f296(B b, u64 l0) {
 u32 l6 = 0;
 u64 l1 = 0, l2 = 0, l3 = 0, l4 = 0, l5 = 0;
 l1 = SP - 32ull;
@@ -60184,7 +60385,7 @@ SP = l1 + 32ull;
 return l6;
 }
 
-FN void f296(B b, u64 l0, u64 l1, u64 l2, u64 l3) {
+FN void f297(B b, u64 l0, u64 l1, u64 l2, u64 l3) {
 u32 l13 = 0, t0;
 u64 l4 = 0, l5 = 0, l6 = 0, l7 = 0, l8 = 0, l9 = 0, l10 = 0, l11 = 0, l12 = 0;
 l4 = SP - 32ull;
@@ -60197,7 +60398,7 @@ put64(b, l4, l4 + 28ull);
 l7 = l4 + 28ull;
 if (!l5) { goto L1; }
 l5 = (l5 < 4294967295ull) ? l5 : 4294967295ull;
-t0 = f247(b, l4, l5);
+t0 = f248(b, l4, l5);
 if (!t0) { goto L2; }
 l7 = get64(b, l4);
 l1 = get64(b, l4 + 8);
@@ -60244,7 +60445,7 @@ put64(b, l0, l7);
 SP = l4 + 32ull;
 }
 
-FN u32 f297(B b, u64 l0) {
+FN u32 f298(B b, u64 l0) {
 u32 l6 = 0;
 u64 l1 = 0, l2 = 0, l3 = 0, l4 = 0, l5 = 0;
 l1 = SP - 32ull;
@@ -60276,7 +60477,7 @@ SP = l1 + 32ull;
 return l6;
 }
 
-FN u32 f298(B b, u64 l0, u64 l1) {
+FN u32 f299(B b, u64 l0, u64 l1) {
 u32 l6 = 0;
 u64 l2 = 0, l3 = 0, l4 = 0, l5 = 0;
 l2 = SP - 32ull;
@@ -60309,7 +60510,7 @@ SP = l2 + 32ull;
 return l6;
 }
 
-FN u32 f299(B b, u64 l0, u64 l1) {
+FN u32 f300(B b, u64 l0, u64 l1) {
 u32 l6 = 0;
 u64 l2 = 0, l3 = 0, l4 = 0, l5 = 0;
 l2 = SP - 32ull;
@@ -60342,7 +60543,7 @@ SP = l2 + 32ull;
 return l6;
 }
 
-FN void f300(B b, u64 l0, u64 l1, u64 l2, u64 l3, u64 l4, u64 l5, u32 l6) {
+FN void f301(B b, u64 l0, u64 l1, u64 l2, u64 l3, u64 l4, u64 l5, u32 l6) {
 u32 l19 = 0, l20 = 0, l21 = 0, l22 = 0, l23 = 0, l24 = 0, l25 = 0, l26 = 0, l27 = 0, l28 = 0, l29 = 0, l30 = 0, l31 = 0, l32 = 0, l33 = 0, l34 = 0, l35 = 0, l36 = 0, t0, t1;
 u64 l7 = 0, l8 = 0, l9 = 0, l10 = 0, l11 = 0, l12 = 0, l13 = 0, l14 = 0, l15 = 0, l16 = 0, l17 = 0, l18 = 0;
 l7 = SP - 32ull;
@@ -60352,7 +60553,7 @@ put64(b, l7 + 8, 0ull);
 put64(b, l7, l7 + 28ull);
 if (!l5) { goto L4; }
 l8 = (l5 < 4294967295ull) ? l5 : 4294967295ull;
-t0 = f247(b, l7, l8);
+t0 = f248(b, l7, l8);
 if (!t0) { goto L6; }
 l9 = get64(b, l7);
 l5 = get64(b, l7 + 8);
@@ -60371,7 +60572,7 @@ l12 = get64(b, l7 + 16);
 put64(b, l7 + 16, 0ull);
 put64(b, l7 + 8, 0ull);
 put64(b, l7, l7 + 28ull);
-t1 = f247(b, l7, l8);
+t1 = f248(b, l7, l8);
 if (!t1) { goto L3; }
 l13 = get64(b, l7);
 l5 = get64(b, l7 + 8);
@@ -60501,7 +60702,7 @@ goto L13;
 L19:;
 if (l29 != l36) { goto L13; }
 L18:;
-f305(b, l17, l18, l2, l3, l20, l19, l6);
+f306(b, l17, l18, l2, l3, l20, l19, l6);
 L13:;
 l5 = l5 + 4ull;
 l19 = l19 + 1u;
@@ -60520,7 +60721,7 @@ L23:;
 SP = l7 + 32ull;
 }
 
-FN u32 f301(B b, u64 l0) {
+FN u32 f302(B b, u64 l0) {
 u32 l6 = 0;
 u64 l1 = 0, l2 = 0, l3 = 0, l4 = 0, l5 = 0;
 l1 = SP - 32ull;
@@ -60552,7 +60753,7 @@ SP = l1 + 32ull;
 return l6;
 }
 
-FN void f302(B b, u64 l0, u64 l1, u64 l2, u64 l3, u64 l4, u64 l5) {
+FN void f303(B b, u64 l0, u64 l1, u64 l2, u64 l3, u64 l4, u64 l5) {
 u32 l51 = 0, l52 = 0, l53 = 0, l54 = 0, l55 = 0, l56 = 0, l57 = 0, l58 = 0, l59 = 0, l60 = 0, l61 = 0, l62 = 0, l63 = 0, l64 = 0, l65 = 0, l66 = 0, l67 = 0, l68 = 0, t0, t1, t2, t3, t4, t5, t6, t7, t8, t9, t10, t11, t12, t13, t14, t15, t16, t17, t18, t19, t20, t21, t22, t23, t24, t25, t26, t27, t28, t29, t30, t31, t32, t33, t34, t35, t36, t37, t38;
 u64 l6 = 0, l7 = 0, l8 = 0, l9 = 0, l10 = 0, l11 = 0, l12 = 0, l13 = 0, l14 = 0, l15 = 0, l16 = 0, l17 = 0, l18 = 0, l19 = 0, l20 = 0, l21 = 0, l22 = 0, l23 = 0, l24 = 0, l25 = 0, l26 = 0, l27 = 0, l28 = 0, l29 = 0, l30 = 0, l31 = 0, l32 = 0, l33 = 0, l34 = 0, l35 = 0, l36 = 0, l37 = 0, l38 = 0, l39 = 0, l40 = 0, l41 = 0, l42 = 0, l43 = 0, l44 = 0, l45 = 0, l46 = 0, l47 = 0, l48 = 0, l49 = 0, l50 = 0;
 l6 = SP - 752ull;
@@ -60576,9 +60777,9 @@ if (l8 != 0ull) { goto L4; }
 L3:;
 if (l9 > 5ull) { goto L1; }
 L2:;
-f260(b, l6 + 208ull, l0, l3);
+f261(b, l6 + 208ull, l0, l3);
 copy(b, l6 + 528ull, l6 + 208ull, 216u);
-f306(b, l0, l1, l2, l6 + 528ull, l4, l5);
+f307(b, l0, l1, l2, l6 + 528ull, l4, l5);
 if (!get64(b, l6 + 544)) { goto L5; }
 rattle_dealloc(b, get64(b, l6 + 528));
 L5:;
@@ -60622,7 +60823,7 @@ put64(b, l6 + 544, 0ull);
 put64(b, l6 + 536, 0ull);
 put64(b, l6 + 528, 0ull);
 l8 = get64(b, l1 + 16ull);
-f307(b, l6 + 528ull, l0, (u32)((l8 < 4294967295ull) ? l8 : 4294967295ull));
+f308(b, l6 + 528ull, l0, (u32)((l8 < 4294967295ull) ? l8 : 4294967295ull));
 l9 = get64(b, l4 + 8ull);
 if (!l9) { goto L13; }
 l52 = 4294967295u;
@@ -60648,7 +60849,7 @@ L17:;
 if (l51 != l52) { goto L18; }
 if (l55 == l53) { goto L15; }
 L18:;
-f308(b, l6 + 528ull, l51, l55, 0u);
+f309(b, l6 + 528ull, l51, l55, 0u);
 l53 = l55;
 l52 = l51;
 L15:;
@@ -60665,7 +60866,7 @@ put64(b, l6 + 224, l14);
 put64(b, l6 + 216, get64(b, l6 + 536));
 l15 = get64(b, l6 + 528);
 put64(b, l6 + 208, l15);
-f309(b, l6 + 80ull, l0, l3, l6 + 208ull);
+f310(b, l6 + 80ull, l0, l3, l6 + 208ull);
 l16 = get64(b, l6 + 96);
 l17 = get64(b, l6 + 88);
 l18 = get64(b, l6 + 80);
@@ -60687,7 +60888,7 @@ l10 = l6 + 744ull;
 l8 = 0ull;
 l9 = 0ull;
 if (!l17) { goto L24; }
-t0 = f247(b, l6 + 424ull, l17);
+t0 = f248(b, l6 + 424ull, l17);
 if (!t0) { goto L22; }
 l7 = get64(b, l6 + 432);
 l8 = l7 + l17;
@@ -60742,12 +60943,12 @@ put64(b, l6 + 112, l10);
 put64(b, l6 + 104, get64(b, l6 + 424));
 goto L19;
 L20:;
-f310(b, l6 + 528ull, l0, l1, l4, 1u);
+f311(b, l6 + 528ull, l0, l1, l4, 1u);
 l7 = get64(b, l6 + 568);
 l9 = get64(b, l6 + 552);
 l10 = get64(b, l6 + 528);
 l8 = get64(b, l6 + 544);
-f309(b, l6 + 104ull, l0, l3, l6 + 528ull);
+f310(b, l6 + 104ull, l0, l3, l6 + 528ull);
 if (!l8) { goto L28; }
 rattle_dealloc(b, l10);
 L28:;
@@ -60765,7 +60966,7 @@ put64(b, l6 + 528, l6 + 744ull);
 l56 = (u32)(!l17);
 if (l56) { goto L33; }
 l7 = (l17 < 4294967295ull) ? l17 : 4294967295ull;
-t1 = f247(b, l6 + 528ull, l7);
+t1 = f248(b, l6 + 528ull, l7);
 if (!t1) { goto L32; }
 l27 = get64(b, l6 + 528);
 l8 = get64(b, l6 + 536);
@@ -60824,7 +61025,7 @@ put64(b, l6 + 528, l6 + 744ull);
 l58 = (u32)(!l10);
 if (l58) { goto L42; }
 l7 = (l10 < 4294967295ull) ? l10 : 4294967295ull;
-t2 = f247(b, l6 + 528ull, l7);
+t2 = f248(b, l6 + 528ull, l7);
 if (!t2) { goto L41; }
 l29 = get64(b, l6 + 528);
 l8 = get64(b, l6 + 536);
@@ -60876,7 +61077,7 @@ put32(b, l7, l51 ? l51 : 4294967295u);
 L43:;
 l59 = (u32)(!l24);
 L39:;
-f296(b, l6 + 56ull, l0, l1, l4);
+f297(b, l6 + 56ull, l0, l1, l4);
 l30 = get64(b, l6 + 72);
 l8 = get64(b, l6 + 64);
 l22 = get64(b, l6 + 56);
@@ -60886,7 +61087,7 @@ put64(b, l6 + 536, 0ull);
 put64(b, l6 + 528, l6 + 744ull);
 if (l56) { goto L51; }
 l7 = (l17 < 4294967295ull) ? l17 : 4294967295ull;
-t3 = f247(b, l6 + 528ull, l7);
+t3 = f248(b, l6 + 528ull, l7);
 if (!t3) { goto L50; }
 l31 = get64(b, l6 + 528);
 l9 = get64(b, l6 + 536);
@@ -60934,7 +61135,7 @@ put64(b, l6 + 536, 0ull);
 put64(b, l6 + 528, l6 + 744ull);
 if (l58) { goto L59; }
 l7 = (l10 < 4294967295ull) ? l10 : 4294967295ull;
-t4 = f247(b, l6 + 528ull, l7);
+t4 = f248(b, l6 + 528ull, l7);
 if (!t4) { goto L58; }
 l32 = get64(b, l6 + 528);
 l9 = get64(b, l6 + 536);
@@ -60984,7 +61185,7 @@ put64(b, l6 + 528, l6 + 744ull);
 l21 = l6 + 744ull;
 if (!l7) { goto L64; }
 l7 = (l7 < 4294967295ull) ? l7 : 4294967295ull;
-t5 = f247(b, l6 + 528ull, l7);
+t5 = f248(b, l6 + 528ull, l7);
 if (!t5) { goto L65; }
 l21 = get64(b, l6 + 528);
 l8 = get64(b, l6 + 536);
@@ -61137,7 +61338,7 @@ put64(b, l6 + 536, 0ull);
 put64(b, l6 + 528, l6 + 744ull);
 if (!l19) { goto L91; }
 l11 = (l19 < 4294967295ull) ? l19 : 4294967295ull;
-t6 = f254(b, l6 + 528ull, l11);
+t6 = f255(b, l6 + 528ull, l11);
 if (!t6) { goto L90; }
 l22 = get64(b, l6 + 528);
 l7 = get64(b, l6 + 536);
@@ -61233,7 +61434,7 @@ if (l9 <= l11) { goto L107; }
 if (get8(b, l22 + l11) != 1u) { goto L107; }
 l11 = get64(b, l6 + 536);
 if (get64(b, l6 + 544) != l11) { goto L109; }
-t8 = f247(b, l6 + 528ull, 1ull);
+t8 = f248(b, l6 + 528ull, 1ull);
 if (!t8) { goto L108; }
 l11 = get64(b, l6 + 536);
 L109:;
@@ -61312,7 +61513,7 @@ put64(b, l6 + 544, l12);
 put64(b, l6 + 536, l19);
 put64(b, l6 + 528, l14);
 put32(b, l6 + 552, (l62 < (((s32)l54 > (s32)4294967295u) ? (l54 << 1) : 4294967295u)) ? 10u : 2u);
-f259(b, l0, l6 + 32ull, l6 + 528ull);
+f260(b, l0, l6 + 32ull, l6 + 528ull);
 L114:;
 if (!l53) { goto L96; }
 goto L95;
@@ -61371,7 +61572,7 @@ put64(b, l6 + 536, l19);
 put64(b, l6 + 528, l14);
 l51 = l64 + 14u;
 put32(b, l6 + 552, (l62 < (((s32)l54 > (s32)4294967295u) ? (l54 << 1) : 4294967295u)) ? ((l51 < l64) ? 4294967295u : l51) : l65);
-f259(b, l0, l6 + 32ull, l6 + 528ull);
+f260(b, l0, l6 + 32ull, l6 + 528ull);
 L122:;
 if (l53) { goto L95; }
 L96:;
@@ -61426,7 +61627,7 @@ l54 = get32(b, l26 + (l11 << 2));
 L143:;
 l22 = get64(b, l6 + 536);
 if (get64(b, l6 + 544) != l22) { goto L145; }
-t9 = f250(b, l6 + 528ull);
+t9 = f251(b, l6 + 528ull);
 if (!t9) { goto L144; }
 l22 = get64(b, l6 + 536);
 L145:;
@@ -61443,7 +61644,7 @@ L141:;
 l7 = l7 + 1ull;
 if (l9 != l7) { goto L140; }
 L139:;
-t10 = f273(b, l6 + 528ull);
+t10 = f274(b, l6 + 528ull);
 if (!(t10 & 255u)) { goto L146; }
 put8(b, l0, 1u);
 L146:;
@@ -61482,7 +61683,7 @@ l52 = get32(b, get64(b, l4 + 48ull) + (l11 << 2));
 L152:;
 l22 = get64(b, l6 + 216);
 if (get64(b, l6 + 224) != l22) { goto L155; }
-t11 = f311(b, l6 + 208ull);
+t11 = f312(b, l6 + 208ull);
 if (!t11) { goto L154; }
 l22 = get64(b, l6 + 216);
 L155:;
@@ -61517,7 +61718,7 @@ put64(b, l6 + 528, l6 + 744ull);
 l12 = l6 + 744ull;
 l66 = (u32)(!l8);
 if (l66) { goto L157; }
-t12 = f254(b, l6 + 528ull, l35);
+t12 = f255(b, l6 + 528ull, l35);
 if (!t12) { goto L158; }
 l12 = get64(b, l6 + 528);
 l8 = get64(b, l6 + 536);
@@ -61584,7 +61785,7 @@ put64(b, l6 + 528, l6 + 744ull);
 l53 = (u32)(!l9);
 if (l53) { goto L171; }
 l23 = (l9 < 4294967295ull) ? l9 : 4294967295ull;
-t13 = f254(b, l6 + 528ull, l23);
+t13 = f255(b, l6 + 528ull, l23);
 if (!t13) { goto L170; }
 l14 = get64(b, l6 + 528);
 l8 = get64(b, l6 + 536);
@@ -61632,7 +61833,7 @@ if (l19 <= l23) { goto L177; }
 if (get8(b, l14 + l23) != 1u) { goto L177; }
 l23 = get64(b, l6 + 536);
 if (get64(b, l6 + 544) != l23) { goto L179; }
-t14 = f247(b, l6 + 528ull, 1ull);
+t14 = f248(b, l6 + 528ull, 1ull);
 if (!t14) { goto L178; }
 l23 = get64(b, l6 + 536);
 L179:;
@@ -61702,7 +61903,7 @@ put64(b, l6 + 536, l30);
 put64(b, l6 + 528, l13);
 l51 = l67 + 10u;
 put32(b, l6 + 552, (l62 < (((s32)l54 > (s32)4294967295u) ? (l54 << 1) : 4294967295u)) ? ((l51 < l67) ? 4294967295u : l51) : l68);
-f259(b, l0, l6 + 32ull, l6 + 528ull);
+f260(b, l0, l6 + 32ull, l6 + 528ull);
 L175:;
 l13 = 0ull;
 put64(b, l6 + 544, 0ull);
@@ -61711,7 +61912,7 @@ put64(b, l6 + 528, l6 + 744ull);
 l30 = l6 + 744ull;
 if (l56) { goto L187; }
 l8 = (l17 < 4294967295ull) ? l17 : 4294967295ull;
-t15 = f254(b, l6 + 528ull, l8);
+t15 = f255(b, l6 + 528ull, l8);
 if (!t15) { goto L188; }
 l30 = get64(b, l6 + 528);
 l11 = get64(b, l6 + 536);
@@ -61855,7 +62056,7 @@ L214:;
 if (!((l51 | l55) & 1u)) { goto L215; }
 l23 = get64(b, l6 + 536);
 if (get64(b, l6 + 544) != l23) { goto L217; }
-t16 = f247(b, l6 + 528ull, 1ull);
+t16 = f248(b, l6 + 528ull, 1ull);
 if (!t16) { goto L216; }
 l23 = get64(b, l6 + 536);
 L217:;
@@ -61924,7 +62125,7 @@ put64(b, l6 + 536, l19);
 put64(b, l6 + 528, l20);
 l51 = l52 + 12u;
 put32(b, l6 + 552, (l62 < (((s32)l55 > (s32)4294967295u) ? (l55 << 1) : 4294967295u)) ? ((l51 < l52) ? 4294967295u : l51) : l56);
-f259(b, l0, l6 + 32ull, l6 + 528ull);
+f260(b, l0, l6 + 32ull, l6 + 528ull);
 L209:;
 if (!l15) { goto L225; }
 rattle_dealloc(b, l30);
@@ -61953,7 +62154,7 @@ l51 = get32(b, l29 + (l11 << 2));
 L230:;
 l23 = get64(b, l6 + 536);
 if (get64(b, l6 + 544) != l23) { goto L232; }
-t17 = f250(b, l6 + 528ull);
+t17 = f251(b, l6 + 528ull);
 if (!t17) { goto L231; }
 l23 = get64(b, l6 + 536);
 L232:;
@@ -61971,7 +62172,7 @@ L229:;
 l8 = l8 + 1ull;
 if (l9 != l8) { goto L228; }
 L227:;
-t18 = f273(b, l6 + 528ull);
+t18 = f274(b, l6 + 528ull);
 if (!(t18 & 255u)) { goto L233; }
 put8(b, l0, 1u);
 L233:;
@@ -61985,7 +62186,7 @@ L235:;
 l51 = get32(b, l8);
 l9 = get64(b, l6 + 216);
 if (get64(b, l6 + 224) != l9) { goto L238; }
-t19 = f247(b, l6 + 208ull, 1ull);
+t19 = f248(b, l6 + 208ull, 1ull);
 if (!t19) { goto L237; }
 l9 = get64(b, l6 + 216);
 L238:;
@@ -62018,7 +62219,7 @@ put64(b, l23 + 8, 0ull);
 put64(b, l23, 0ull);
 put64(b, l6 + 528, l6 + 744ull);
 if (l58) { goto L242; }
-t20 = f254(b, l6 + 528ull, l37);
+t20 = f255(b, l6 + 528ull, l37);
 if (!t20) { goto L244; }
 l20 = get64(b, l6 + 528);
 l8 = get64(b, l6 + 536);
@@ -62048,7 +62249,7 @@ if (l19 <= l17) { goto L247; }
 if (get8(b, l20 + l17) != 1u) { goto L247; }
 l17 = get64(b, l6 + 536);
 if (get64(b, l6 + 544) != l17) { goto L249; }
-t21 = f247(b, l6 + 528ull, 1ull);
+t21 = f248(b, l6 + 528ull, 1ull);
 if (!t21) { goto L248; }
 l17 = get64(b, l6 + 536);
 L249:;
@@ -62118,7 +62319,7 @@ put64(b, l6 + 536, l30);
 put64(b, l6 + 528, l13);
 l51 = l52 + 11u;
 put32(b, l6 + 552, (l62 < (((s32)l55 > (s32)4294967295u) ? (l55 << 1) : 4294967295u)) ? ((l51 < l52) ? 4294967295u : l51) : l64);
-f259(b, l0, l6 + 32ull, l6 + 528ull);
+f260(b, l0, l6 + 32ull, l6 + 528ull);
 L250:;
 if (!l40) { goto L242; }
 rattle_dealloc(b, l20);
@@ -62133,7 +62334,7 @@ put64(b, l6 + 536, 0ull);
 put64(b, l6 + 528, l6 + 744ull);
 l13 = l6 + 744ull;
 if (l66) { goto L258; }
-t22 = f247(b, l6 + 528ull, l35);
+t22 = f248(b, l6 + 528ull, l35);
 if (!t22) { goto L259; }
 l13 = get64(b, l6 + 528);
 l8 = get64(b, l6 + 536);
@@ -62170,7 +62371,7 @@ put64(b, l6 + 528, l6 + 744ull);
 l23 = l6 + 744ull;
 if (!l17) { goto L263; }
 l8 = (l17 < 4294967295ull) ? l17 : 4294967295ull;
-t23 = f247(b, l6 + 528ull, l8);
+t23 = f248(b, l6 + 528ull, l8);
 if (!t23) { goto L264; }
 l23 = get64(b, l6 + 528);
 l9 = get64(b, l6 + 536);
@@ -62218,7 +62419,7 @@ put64(b, l6 + 536, 0ull);
 put64(b, l6 + 528, l6 + 744ull);
 l37 = l6 + 744ull;
 if (l66) { goto L270; }
-t24 = f254(b, l6 + 528ull, l35);
+t24 = f255(b, l6 + 528ull, l35);
 if (!t24) { goto L271; }
 l37 = get64(b, l6 + 528);
 l8 = get64(b, l6 + 536);
@@ -62343,7 +62544,7 @@ put64(b, l6 + 536, 0ull);
 put64(b, l6 + 528, l6 + 744ull);
 l41 = l6 + 744ull;
 if (l66) { goto L294; }
-t25 = f254(b, l6 + 528ull, l35);
+t25 = f255(b, l6 + 528ull, l35);
 if (!t25) { goto L295; }
 l41 = get64(b, l6 + 528);
 l8 = get64(b, l6 + 536);
@@ -62394,7 +62595,7 @@ if (l20 <= l11) { goto L303; }
 if (get8(b, l41 + l11) != 1u) { goto L303; }
 l11 = get64(b, l6 + 536);
 if (get64(b, l6 + 544) != l11) { goto L305; }
-t26 = f247(b, l6 + 528ull, 1ull);
+t26 = f248(b, l6 + 528ull, 1ull);
 if (!t26) { goto L304; }
 l11 = get64(b, l6 + 536);
 L305:;
@@ -62465,7 +62666,7 @@ put64(b, l6 + 536, l23);
 put64(b, l6 + 528, l19);
 l51 = l52 + 12u;
 put32(b, l6 + 552, (l62 < (((s32)l55 > (s32)4294967295u) ? (l55 << 1) : 4294967295u)) ? ((l51 < l52) ? 4294967295u : l51) : l53);
-f259(b, l0, l6 + 32ull, l6 + 528ull);
+f260(b, l0, l6 + 32ull, l6 + 528ull);
 L306:;
 put64(b, l6 + 528, 0ull);
 put64(b, l6 + 536, 0ull);
@@ -62501,7 +62702,7 @@ L318:;
 l17 = get64(b, l8);
 l9 = get64(b, l6 + 216);
 if (get64(b, l6 + 224) != l9) { goto L321; }
-t27 = f252(b, l6 + 208ull);
+t27 = f253(b, l6 + 208ull);
 if (!t27) { goto L320; }
 l9 = get64(b, l6 + 216);
 L321:;
@@ -62515,7 +62716,7 @@ l8 = l8 + 16ull;
 l11 = l11 + 18446744073709551615ull;
 if (l11 != 0ull) { goto L318; }
 L314:;
-f253(b, l6 + 528ull, l0, l6 + 208ull, l51);
+f254(b, l6 + 528ull, l0, l6 + 208ull, l51);
 l44 = get64(b, l6 + 544);
 l30 = get64(b, l6 + 536);
 l40 = get64(b, l6 + 528);
@@ -62554,7 +62755,7 @@ L327:;
 l55 = get32(b, l11);
 l17 = get64(b, l6 + 536);
 if (get64(b, l6 + 544) != l17) { goto L330; }
-t28 = f250(b, l6 + 528ull);
+t28 = f251(b, l6 + 528ull);
 if (!t28) { goto L329; }
 l17 = get64(b, l6 + 536);
 L330:;
@@ -62572,7 +62773,7 @@ l8 = l8 + 16ull;
 l9 = l9 + 1ull;
 if (l7 != l9) { goto L326; }
 L322:;
-t29 = f273(b, l6 + 528ull);
+t29 = f274(b, l6 + 528ull);
 if (!(t29 & 255u)) { goto L331; }
 put8(b, l0, 1u);
 L331:;
@@ -62585,7 +62786,7 @@ put64(b, l6 + 536, 0ull);
 put64(b, l6 + 528, l6 + 744ull);
 l14 = l6 + 744ull;
 if (l58) { goto L332; }
-t30 = f254(b, l6 + 528ull, l23);
+t30 = f255(b, l6 + 528ull, l23);
 if (!t30) { goto L333; }
 l14 = get64(b, l6 + 528);
 l8 = get64(b, l6 + 536);
@@ -62648,7 +62849,7 @@ l42 = (l30 < 4294967295ull) ? l30 : 4294967295ull;
 put64(b, l6 + 528, l6 + 744ull);
 l64 = (u32)(!l30);
 if (l64) { goto L342; }
-t31 = f247(b, l6 + 528ull, l42);
+t31 = f248(b, l6 + 528ull, l42);
 if (!t31) { goto L344; }
 l13 = get64(b, l6 + 528);
 l7 = get64(b, l6 + 536);
@@ -62667,7 +62868,7 @@ l45 = get64(b, l6 + 544);
 put64(b, l6 + 544, 0ull);
 put64(b, l6 + 536, 0ull);
 put64(b, l6 + 528, l6 + 744ull);
-t32 = f247(b, l6 + 528ull, l42);
+t32 = f248(b, l6 + 528ull, l42);
 if (!t32) { goto L346; }
 l15 = get64(b, l6 + 528);
 l7 = get64(b, l6 + 536);
@@ -62686,7 +62887,7 @@ l47 = get64(b, l6 + 544);
 put64(b, l6 + 544, 0ull);
 put64(b, l6 + 536, 0ull);
 put64(b, l6 + 528, l6 + 744ull);
-t33 = f247(b, l6 + 528ull, l42);
+t33 = f248(b, l6 + 528ull, l42);
 if (!t33) { goto L341; }
 l17 = get64(b, l6 + 528);
 l7 = get64(b, l6 + 536);
@@ -62772,7 +62973,7 @@ l55 = get32(b, l17 + l8);
 L357:;
 l11 = get64(b, l6 + 216);
 if (get64(b, l6 + 224) != l11) { goto L359; }
-t34 = f250(b, l6 + 208ull);
+t34 = f251(b, l6 + 208ull);
 if (!t34) { goto L358; }
 l11 = get64(b, l6 + 216);
 L359:;
@@ -62794,7 +62995,7 @@ l54 = (u32)(!l45);
 l55 = (u32)(!l47);
 l52 = (u32)(!l49);
 L339:;
-t35 = f273(b, l6 + 208ull);
+t35 = f274(b, l6 + 208ull);
 if (!(t35 & 255u)) { goto L360; }
 put8(b, l0, 1u);
 L360:;
@@ -62813,7 +63014,7 @@ L363:;
 l51 = get32(b, l7);
 l8 = get64(b, l6 + 536);
 if (get64(b, l6 + 544) != l8) { goto L366; }
-t36 = f247(b, l6 + 528ull, 1ull);
+t36 = f248(b, l6 + 528ull, 1ull);
 if (!t36) { goto L365; }
 l8 = get64(b, l6 + 536);
 L366:;
@@ -62861,7 +63062,7 @@ put64(b, l23 + 8, 0ull);
 put64(b, l23, 0ull);
 put64(b, l6 + 528, l6 + 744ull);
 if (l64) { goto L378; }
-t37 = f254(b, l6 + 528ull, l42);
+t37 = f255(b, l6 + 528ull, l42);
 if (!t37) { goto L377; }
 l17 = get64(b, l6 + 528);
 l7 = get64(b, l6 + 536);
@@ -62917,7 +63118,7 @@ if (l11 <= l9) { goto L386; }
 if (get8(b, l17 + l9) != 1u) { goto L386; }
 l9 = get64(b, l6 + 536);
 if (get64(b, l6 + 544) != l9) { goto L388; }
-t38 = f247(b, l6 + 528ull, 1ull);
+t38 = f248(b, l6 + 528ull, 1ull);
 if (!t38) { goto L387; }
 l9 = get64(b, l6 + 536);
 L388:;
@@ -62987,7 +63188,7 @@ put64(b, l6 + 536, l20);
 put64(b, l6 + 528, l14);
 l51 = l53 + 11u;
 put32(b, l6 + 552, (l62 < (((s32)l55 > (s32)4294967295u) ? (l55 << 1) : 4294967295u)) ? ((l51 < l53) ? 4294967295u : l51) : l56);
-f259(b, l0, l6 + 32ull, l6 + 528ull);
+f260(b, l0, l6 + 32ull, l6 + 528ull);
 L384:;
 if (l52) { goto L396; }
 rattle_dealloc(b, l17);
@@ -63067,7 +63268,7 @@ if (l9 != 0ull) { goto L415; }
 L414:;
 if (l10 > 5ull) { goto L412; }
 L413:;
-f260(b, l6 + 208ull, l0, l3);
+f261(b, l6 + 208ull, l0, l3);
 copy(b, l6 + 528ull, l6 + 208ull, 216u);
 l7 = get64(b, l8 + 8ull);
 if (!l7) { goto L416; }
@@ -63100,9 +63301,9 @@ l51 = get32(b, l8 + 24ull);
 put8(b, l6 + 732, 0u);
 l55 = l51 + get32(b, l6 + 728);
 put32(b, l6 + 728, (l55 < l51) ? 4294967295u : l55);
-f261(b, l6 + 104ull, l0, l1, l6 + 528ull, l4);
+f262(b, l6 + 104ull, l0, l1, l6 + 528ull, l4);
 copy(b, l6 + 424ull, l6 + 104ull, 104u);
-f306(b, l0, l1, l2, l6 + 528ull, l6 + 424ull, l5);
+f307(b, l0, l1, l2, l6 + 528ull, l6 + 424ull, l5);
 if (!get64(b, l6 + 440)) { goto L421; }
 rattle_dealloc(b, get64(b, l6 + 424));
 L421:;
@@ -63157,7 +63358,7 @@ L12:;
 SP = l6 + 752ull;
 }
 
-FN u32 f303(B b, u64 l0) {
+FN u32 f304(B b, u64 l0) {
 u32 l6 = 0;
 u64 l1 = 0, l2 = 0, l3 = 0, l4 = 0, l5 = 0;
 l1 = SP - 32ull;
@@ -63189,7 +63390,7 @@ SP = l1 + 32ull;
 return l6;
 }
 
-FN u32 f304(B b, u64 l0, u64 l1) {
+FN u32 f305(B b, u64 l0, u64 l1) {
 u32 l6 = 0;
 u64 l2 = 0, l3 = 0, l4 = 0, l5 = 0;
 l2 = SP - 32ull;
@@ -63222,7 +63423,7 @@ SP = l2 + 32ull;
 return l6;
 }
 
-FN void f305(B b, u64 l0, u64 l1, u64 l2, u64 l3, u32 l4, u32 l5, u32 l6) {
+FN void f306(B b, u64 l0, u64 l1, u64 l2, u64 l3, u32 l4, u32 l5, u32 l6) {
 u32 l7 = 0, l8 = 0, l9 = 0, l10 = 0, l11 = 0, l12 = 0, l13 = 0, l14 = 0, l15 = 0, l16 = 0;
 u64 l17 = 0, l18 = 0, l19 = 0, l20 = 0, l21 = 0;
 l7 = 0u;
@@ -63341,7 +63542,7 @@ L21:;
 put8(b, l3, l4);
 }
 
-FN void f306(B b, u64 l0, u64 l1, u64 l2, u64 l3, u64 l4, u64 l5) {
+FN void f307(B b, u64 l0, u64 l1, u64 l2, u64 l3, u64 l4, u64 l5) {
 u32 l26 = 0, l27 = 0, l28 = 0, l29 = 0, l30 = 0, l31 = 0, l32 = 0, l33 = 0, l34 = 0, t0, t1, t2, t3, t4, t5;
 u64 l6 = 0, l7 = 0, l8 = 0, l9 = 0, l10 = 0, l11 = 0, l12 = 0, l13 = 0, l14 = 0, l15 = 0, l16 = 0, l17 = 0, l18 = 0, l19 = 0, l20 = 0, l21 = 0, l22 = 0, l23 = 0, l24 = 0, l25 = 0;
 l6 = SP - 480ull;
@@ -63354,7 +63555,7 @@ put32(b, l6 + 227, 0u);
 fill(b, l6 + 120ull, 0u, 104u);
 l26 = 1u;
 if (get8(b, l4 + 96ull) != 1u) { goto L7; }
-t0 = f312(b, l0, l1, l3, l4);
+t0 = f313(b, l0, l1, l3, l4);
 l26 = t0;
 l7 = l4 + 80ull;
 if (!(u32)(!get64(b, l7))) { goto L6; }
@@ -63377,7 +63578,7 @@ put64(b, l6 + 448, l6 + 479ull);
 l10 = l6 + 479ull;
 if (!l8) { goto L8; }
 l8 = (l8 < 4294967295ull) ? l8 : 4294967295ull;
-t1 = f254(b, l6 + 448ull, l8);
+t1 = f255(b, l6 + 448ull, l8);
 if (!t1) { goto L9; }
 l10 = get64(b, l6 + 448);
 l11 = get64(b, l6 + 456);
@@ -63437,9 +63638,9 @@ l7 = get64(b, l1 + 32ull) + (l7 * 12ull);
 l28 = get32(b, l7 + 8);
 l29 = get32(b, l7 + 4);
 L19:;
-t2 = f313(b, l3, l29, l28, 0u);
+t2 = f314(b, l3, l29, l28, 0u);
 l26 = t2;
-t3 = f313(b, l3, l29, l28, 1u);
+t3 = f314(b, l3, l29, l28, 1u);
 l30 = t3;
 l31 = l26 & l30;
 if (l31 == 4294967295u) { goto L20; }
@@ -63525,7 +63726,7 @@ if (!l13) { goto L30; }
 rattle_dealloc(b, l10);
 L30:;
 if (!l26) { goto L4; }
-f257(b, l6 + 336ull, l0, l1, l3);
+f258(b, l6 + 336ull, l0, l1, l3);
 l15 = get64(b, l6 + 424);
 l16 = get64(b, l6 + 408);
 l17 = get64(b, l6 + 400);
@@ -63587,7 +63788,7 @@ put32(b, l6 + 224, get32(b, l6 + 440));
 put32(b, l6 + 227, get32(b, l6 + 443));
 goto L3;
 L31:;
-t5 = f312(b, l0, l1, l3, l6 + 336ull);
+t5 = f313(b, l0, l1, l3, l6 + 336ull);
 if (t5) { goto L38; }
 if (!l21) { goto L39; }
 rattle_dealloc(b, l22);
@@ -63602,7 +63803,7 @@ if (!l15) { goto L4; }
 rattle_dealloc(b, l16);
 goto L4;
 L38:;
-f257(b, l6 + 232ull, l0, l1, l3);
+f258(b, l6 + 232ull, l0, l1, l3);
 put32(b, l6 + 448, 0u);
 put32(b, l6 + 451, 0u);
 l10 = get64(b, l6 + 320);
@@ -63666,7 +63867,7 @@ put32(b, l6 + 227, get32(b, l6 + 443));
 put32(b, l6 + 224, get32(b, l6 + 440));
 goto L3;
 L5:;
-f257(b, l6 + 120ull, l0, l1, l3);
+f258(b, l6 + 120ull, l0, l1, l3);
 put32(b, l6 + 336, 0u);
 put32(b, l6 + 339, 0u);
 l10 = get64(b, l6 + 208);
@@ -63757,7 +63958,7 @@ case 2: goto L59;
 default: goto L58;
 }
 L60:;
-f314(b, l0, l1, l2, l3, l4, l5);
+f315(b, l0, l1, l2, l3, l4, l5);
 goto L58;
 L59:;
 put8(b, l6 + 112, 0u);
@@ -63775,7 +63976,7 @@ put64(b, l6 + 24, l25);
 put64(b, l6 + 16, l11);
 put32(b, l6 + 113, get32(b, l6 + 8));
 put32(b, l6 + 116, get32(b, l6 + 11));
-f314(b, l0, l1, l2, l3, l6 + 16ull, l5);
+f315(b, l0, l1, l2, l3, l6 + 16ull, l5);
 if (!get64(b, l6 + 32)) { goto L61; }
 rattle_dealloc(b, get64(b, l6 + 16));
 L61:;
@@ -63791,7 +63992,7 @@ L58:;
 SP = l6 + 480ull;
 }
 
-FN void f307(B b, u64 l0, u64 l1, u32 l2) {
+FN void f308(B b, u64 l0, u64 l1, u32 l2) {
 u32 t0, t1;
 u64 l3 = 0, l4 = 0, l5 = 0, l6 = 0, l7 = 0, l8 = 0, l9 = 0, l10 = 0, l11 = 0;
 l3 = SP - 64ull;
@@ -63802,7 +64003,7 @@ put64(b, l3 + 16, 0ull);
 put64(b, l3 + 8, l3 + 60ull);
 if (!l2) { goto L4; }
 l5 = (u64)l2;
-t0 = f247(b, l3 + 8ull, l5);
+t0 = f248(b, l3 + 8ull, l5);
 if (!t0) { goto L3; }
 l6 = get64(b, l3 + 8);
 l7 = get64(b, l3 + 16);
@@ -63871,7 +64072,7 @@ l7 = get64(b, l3 + 24);
 put64(b, l3 + 48, 0ull);
 put64(b, l3 + 40, 0ull);
 put64(b, l3 + 32, l3 + 60ull);
-t1 = f254(b, l3 + 32ull, l5);
+t1 = f255(b, l3 + 32ull, l5);
 if (!t1) { goto L14; }
 l8 = get64(b, l3 + 40);
 l9 = l8 + l5;
@@ -63893,7 +64094,7 @@ put64(b, l0 + 40, get64(b, l3 + 48));
 SP = l3 + 64ull;
 }
 
-FN u32 f308(B b, u64 l0, u32 l1, u32 l2, u32 l3) {
+FN u32 f309(B b, u64 l0, u32 l1, u32 l2, u32 l3) {
 u32 l4 = 0, l5 = 0, l6 = 0, l7 = 0;
 u64 l8 = 0, l9 = 0, l10 = 0, l11 = 0, l12 = 0, l13 = 0;
 l4 = 0u;
@@ -63987,7 +64188,7 @@ L15:;
 return l1 & 1u;
 }
 
-FN void f309(B b, u64 l0, u64 l1, u64 l2, u64 l3) {
+FN void f310(B b, u64 l0, u64 l1, u64 l2, u64 l3) {
 u32 l16 = 0, l17 = 0, l18 = 0, t0;
 u64 l4 = 0, l5 = 0, l6 = 0, l7 = 0, l8 = 0, l9 = 0, l10 = 0, l11 = 0, l12 = 0, l13 = 0, l14 = 0, l15 = 0;
 l4 = SP - 32ull;
@@ -63999,7 +64200,7 @@ put64(b, l4 + 8, 0ull);
 put64(b, l4, l4 + 28ull);
 if (!l5) { goto L4; }
 l7 = (l5 < 4294967295ull) ? l5 : 4294967295ull;
-t0 = f247(b, l4, l7);
+t0 = f248(b, l4, l7);
 if (!t0) { goto L3; }
 l8 = get64(b, l4);
 l5 = get64(b, l4 + 8);
@@ -64070,7 +64271,7 @@ put64(b, l0, l8);
 SP = l4 + 32ull;
 }
 
-FN void f310(B b, u64 l0, u64 l1, u64 l2, u64 l3, u32 l4) {
+FN void f311(B b, u64 l0, u64 l1, u64 l2, u64 l3, u32 l4) {
 u32 l13 = 0, l14 = 0, l15 = 0, l16 = 0, l17 = 0, l18 = 0;
 u64 l5 = 0, l6 = 0, l7 = 0, l8 = 0, l9 = 0, l10 = 0, l11 = 0, l12 = 0;
 l5 = SP - 48ull;
@@ -64083,7 +64284,7 @@ put64(b, l5 + 16, 0ull);
 put64(b, l5 + 8, 0ull);
 put64(b, l5, 0ull);
 l7 = get64(b, l2 + 16ull);
-f307(b, l5, l1, (u32)((l7 < 4294967295ull) ? l7 : 4294967295ull));
+f308(b, l5, l1, (u32)((l7 < 4294967295ull) ? l7 : 4294967295ull));
 l7 = get64(b, l3 + 8ull);
 if (!l7) { goto L1; }
 l13 = 4294967295u;
@@ -64141,7 +64342,7 @@ L10:;
 if (l15 != l13) { goto L11; }
 if (l18 == l14) { goto L3; }
 L11:;
-f308(b, l5, l15, l18, 0u);
+f309(b, l5, l15, l18, 0u);
 l14 = l18;
 l13 = l15;
 L3:;
@@ -64157,7 +64358,7 @@ put64(b, l0, get64(b, l5));
 SP = l5 + 48ull;
 }
 
-FN u32 f311(B b, u64 l0) {
+FN u32 f312(B b, u64 l0) {
 u32 l6 = 0;
 u64 l1 = 0, l2 = 0, l3 = 0, l4 = 0, l5 = 0;
 l1 = SP - 32ull;
@@ -64189,7 +64390,7 @@ SP = l1 + 32ull;
 return l6;
 }
 
-FN u32 f312(B b, u64 l0, u64 l1, u64 l2, u64 l3) {
+FN u32 f313(B b, u64 l0, u64 l1, u64 l2, u64 l3) {
 u32 l15 = 0, l16 = 0, l17 = 0, l18 = 0, l19 = 0, l20 = 0, l21 = 0, l22 = 0, l23 = 0, l24 = 0, l25 = 0, l26 = 0, l27 = 0, l28 = 0, l29 = 0, l30 = 0, t0, t1, t2, t3;
 u64 l4 = 0, l5 = 0, l6 = 0, l7 = 0, l8 = 0, l9 = 0, l10 = 0, l11 = 0, l12 = 0, l13 = 0, l14 = 0;
 l4 = SP - 112ull;
@@ -64205,7 +64406,7 @@ put64(b, l4 + 8, 0ull);
 put64(b, l4 + 16, 0ull);
 put64(b, l4 + 24, 0ull);
 l6 = get64(b, l1 + 16ull);
-f307(b, l4 + 32ull, l0, (u32)((l6 < 4294967295ull) ? l6 : 4294967295ull));
+f308(b, l4 + 32ull, l0, (u32)((l6 < 4294967295ull) ? l6 : 4294967295ull));
 l7 = get64(b, l3 + 8ull);
 if (!l7) { goto L3; }
 l15 = 1u;
@@ -64237,7 +64438,7 @@ L7:;
 if (l9 <= l10) { goto L8; }
 l17 = get32(b, l8 + (l10 << 2));
 L8:;
-t0 = f308(b, l4 + 32ull, l18, l17, (l16 ^ 4294967295u) & 1u);
+t0 = f309(b, l4 + 32ull, l18, l17, (l16 ^ 4294967295u) & 1u);
 l15 = l15 & t0;
 L5:;
 l5 = l5 + 1ull;
@@ -64261,7 +64462,7 @@ put64(b, l4 + 16, 0ull);
 put64(b, l4 + 24, 0ull);
 l12 = l1 + 40ull;
 l6 = get64(b, l12);
-f307(b, l4 + 32ull, l0, (u32)((l6 < 4294967295ull) ? l6 : 4294967295ull));
+f308(b, l4 + 32ull, l0, (u32)((l6 < 4294967295ull) ? l6 : 4294967295ull));
 l7 = get64(b, l3 + 8ull);
 if (!l7) { goto L2; }
 l15 = 1u;
@@ -64293,7 +64494,7 @@ L14:;
 if (l9 <= l10) { goto L15; }
 l17 = get32(b, l8 + (l10 << 2));
 L15:;
-t1 = f308(b, l4 + 32ull, l18, l17, (l16 ^ 4294967295u) & 1u);
+t1 = f309(b, l4 + 32ull, l18, l17, (l16 ^ 4294967295u) & 1u);
 l15 = l15 & t1;
 L12:;
 l5 = l5 + 1ull;
@@ -64314,7 +64515,7 @@ put64(b, l4 + 88, 0ull);
 put64(b, l4 + 80, l4 + 111ull);
 if (!l5) { goto L20; }
 l8 = (l5 < 4294967295ull) ? l5 : 4294967295ull;
-t2 = f254(b, l4 + 80ull, l8);
+t2 = f255(b, l4 + 80ull, l8);
 if (!t2) { goto L19; }
 l7 = get64(b, l4 + 80);
 l5 = get64(b, l4 + 88);
@@ -64348,7 +64549,7 @@ l5 = l5 + 1ull;
 if (l8 != l5) { goto L21; }
 l16 = (u32)(!l1);
 L17:;
-f315(b, l4 + 8ull, l0, l4 + 32ull, l7, l6);
+f316(b, l4 + 8ull, l0, l4 + 32ull, l7, l6);
 l1 = get64(b, l4 + 24);
 l6 = get64(b, l4 + 8);
 l8 = get64(b, l4 + 16);
@@ -64389,7 +64590,7 @@ put64(b, l4 + 88, 0ull);
 put64(b, l4 + 80, l4 + 111ull);
 if (!l5) { goto L34; }
 l7 = (l5 < 4294967295ull) ? l5 : 4294967295ull;
-t3 = f254(b, l4 + 80ull, l7);
+t3 = f255(b, l4 + 80ull, l7);
 if (!t3) { goto L33; }
 l13 = get64(b, l4 + 80);
 l5 = get64(b, l4 + 88);
@@ -64427,7 +64628,7 @@ l5 = l5 + 1ull;
 if (l7 != l5) { goto L35; }
 l19 = (u32)(!l10);
 L31:;
-f315(b, l4 + 8ull, l0, l4 + 32ull, l13, l8);
+f316(b, l4 + 8ull, l0, l4 + 32ull, l13, l8);
 l14 = get64(b, l4 + 24);
 l6 = get64(b, l4 + 8);
 l10 = get64(b, l1 + 16ull);
@@ -64594,7 +64795,7 @@ SP = l4 + 112ull;
 return l16;
 }
 
-FN u32 f313(B b, u64 l0, u32 l1, u32 l2, u32 l3) {
+FN u32 f314(B b, u64 l0, u32 l1, u32 l2, u32 l3) {
 u32 l4 = 0, l5 = 0, l6 = 0, l7 = 0, l8 = 0, l9 = 0, l10 = 0, l11 = 0, l12 = 0;
 u64 l13 = 0, l14 = 0, l15 = 0;
 if (l2) { goto L1; }
@@ -64685,7 +64886,7 @@ L6:;
 return l9;
 }
 
-FN void f314(B b, u64 l0, u64 l1, u64 l2, u64 l3, u64 l4, u64 l5) {
+FN void f315(B b, u64 l0, u64 l1, u64 l2, u64 l3, u64 l4, u64 l5) {
 u32 l20 = 0, l21 = 0, l22 = 0, l23 = 0, l24 = 0, l25 = 0, t0, t1;
 u64 l6 = 0, l7 = 0, l8 = 0, l9 = 0, l10 = 0, l11 = 0, l12 = 0, l13 = 0, l14 = 0, l15 = 0, l16 = 0, l17 = 0, l18 = 0, l19 = 0;
 l6 = SP - 240ull;
@@ -64762,7 +64963,7 @@ put64(b, l6 + 56, 0ull);
 put64(b, l6 + 48, 0ull);
 put64(b, l6 + 40, 0ull);
 put64(b, l6 + 72, l4);
-f316(b, l0, l1, l2, l3, l6 + 40ull, l5);
+f317(b, l0, l1, l2, l3, l6 + 40ull, l5);
 put64(b, l6 + 120, 0ull);
 put64(b, l6 + 128, 0ull);
 put64(b, l6 + 136, 0ull);
@@ -64798,7 +64999,7 @@ put64(b, l6 + 184, 0ull);
 put64(b, l6 + 176, 0ull);
 put64(b, l6 + 168, 0ull);
 put64(b, l6 + 160, 0ull);
-f310(b, l6 + 160ull, l0, l1, l4, 1u);
+f311(b, l6 + 160ull, l0, l1, l4, 1u);
 l14 = get64(b, l6 + 200);
 l10 = get64(b, l6 + 192);
 l15 = get64(b, l6 + 184);
@@ -64857,7 +65058,7 @@ if (l18 != 0ull) { goto L22; }
 L21:;
 l13 = get64(b, l6 + 216);
 if (get64(b, l6 + 224) != l13) { goto L28; }
-t0 = f250(b, l6 + 208ull);
+t0 = f251(b, l6 + 208ull);
 if (!t0) { goto L27; }
 l13 = get64(b, l6 + 216);
 L28:;
@@ -64876,7 +65077,7 @@ L19:;
 l7 = l7 + 1ull;
 if (l7 != l11) { goto L18; }
 L17:;
-t1 = f273(b, l6 + 208ull);
+t1 = f274(b, l6 + 208ull);
 if (!(t1 & 255u)) { goto L29; }
 put8(b, l0, 1u);
 L29:;
@@ -64894,13 +65095,13 @@ put32(b, l6 + 144, 0u);
 put64(b, l6 + 136, l12);
 put64(b, l6 + 128, l7);
 put64(b, l6 + 120, 1ull);
-f316(b, l0, l1, l2, l3, l6 + 120ull, l5);
+f317(b, l0, l1, l2, l3, l6 + 120ull, l5);
 put64(b, l6 + 112, l4);
 put32(b, l6 + 104, 1u);
 put64(b, l6 + 96, l12);
 put64(b, l6 + 88, l7);
 put64(b, l6 + 80, 1ull);
-f317(b, l0, l1, l2, l3, l6 + 80ull, l5);
+f318(b, l0, l1, l2, l3, l6 + 80ull, l5);
 if (!l8) { goto L1; }
 rattle_dealloc(b, l7);
 goto L1;
@@ -64910,15 +65111,15 @@ put64(b, l6 + 16, 0ull);
 put64(b, l6 + 8, 0ull);
 put64(b, l6, 0ull);
 put64(b, l6 + 32, l4);
-f317(b, l0, l1, l2, l3, l6, l5);
+f318(b, l0, l1, l2, l3, l6, l5);
 goto L1;
 L2:;
-f318(b, l0, l1, l2, l3, l4, l5);
+f319(b, l0, l1, l2, l3, l4, l5);
 L1:;
 SP = l6 + 240ull;
 }
 
-FN void f315(B b, u64 l0, u64 l1, u64 l2, u64 l3, u64 l4) {
+FN void f316(B b, u64 l0, u64 l1, u64 l2, u64 l3, u64 l4) {
 u32 l21 = 0, l22 = 0, l23 = 0, l24 = 0, t0, t1, t2;
 u64 l5 = 0, l6 = 0, l7 = 0, l8 = 0, l9 = 0, l10 = 0, l11 = 0, l12 = 0, l13 = 0, l14 = 0, l15 = 0, l16 = 0, l17 = 0, l18 = 0, l19 = 0, l20 = 0;
 l5 = SP - 32ull;
@@ -64929,7 +65130,7 @@ put64(b, l5 + 8, 0ull);
 put64(b, l5, l5 + 28ull);
 if (!l4) { goto L4; }
 l7 = (l4 < 4294967295ull) ? l4 : 4294967295ull;
-t0 = f247(b, l5, l7);
+t0 = f248(b, l5, l7);
 if (!t0) { goto L6; }
 l8 = get64(b, l5);
 l4 = get64(b, l5 + 8);
@@ -64948,7 +65149,7 @@ l11 = get64(b, l5 + 16);
 put64(b, l5 + 16, 0ull);
 put64(b, l5 + 8, 0ull);
 put64(b, l5, l5 + 28ull);
-t1 = f247(b, l5, l7);
+t1 = f248(b, l5, l7);
 if (!t1) { goto L3; }
 l12 = get64(b, l5);
 l4 = get64(b, l5 + 8);
@@ -65031,7 +65232,7 @@ if (l16 != l7) { goto L7; }
 put64(b, l5 + 16, 0ull);
 put64(b, l5 + 8, 0ull);
 put64(b, l5, l5 + 28ull);
-t2 = f254(b, l5, l7);
+t2 = f255(b, l5, l7);
 if (!t2) { goto L17; }
 l4 = get64(b, l5 + 8);
 l14 = l4 + l7;
@@ -65113,7 +65314,7 @@ put64(b, l0, l1);
 SP = l5 + 32ull;
 }
 
-FN void f316(B b, u64 l0, u64 l1, u64 l2, u64 l3, u64 l4, u64 l5) {
+FN void f317(B b, u64 l0, u64 l1, u64 l2, u64 l3, u64 l4, u64 l5) {
 u32 l11 = 0, l12 = 0, l13 = 0;
 u64 l6 = 0, l7 = 0, l8 = 0, l9 = 0, l10 = 0;
 l6 = SP - 496ull;
@@ -65144,14 +65345,14 @@ if (l10 != 0ull) { goto L4; }
 L3:;
 if (l9 > 5ull) { goto L1; }
 L2:;
-f260(b, l6 + 48ull, l0, l3);
+f261(b, l6 + 48ull, l0, l3);
 copy(b, l6 + 264ull, l6 + 48ull, 216u);
 put64(b, l6 + 8, l8);
 put64(b, l6 + 40, l7);
 put32(b, l6 + 32, l11);
 put64(b, l6 + 16, get64(b, l6 + 480));
 put64(b, l6 + 24, get64(b, l6 + 488));
-f317(b, l0, l1, l2, l6 + 264ull, l6 + 8ull, l5);
+f318(b, l0, l1, l2, l6 + 264ull, l6 + 8ull, l5);
 if (!get64(b, l6 + 280)) { goto L5; }
 rattle_dealloc(b, get64(b, l6 + 264));
 L5:;
@@ -65179,7 +65380,7 @@ L1:;
 SP = l6 + 496ull;
 }
 
-FN void f317(B b, u64 l0, u64 l1, u64 l2, u64 l3, u64 l4, u64 l5) {
+FN void f318(B b, u64 l0, u64 l1, u64 l2, u64 l3, u64 l4, u64 l5) {
 u32 l14 = 0, l15 = 0, l16 = 0, l17 = 0, l18 = 0, l19 = 0, l20 = 0, l21 = 0, t0, t1, t2;
 u64 l6 = 0, l7 = 0, l8 = 0, l9 = 0, l10 = 0, l11 = 0, l12 = 0, l13 = 0;
 l6 = SP - 320ull;
@@ -65211,7 +65412,7 @@ if (l11 >= 6ull) { goto L1; }
 L2:;
 fill(b, l6 + 216ull, 0u, 104u);
 if (l15) { goto L6; }
-t0 = f319(b, l0, l1, l3, l9, 2u);
+t0 = f320(b, l0, l1, l3, l9, 2u);
 if (t0) { goto L5; }
 goto L1;
 L6:;
@@ -65255,7 +65456,7 @@ l20 = (u32)(l16 < l20);
 l13 = (u64)get32(b, l11 + 16);
 l11 = l12;
 if (get64(b, l3 + 120ull) != l12) { goto L14; }
-t1 = f255(b, l3 + 104ull, 1ull);
+t1 = f256(b, l3 + 104ull, 1ull);
 if (!t1) { goto L13; }
 l11 = get64(b, l3 + 112ull);
 L14:;
@@ -65303,7 +65504,7 @@ put32(b, l3 + 208ull, l17 ? l17 : 4294967295u);
 l17 = l16 + 4u;
 put32(b, l3 + 200ull, (l17 < l16) ? 4294967295u : l17);
 L5:;
-f261(b, l6 + 216ull, l0, l1, l3, l9);
+f262(b, l6 + 216ull, l0, l1, l3, l9);
 copy(b, l6 + 112ull, l6 + 216ull, 104u);
 fill(b, l6 + 216ull, 0u, 104u);
 if (l15 != 1u) { goto L18; }
@@ -65316,9 +65517,9 @@ l10 = get64(b, l6 + 152);
 l12 = get64(b, l6 + 136);
 l11 = get64(b, l6 + 128);
 l13 = get64(b, l6 + 112);
-t2 = f312(b, l0, l1, l3, l6 + 112ull);
+t2 = f313(b, l0, l1, l3, l6 + 112ull);
 if (!t2) { goto L18; }
-f257(b, l6 + 216ull, l0, l1, l3);
+f258(b, l6 + 216ull, l0, l1, l3);
 if (!l11) { goto L19; }
 rattle_dealloc(b, l13);
 L19:;
@@ -65344,7 +65545,7 @@ l7 = get64(b, l6 + 72);
 l13 = get64(b, l6 + 80);
 l10 = get64(b, l6 + 96);
 l11 = get64(b, l6 + 24);
-f318(b, l0, l1, l2, l3, l6 + 8ull, l5);
+f319(b, l0, l1, l2, l3, l6 + 8ull, l5);
 if (!l11) { goto L23; }
 rattle_dealloc(b, l8);
 L23:;
@@ -65360,7 +65561,7 @@ L1:;
 SP = l6 + 320ull;
 }
 
-FN void f318(B b, u64 l0, u64 l1, u64 l2, u64 l3, u64 l4, u64 l5) {
+FN void f319(B b, u64 l0, u64 l1, u64 l2, u64 l3, u64 l4, u64 l5) {
 u32 l69 = 0, l70 = 0, l71 = 0, l72 = 0, l73 = 0, l74 = 0, l75 = 0, l76 = 0, l77 = 0, l78 = 0, l79 = 0, l80 = 0, l81 = 0, l82 = 0, l83 = 0, l84 = 0, l85 = 0, l86 = 0, l87 = 0, l88 = 0, t0, t1, t2, t3, t4, t5, t6, t7, t8, t9, t10, t11, t12, t13, t14, t15, t16, t17, t18, t19, t20, t21, t22, t23, t24, t25, t26;
 u64 l6 = 0, l7 = 0, l8 = 0, l9 = 0, l10 = 0, l11 = 0, l12 = 0, l13 = 0, l14 = 0, l15 = 0, l16 = 0, l17 = 0, l18 = 0, l19 = 0, l20 = 0, l21 = 0, l22 = 0, l23 = 0, l24 = 0, l25 = 0, l26 = 0, l27 = 0, l28 = 0, l29 = 0, l30 = 0, l31 = 0, l32 = 0, l33 = 0, l34 = 0, l35 = 0, l36 = 0, l37 = 0, l38 = 0, l39 = 0, l40 = 0, l41 = 0, l42 = 0, l43 = 0, l44 = 0, l45 = 0, l46 = 0, l47 = 0, l48 = 0, l49 = 0, l50 = 0, l51 = 0, l52 = 0, l53 = 0, l54 = 0, l55 = 0, l56 = 0, l57 = 0, l58 = 0, l59 = 0, l60 = 0, l61 = 0, l62 = 0, l63 = 0, l64 = 0, l65 = 0, l66 = 0, l67 = 0, l68 = 0;
 l6 = SP - 608ull;
@@ -65389,7 +65590,7 @@ L3:;
 if (l11 >= 6ull) { goto L1; }
 L2:;
 if (get32(b, l3 + 96ull) > 1u) { goto L5; }
-f319(b, l0, l1, l3, l4, 0u);
+f320(b, l0, l1, l3, l4, 0u);
 l69 = get32(b, l3 + 200ull);
 l70 = l69 + 3u;
 l69 = get8(b, l4 + 98ull) ? ((l70 < l69) ? 4294967295u : l70) : l69;
@@ -65416,7 +65617,7 @@ put64(b, l6 + 360, l6 + 604ull);
 l13 = l6 + 604ull;
 if (!l10) { goto L9; }
 l10 = (l10 < 4294967295ull) ? l10 : 4294967295ull;
-t0 = f247(b, l6 + 360ull, l10);
+t0 = f248(b, l6 + 360ull, l10);
 if (!t0) { goto L10; }
 l13 = get64(b, l6 + 360);
 l11 = get64(b, l6 + 368);
@@ -65478,7 +65679,7 @@ l18 = l6 + 604ull;
 l15 = 0ull;
 if (!l10) { goto L18; }
 l10 = (l10 < 4294967295ull) ? l10 : 4294967295ull;
-t1 = f254(b, l6 + 360ull, l10);
+t1 = f255(b, l6 + 360ull, l10);
 if (!t1) { goto L19; }
 l18 = get64(b, l6 + 360);
 l11 = get64(b, l6 + 368);
@@ -65510,7 +65711,7 @@ put64(b, l6 + 368, 0ull);
 put64(b, l6 + 360, l6 + 604ull);
 if (!l9) { goto L30; }
 l10 = (l9 < 4294967295ull) ? l9 : 4294967295ull;
-t2 = f254(b, l6 + 360ull, l10);
+t2 = f255(b, l6 + 360ull, l10);
 if (!t2) { goto L32; }
 l22 = get64(b, l6 + 360);
 l11 = get64(b, l6 + 368);
@@ -65566,7 +65767,7 @@ if (get64(b, l4 + 8ull) <= l11) { goto L39; }
 if (get32(b, get64(b, l4) + (l11 << 4)) == 4294967295u) { goto L39; }
 l17 = get64(b, l6 + 128);
 if (get64(b, l6 + 136) != l17) { goto L40; }
-t3 = f320(b, l6 + 120ull);
+t3 = f321(b, l6 + 120ull);
 if (t3) { goto L41; }
 put8(b, l0, 1u);
 goto L39;
@@ -65617,7 +65818,7 @@ if (l69 != 4294967295u) { goto L46; }
 L45:;
 l10 = get64(b, l6 + 128);
 if (get64(b, l6 + 136) != l10) { goto L51; }
-t4 = f320(b, l6 + 120ull);
+t4 = f321(b, l6 + 120ull);
 if (!t4) { goto L50; }
 l10 = get64(b, l6 + 128);
 L51:;
@@ -65687,7 +65888,7 @@ if (l69 != 4294967295u) { goto L56; }
 L55:;
 l10 = get64(b, l6 + 368);
 if (get64(b, l6 + 376) != l10) { goto L59; }
-t5 = f247(b, l6 + 360ull, 1ull);
+t5 = f248(b, l6 + 360ull, 1ull);
 if (!t5) { goto L58; }
 l10 = get64(b, l6 + 368);
 L59:;
@@ -65715,7 +65916,7 @@ if (get64(b, l4 + 8ull) <= l11) { goto L61; }
 if (get32(b, get64(b, l4) + (l11 << 4)) == 4294967295u) { goto L61; }
 l12 = get64(b, l6 + 368);
 if (get64(b, l6 + 376) != l12) { goto L63; }
-t6 = f247(b, l6 + 360ull, 1ull);
+t6 = f248(b, l6 + 360ull, 1ull);
 if (t6) { goto L64; }
 put8(b, l0, 1u);
 goto L61;
@@ -65746,7 +65947,7 @@ l19 = l28;
 l18 = 0ull;
 if (!l10) { goto L66; }
 l10 = (l10 < 4294967295ull) ? l10 : 4294967295ull;
-t7 = f254(b, l6 + 360ull, l10);
+t7 = f255(b, l6 + 360ull, l10);
 if (!t7) { goto L67; }
 l19 = get64(b, l6 + 360);
 l11 = get64(b, l6 + 368);
@@ -65767,7 +65968,7 @@ put64(b, l6 + 368, 0ull);
 put64(b, l6 + 360, l6 + 604ull);
 if (!l69) { goto L68; }
 l10 = (u64)l69;
-t8 = f254(b, l6 + 360ull, l10);
+t8 = f255(b, l6 + 360ull, l10);
 if (!t8) { goto L69; }
 l28 = get64(b, l6 + 360);
 l11 = get64(b, l6 + 368);
@@ -65846,7 +66047,7 @@ l12 = (u64)get32(b, get64(b, l3 + 128ull) + (l10 << 3)) | 8589934592ull;
 L83:;
 l10 = l11;
 if (get64(b, l3 + 144ull) != l11) { goto L86; }
-t9 = f256(b, l3 + 128ull, 1ull);
+t9 = f257(b, l3 + 128ull, 1ull);
 if (!t9) { goto L85; }
 l10 = get64(b, l26);
 L86:;
@@ -65954,7 +66155,7 @@ l15 = (u64)get32(b, get64(b, l3 + 128ull) + (l10 << 3)) | 8589934592ull;
 L103:;
 l10 = l11;
 if (get64(b, l3 + 144ull) != l11) { goto L106; }
-t10 = f256(b, l3 + 128ull, 1ull);
+t10 = f257(b, l3 + 128ull, 1ull);
 if (!t10) { goto L105; }
 l10 = get64(b, l26);
 L106:;
@@ -66105,7 +66306,7 @@ l70 = (u32)(l12 < 4294967295ull);
 put64(b, l6 + 360, l6 + 604ull);
 if (!l10) { goto L133; }
 l9 = (l10 < 4294967295ull) ? l10 : 4294967295ull;
-t11 = f247(b, l6 + 360ull, l9);
+t11 = f248(b, l6 + 360ull, l9);
 if (!t11) { goto L132; }
 l28 = get64(b, l6 + 360);
 l10 = get64(b, l6 + 368);
@@ -66153,7 +66354,7 @@ l76 = (u32)(!l17);
 l23 = l6 + 604ull;
 if (!l10) { goto L130; }
 l10 = (l10 < 4294967295ull) ? l10 : 4294967295ull;
-t12 = f247(b, l6 + 360ull, l10);
+t12 = f248(b, l6 + 360ull, l10);
 if (!t12) { goto L136; }
 l23 = get64(b, l6 + 360);
 l11 = get64(b, l6 + 368);
@@ -66176,7 +66377,7 @@ put64(b, l6 + 368, 0ull);
 put64(b, l6 + 360, l6 + 604ull);
 l74 = (u32)(!l12);
 if (l74) { goto L140; }
-t13 = f247(b, l6 + 360ull, l19);
+t13 = f248(b, l6 + 360ull, l19);
 if (!t13) { goto L139; }
 l27 = get64(b, l6 + 360);
 l10 = get64(b, l6 + 368);
@@ -66203,7 +66404,7 @@ l30 = get64(b, l6 + 376);
 put64(b, l6 + 376, 0ull);
 put64(b, l6 + 368, 0ull);
 put64(b, l6 + 360, l6 + 604ull);
-t14 = f247(b, l6 + 360ull, l19);
+t14 = f248(b, l6 + 360ull, l19);
 if (!t14) { goto L141; }
 l18 = get64(b, l6 + 360);
 l10 = get64(b, l6 + 368);
@@ -66311,7 +66512,7 @@ put64(b, l6 + 360, l6 + 604ull);
 l19 = l6 + 604ull;
 if (!l10) { goto L160; }
 l10 = (l10 < 4294967295ull) ? l10 : 4294967295ull;
-t15 = f254(b, l6 + 360ull, l10);
+t15 = f255(b, l6 + 360ull, l10);
 if (!t15) { goto L161; }
 l19 = get64(b, l6 + 360);
 l12 = get64(b, l6 + 368);
@@ -66371,7 +66572,7 @@ L172:;
 l18 = l3 + 184ull;
 l12 = get64(b, l18);
 if (get64(b, l3 + 192ull) != l12) { goto L175; }
-t16 = f299(b, l3 + 176ull, 1ull);
+t16 = f300(b, l3 + 176ull, 1ull);
 if (!t16) { goto L174; }
 l12 = get64(b, l3 + 184ull);
 L175:;
@@ -66392,7 +66593,7 @@ L168:;
 l17 = l3 + 160ull;
 l11 = get64(b, l17);
 if (get64(b, l3 + 168ull) != l11) { goto L177; }
-t17 = f298(b, l3 + 152ull, 1ull);
+t17 = f299(b, l3 + 152ull, 1ull);
 if (!t17) { goto L176; }
 l11 = get64(b, l3 + 160ull);
 L177:;
@@ -66444,7 +66645,7 @@ L183:;
 l69 = get32(b, get64(b, l9) + l11);
 l12 = get64(b, l6 + 368);
 if (get64(b, l6 + 376) != l12) { goto L186; }
-t18 = f250(b, l6 + 360ull);
+t18 = f251(b, l6 + 360ull);
 if (!t18) { goto L185; }
 l12 = get64(b, l6 + 368);
 L186:;
@@ -66463,7 +66664,7 @@ l11 = l11 + 12ull;
 l4 = l4 + 1ull;
 if (l15 != l4) { goto L183; }
 L182:;
-t19 = f273(b, l6 + 360ull);
+t19 = f274(b, l6 + 360ull);
 if (!(t19 & 255u)) { goto L187; }
 put8(b, l0, 1u);
 L187:;
@@ -66497,7 +66698,7 @@ put32(b, l6 + 56, get32(b, l11 + 8));
 put64(b, l6 + 48, get64(b, l11));
 l11 = get64(b, l6 + 128);
 if (get64(b, l6 + 136) != l11) { goto L195; }
-t20 = f298(b, l6 + 120ull, 1ull);
+t20 = f299(b, l6 + 120ull, 1ull);
 if (!t20) { goto L194; }
 l11 = get64(b, l6 + 128);
 L195:;
@@ -66535,7 +66736,7 @@ l18 = l6 + 604ull;
 l17 = l18;
 if (!l69) { goto L198; }
 l10 = (u64)l69;
-t21 = f247(b, l6 + 360ull, l10);
+t21 = f248(b, l6 + 360ull, l10);
 if (!t21) { goto L199; }
 l17 = get64(b, l6 + 360);
 l11 = get64(b, l6 + 368);
@@ -66557,7 +66758,7 @@ put64(b, l6 + 368, 0ull);
 put64(b, l6 + 360, l6 + 604ull);
 if (!l69) { goto L200; }
 l4 = (u64)l69;
-t22 = f247(b, l6 + 360ull, l4);
+t22 = f248(b, l6 + 360ull, l4);
 if (!t22) { goto L201; }
 l18 = get64(b, l6 + 360);
 l10 = get64(b, l6 + 368);
@@ -66697,7 +66898,7 @@ put64(b, l6 + 40, 0ull);
 l78 = get8(b, l3 + 204ull);
 l4 = l3 + 208ull;
 l79 = get32(b, l4);
-f263(b, l6 + 48ull, l0, l1, l3, l2);
+f264(b, l6 + 48ull, l0, l1, l3, l2);
 l30 = l5 + 8ull;
 l32 = get64(b, l6 + 88);
 l33 = get64(b, l6 + 80);
@@ -67260,7 +67461,7 @@ put64(b, l6 + 144, l34);
 put64(b, l6 + 136, l35);
 put64(b, l6 + 128, l23);
 put64(b, l6 + 120, l27);
-f264(b, l6 + 360ull, l0, l1, l2, l3, l6 + 120ull, l70);
+f265(b, l6 + 360ull, l0, l1, l2, l3, l6 + 120ull, l70);
 if (get8(b, l6 + 360) != 1u) { goto L217; }
 l28 = get64(b, l6 + 512);
 l12 = get64(b, l6 + 504);
@@ -67555,14 +67756,14 @@ put64(b, l6 + 336, get64(b, l6 + 40));
 put64(b, l6 + 328, get64(b, l6 + 32));
 put16(b, l6 + 349, get16(b, l6 + 100));
 put8(b, l6 + 351, get8(b, l6 + 102));
-f321(b, l30, l4, l6 + 120ull);
+f322(b, l30, l4, l6 + 120ull);
 goto L336;
 L337:;
 if (l3 != l24) { goto L339; }
-t26 = f322(b, l30);
+t26 = f323(b, l30);
 if (!t26) { goto L338; }
 L339:;
-f321(b, l30, l4, l6 + 360ull);
+f322(b, l30, l4, l6 + 360ull);
 goto L336;
 L338:;
 if (!l40) { goto L341; }
@@ -67653,7 +67854,7 @@ l10 = get64(b, l4);
 put64(b, l8 + 8, 0ull);
 l11 = l5 + 8ull;
 l12 = get64(b, l11);
-f323(b, l12, 6ull, l3);
+f324(b, l12, 6ull, l3);
 put64(b, l4, l10);
 put64(b, l5 + 16ull, 6ull);
 put64(b, l11, l12);
@@ -67664,7 +67865,7 @@ put64(b, l8, 0ull);
 l3 = l5 + 24ull;
 l4 = get64(b, l3);
 put64(b, l8 + 8, 0ull);
-f323(b, l17, 6ull, l24);
+f324(b, l17, 6ull, l24);
 put64(b, l3, l4);
 put64(b, l5 + 16ull, 6ull);
 put64(b, l5 + 8ull, l17);
@@ -67759,7 +67960,7 @@ L1:;
 SP = l6 + 608ull;
 }
 
-FN u32 f319(B b, u64 l0, u64 l1, u64 l2, u64 l3, u32 l4) {
+FN u32 f320(B b, u64 l0, u64 l1, u64 l2, u64 l3, u32 l4) {
 u32 l40 = 0, l41 = 0, l42 = 0, l43 = 0, l44 = 0, l45 = 0, l46 = 0, l47 = 0, l48 = 0, l49 = 0, l50 = 0, l51 = 0, l52 = 0, l53 = 0, l54 = 0, t0, t1, t2, t3, t4, t5, t6, t7, t8, t9, t10, t11, t12;
 u64 l5 = 0, l6 = 0, l7 = 0, l8 = 0, l9 = 0, l10 = 0, l11 = 0, l12 = 0, l13 = 0, l14 = 0, l15 = 0, l16 = 0, l17 = 0, l18 = 0, l19 = 0, l20 = 0, l21 = 0, l22 = 0, l23 = 0, l24 = 0, l25 = 0, l26 = 0, l27 = 0, l28 = 0, l29 = 0, l30 = 0, l31 = 0, l32 = 0, l33 = 0, l34 = 0, l35 = 0, l36 = 0, l37 = 0, l38 = 0, l39 = 0;
 l5 = SP - 80ull;
@@ -67770,7 +67971,7 @@ put64(b, l5 + 24, 0ull);
 put64(b, l5 + 16, 0ull);
 put64(b, l5 + 8, 0ull);
 put64(b, l5, 0ull);
-f310(b, l5, l0, l1, l3, l4);
+f311(b, l5, l0, l1, l3, l4);
 l3 = get64(b, l2 + 80ull);
 l6 = get64(b, l5 + 40);
 l7 = get64(b, l5 + 32);
@@ -67783,7 +67984,7 @@ put64(b, l5 + 56, 0ull);
 put64(b, l5 + 48, l5 + 76ull);
 if (!l3) { goto L4; }
 l12 = (l3 < 4294967295ull) ? l3 : 4294967295ull;
-t0 = f247(b, l5 + 48ull, l12);
+t0 = f248(b, l5 + 48ull, l12);
 if (!t0) { goto L6; }
 l13 = get64(b, l5 + 48);
 l3 = get64(b, l5 + 56);
@@ -67802,7 +68003,7 @@ l16 = get64(b, l5 + 64);
 put64(b, l5 + 64, 0ull);
 put64(b, l5 + 56, 0ull);
 put64(b, l5 + 48, l5 + 76ull);
-t1 = f247(b, l5 + 48ull, l12);
+t1 = f248(b, l5 + 48ull, l12);
 if (!t1) { goto L8; }
 l17 = get64(b, l5 + 48);
 l3 = get64(b, l5 + 56);
@@ -67917,7 +68118,7 @@ put64(b, l5 + 64, 0ull);
 put64(b, l5 + 56, 0ull);
 put64(b, l5 + 48, l5 + 76ull);
 l3 = (u64)l40;
-t2 = f247(b, l5 + 48ull, l3);
+t2 = f248(b, l5 + 48ull, l3);
 if (!t2) { goto L25; }
 l24 = get64(b, l5 + 48);
 l15 = get64(b, l5 + 56);
@@ -67940,7 +68141,7 @@ put64(b, l5 + 48, l5 + 76ull);
 if (!l18) { goto L29; }
 l3 = (l18 < 4294967295ull) ? l18 : 4294967295ull;
 l4 = (u32)l3;
-t3 = f247(b, l5 + 48ull, l3);
+t3 = f248(b, l5 + 48ull, l3);
 if (!t3) { goto L28; }
 l28 = get64(b, l5 + 48);
 l15 = get64(b, l5 + 56);
@@ -67995,7 +68196,7 @@ l29 = 0ull;
 l20 = l5 + 76ull;
 l30 = l20;
 if (!l15) { goto L36; }
-t4 = f255(b, l5 + 48ull, l15);
+t4 = f256(b, l5 + 48ull, l15);
 if (!t4) { goto L35; }
 l3 = get64(b, l5 + 56);
 l13 = l3 + l15;
@@ -68059,7 +68260,7 @@ put64(b, l5 + 56, 0ull);
 put64(b, l5 + 48, l5 + 76ull);
 if (!l7) { goto L43; }
 l3 = (l7 < 4294967295ull) ? l7 : 4294967295ull;
-t5 = f247(b, l5 + 48ull, l3);
+t5 = f248(b, l5 + 48ull, l3);
 if (!t5) { goto L42; }
 l23 = get64(b, l5 + 48);
 l15 = get64(b, l5 + 56);
@@ -68086,7 +68287,7 @@ l31 = get64(b, l5 + 64);
 put64(b, l5 + 64, 0ull);
 put64(b, l5 + 56, 0ull);
 put64(b, l5 + 48, l5 + 76ull);
-t6 = f247(b, l5 + 48ull, l3);
+t6 = f248(b, l5 + 48ull, l3);
 if (!t6) { goto L44; }
 l12 = get64(b, l5 + 48);
 l15 = get64(b, l5 + 56);
@@ -68108,7 +68309,7 @@ put64(b, l5 + 56, 0ull);
 put64(b, l5 + 48, l5 + 76ull);
 if (!l22) { goto L48; }
 l3 = (l22 < 4294967295ull) ? l22 : 4294967295ull;
-t7 = f247(b, l5 + 48ull, l3);
+t7 = f248(b, l5 + 48ull, l3);
 if (!t7) { goto L47; }
 l19 = get64(b, l5 + 48);
 l15 = get64(b, l5 + 56);
@@ -68135,7 +68336,7 @@ l33 = get64(b, l5 + 64);
 put64(b, l5 + 64, 0ull);
 put64(b, l5 + 56, 0ull);
 put64(b, l5 + 48, l5 + 76ull);
-t8 = f247(b, l5 + 48ull, l3);
+t8 = f248(b, l5 + 48ull, l3);
 if (!t8) { goto L49; }
 l16 = get64(b, l5 + 48);
 l15 = get64(b, l5 + 56);
@@ -68241,7 +68442,7 @@ l39 = (u64)get32(b, get64(b, l2 + 128ull) + (l20 << 3)) | 4294967296ull;
 L68:;
 l18 = l21;
 if (get64(b, l2 + 144ull) != l21) { goto L71; }
-t9 = f256(b, l2 + 128ull, 1ull);
+t9 = f257(b, l2 + 128ull, 1ull);
 if (!t9) { goto L70; }
 l18 = get64(b, l2 + 136ull);
 L71:;
@@ -68276,7 +68477,7 @@ l39 = (u64)get32(b, get64(b, l2 + 128ull) + (l20 << 3)) | 4294967296ull;
 L75:;
 l18 = l21;
 if (get64(b, l2 + 144ull) != l21) { goto L78; }
-t10 = f256(b, l2 + 128ull, 1ull);
+t10 = f257(b, l2 + 128ull, 1ull);
 if (!t10) { goto L77; }
 l18 = get64(b, l2 + 136ull);
 L78:;
@@ -68305,7 +68506,7 @@ goto L79;
 L80:;
 l18 = l20;
 if (get64(b, l2 + 120ull) != l20) { goto L83; }
-t11 = f255(b, l2 + 104ull, 1ull);
+t11 = f256(b, l2 + 104ull, 1ull);
 if (!t11) { goto L82; }
 l18 = get64(b, l2 + 112ull);
 L83:;
@@ -68351,7 +68552,7 @@ l18 = (u64)get32(b, get64(b, l2 + 128ull) + (l15 << 3)) | 4294967296ull;
 L87:;
 l21 = l20;
 if (get64(b, l2 + 144ull) != l20) { goto L90; }
-t12 = f256(b, l2 + 128ull, 1ull);
+t12 = f257(b, l2 + 128ull, 1ull);
 if (!t12) { goto L89; }
 l21 = get64(b, l2 + 136ull);
 L90:;
@@ -68425,7 +68626,7 @@ SP = l5 + 80ull;
 return l4;
 }
 
-FN u32 f320(B b, u64 l0) {
+FN u32 f321(B b, u64 l0) {
 u32 l6 = 0;
 u64 l1 = 0, l2 = 0, l3 = 0, l4 = 0, l5 = 0;
 l1 = SP - 32ull;
@@ -68457,7 +68658,7 @@ SP = l1 + 32ull;
 return l6;
 }
 
-FN void f321(B b, u64 l0, u64 l1, u64 l2) {
+FN void f322(B b, u64 l0, u64 l1, u64 l2) {
 u64 l3 = 0, l4 = 0, l5 = 0, l6 = 0, l7 = 0, l8 = 0, l9 = 0, l10 = 0, l11 = 0, l12 = 0, l13 = 0;
 l3 = SP - 240ull;
 SP = l3;
@@ -68571,7 +68772,7 @@ put64(b, l0, l6);
 SP = l3 + 240ull;
 }
 
-FN u32 f322(B b, u64 l0) {
+FN u32 f323(B b, u64 l0) {
 u32 l6 = 0;
 u64 l1 = 0, l2 = 0, l3 = 0, l4 = 0, l5 = 0;
 l1 = SP - 32ull;
@@ -68603,7 +68804,7 @@ SP = l1 + 32ull;
 return l6;
 }
 
-FN void f323(B b, u64 l0, u64 l1, u64 l2) {
+FN void f324(B b, u64 l0, u64 l1, u64 l2) {
 u64 l3 = 0, l4 = 0, l5 = 0, l6 = 0, l7 = 0, l8 = 0, l9 = 0, l10 = 0, l11 = 0, l12 = 0, l13 = 0, l14 = 0, l15 = 0, l16 = 0, l17 = 0, l18 = 0, l19 = 0, l20 = 0, l21 = 0;
 l3 = SP - 160ull;
 SP = l3;
@@ -68650,7 +68851,7 @@ put64(b, l3 + 32, l12);
 put64(b, l3 + 24, l13);
 put64(b, l3 + 16, l21);
 put64(b, l3 + 8, l14);
-f266(b, l3 + 8ull);
+f267(b, l3 + 8ull);
 goto L3;
 L4:;
 l15 = get64(b, l1 + 200ull);
@@ -68688,7 +68889,7 @@ L1:;
 SP = l3 + 160ull;
 }
 
-FN u32 f324(B b, u64 l0) {
+FN u32 f325(B b, u64 l0) {
 u32 l6 = 0;
 u64 l1 = 0, l2 = 0, l3 = 0, l4 = 0, l5 = 0;
 l1 = SP - 32ull;
@@ -68720,7 +68921,7 @@ SP = l1 + 32ull;
 return l6;
 }
 
-FN void f325(B b, u64 l0, u64 l1, u64 l2, u64 l3, u32 l4) {
+FN void f326(B b, u64 l0, u64 l1, u64 l2, u64 l3, u32 l4) {
 u32 l5 = 0, l6 = 0, l7 = 0, l8 = 0, l9 = 0, l10 = 0, l11 = 0, l12 = 0, l13 = 0, t0;
 u64 l14 = 0, l15 = 0, l16 = 0, l17 = 0, l18 = 0, l19 = 0, l20 = 0, l21 = 0, l22 = 0, l23 = 0, l24 = 0, l25 = 0;
 l5 = 0u;
@@ -68830,7 +69031,7 @@ if (get64(b, l20 + 32ull) <= l18) { goto L20; }
 l9 = get32(b, get64(b, l20 + 24ull) + (l18 << 2));
 L20:;
 if (get64(b, l3 + 16ull) != l17) { goto L23; }
-t0 = f333(b, l3);
+t0 = f334(b, l3);
 if (!t0) { goto L22; }
 l17 = get64(b, l3 + 8ull);
 L23:;
@@ -68866,7 +69067,7 @@ put32(b, l0 + 4, l5);
 put8(b, l0, l6);
 }
 
-FN u32 f326(B b, u64 l0) {
+FN u32 f327(B b, u64 l0) {
 u32 l6 = 0;
 u64 l1 = 0, l2 = 0, l3 = 0, l4 = 0, l5 = 0;
 l1 = SP - 32ull;
@@ -68898,7 +69099,7 @@ SP = l1 + 32ull;
 return l6;
 }
 
-FN u32 f327(B b, u64 l0) {
+FN u32 f328(B b, u64 l0) {
 u32 l6 = 0;
 u64 l1 = 0, l2 = 0, l3 = 0, l4 = 0, l5 = 0;
 l1 = SP - 32ull;
@@ -68930,7 +69131,7 @@ SP = l1 + 32ull;
 return l6;
 }
 
-FN u32 f328(B b, u64 l0) {
+FN u32 f329(B b, u64 l0) {
 u32 l6 = 0;
 u64 l1 = 0, l2 = 0, l3 = 0, l4 = 0, l5 = 0;
 l1 = SP - 32ull;
@@ -68962,7 +69163,7 @@ SP = l1 + 32ull;
 return l6;
 }
 
-FN u32 f329(B b, u64 l0) {
+FN u32 f330(B b, u64 l0) {
 u32 l6 = 0;
 u64 l1 = 0, l2 = 0, l3 = 0, l4 = 0, l5 = 0;
 l1 = SP - 32ull;
@@ -68994,7 +69195,7 @@ SP = l1 + 32ull;
 return l6;
 }
 
-FN u32 f330(B b, u64 l0) {
+FN u32 f331(B b, u64 l0) {
 u32 l6 = 0;
 u64 l1 = 0, l2 = 0, l3 = 0, l4 = 0, l5 = 0;
 l1 = SP - 32ull;
@@ -69026,7 +69227,7 @@ SP = l1 + 32ull;
 return l6;
 }
 
-FN u32 f331(B b, u64 l0) {
+FN u32 f332(B b, u64 l0) {
 u32 l6 = 0;
 u64 l1 = 0, l2 = 0, l3 = 0, l4 = 0, l5 = 0;
 l1 = SP - 32ull;
@@ -69058,7 +69259,7 @@ SP = l1 + 32ull;
 return l6;
 }
 
-FN u32 f332(B b, u64 l0) {
+FN u32 f333(B b, u64 l0) {
 u32 l6 = 0;
 u64 l1 = 0, l2 = 0, l3 = 0, l4 = 0, l5 = 0;
 l1 = SP - 32ull;
@@ -69090,7 +69291,7 @@ SP = l1 + 32ull;
 return l6;
 }
 
-FN u32 f333(B b, u64 l0) {
+FN u32 f334(B b, u64 l0) {
 u32 l6 = 0;
 u64 l1 = 0, l2 = 0, l3 = 0, l4 = 0, l5 = 0;
 l1 = SP - 32ull;
@@ -69122,13 +69323,13 @@ SP = l1 + 32ull;
 return l6;
 }
 
-FN void f334(B b, u64 l0, u64 l1, u64 l2, u32 l3, u64 l4) {
+FN void f335(B b, u64 l0, u64 l1, u64 l2, u32 l3, u64 l4) {
 u32 l17 = 0, l18 = 0, l19 = 0, l20 = 0;
 u64 l5 = 0, l6 = 0, l7 = 0, l8 = 0, l9 = 0, l10 = 0, l11 = 0, l12 = 0, l13 = 0, l14 = 0, l15 = 0, l16 = 0, t0;
 if (l1 < 33ull) { goto L1; }
 L2:;
 if (l3) { goto L3; }
-f336(b, l0, l1, l4);
+f337(b, l0, l1, l4);
 return;
 L3:;
 l5 = l1 >> 3;
@@ -69380,7 +69581,7 @@ L29:;
 put64(b, l4 + 8, l9);
 put64(b, l4, l10);
 l3 = l3 + 4294967295u;
-f334(b, l0, l7, l1, l3, l4);
+f335(b, l0, l7, l1, l3, l4);
 l1 = l15;
 L6:;
 l2 = l1;
@@ -69388,10 +69589,10 @@ l0 = l8;
 l1 = l11;
 if (l11 >= 33ull) { goto L2; }
 L1:;
-f337(b, l0, l1, l4);
+f338(b, l0, l1, l4);
 }
 
-FN void f335(B b, u64 l0, u64 l1, u64 l2, u64 l3, u64 l4, u32 l5, u32 l6, u64 l7, u64 l8, u64 l9) {
+FN void f336(B b, u64 l0, u64 l1, u64 l2, u64 l3, u64 l4, u32 l5, u32 l6, u64 l7, u64 l8, u64 l9) {
 u32 l17 = 0, l18 = 0, l19 = 0, l20 = 0;
 u64 l10 = 0, l11 = 0, l12 = 0, l13 = 0, l14 = 0, l15 = 0, l16 = 0;
 l10 = SP - 48ull;
@@ -69500,7 +69701,7 @@ if (l6 > l20) { goto L18; }
 l15 = l1 + (l3 << 2);
 L19:;
 l11 = l4;
-f335(b, l10 + 8ull, l1, l2, l11, get64(b, l10 + 24), get8(b, l10 + 32), l19, l7, l8, l9);
+f336(b, l10 + 8ull, l1, l2, l11, get64(b, l10 + 24), get8(b, l10 + 32), l19, l7, l8, l9);
 l4 = get64(b, l10 + 8);
 l19 = get8(b, l10 + 16);
 if ((l19 | l5) & 1u) { goto L21; }
@@ -69509,17 +69710,17 @@ goto L20;
 L21:;
 if (l5 & 1u) { goto L22; }
 l14 = l11 - l3;
-f334(b, l15, l14, l14, 126u - (((u32)clz64(l14)) << 1), l9);
+f335(b, l15, l14, l14, 126u - (((u32)clz64(l14)) << 1), l9);
 L22:;
 l14 = l11 << 2;
 l5 = 1u;
 if (l19 & 1u) { goto L23; }
 l12 = l4 - l11;
-f334(b, l1 + l14, l12, l12, 126u - (((u32)clz64(l12)) << 1), l9);
+f335(b, l1 + l14, l12, l12, 126u - (((u32)clz64(l12)) << 1), l9);
 L23:;
 l14 = l1 + l14;
 if (get32(b, l14) >= get32(b, l14 + 18446744073709551612ull)) { goto L20; }
-f339(b, l15, l4 - l3, l11 - l3, l9);
+f340(b, l15, l4 - l3, l11 - l3, l9);
 L20:;
 put32(b, l13, 0u);
 put32(b, l13 + 3, 0u);
@@ -69544,30 +69745,30 @@ L1:;
 SP = l10 + 48ull;
 }
 
-FN void f336(B b, u64 l0, u64 l1, u64 l2) {
+FN void f337(B b, u64 l0, u64 l1, u64 l2) {
 u64 l3 = 0;
 if (l1 >= 33ull) { goto L1; }
-f337(b, l0, l1, l2);
+f338(b, l0, l1, l2);
 return;
 L1:;
 l3 = l1 >> 1;
-f336(b, l0, l3, l2);
-f336(b, l0 + (l3 << 2), l1 - l3, l2);
-f339(b, l0, l1, l3, l2);
+f337(b, l0, l3, l2);
+f337(b, l0 + (l3 << 2), l1 - l3, l2);
+f340(b, l0, l1, l3, l2);
 }
 
-FN void f337(B b, u64 l0, u64 l1, u64 l2) {
+FN void f338(B b, u64 l0, u64 l1, u64 l2) {
 u32 l14 = 0, l15 = 0, l16 = 0, l17 = 0, l18 = 0, l19 = 0;
 u64 l3 = 0, l4 = 0, l5 = 0, l6 = 0, l7 = 0, l8 = 0, l9 = 0, l10 = 0, l11 = 0, l12 = 0, l13 = 0;
 l3 = SP - 32ull;
 SP = l3;
 if (l1 >= 16ull) { goto L2; }
-f338(b, l0, l1, l2);
+f339(b, l0, l1, l2);
 goto L1;
 L2:;
 l4 = l1 >> 1;
-f338(b, l0, l4, l2);
-f338(b, l0 + (l4 << 2), l1 - l4, l2);
+f339(b, l0, l4, l2);
+f339(b, l0 + (l4 << 2), l1 - l4, l2);
 l5 = get64(b, l2 + 8);
 l6 = get64(b, l2);
 put64(b, l3 + 24, 0ull);
@@ -69687,7 +69888,7 @@ L1:;
 SP = l3 + 32ull;
 }
 
-FN void f338(B b, u64 l0, u64 l1, u64 l2) {
+FN void f339(B b, u64 l0, u64 l1, u64 l2) {
 u32 l3 = 0, l4 = 0, l5 = 0, l6 = 0, l7 = 0, l8 = 0, l9 = 0, l10 = 0, l11 = 0, l12 = 0, l13 = 0, l14 = 0;
 u64 l15 = 0, l16 = 0, l17 = 0, l18 = 0, l19 = 0, l20 = 0, l21 = 0, l22 = 0, l23 = 0, l24 = 0, l25 = 0, l26 = 0, l27 = 0, l28 = 0;
 if (l1 < 8ull) { goto L2; }
@@ -69880,7 +70081,7 @@ if (l17 != l1) { goto L9; }
 L8:;
 }
 
-FN void f339(B b, u64 l0, u64 l1, u64 l2, u64 l3) {
+FN void f340(B b, u64 l0, u64 l1, u64 l2, u64 l3) {
 u32 l17 = 0, l18 = 0, l19 = 0;
 u64 l4 = 0, l5 = 0, l6 = 0, l7 = 0, l8 = 0, l9 = 0, l10 = 0, l11 = 0, l12 = 0, l13 = 0, l14 = 0, l15 = 0, l16 = 0;
 if (l1 < 4097ull) { goto L2; }
@@ -70210,7 +70411,7 @@ put64(b, l3 + 8, l15);
 put64(b, l3, l4);
 }
 
-FN u32 f340(B b, u64 l0) {
+FN u32 f341(B b, u64 l0) {
 u32 l6 = 0;
 u64 l1 = 0, l2 = 0, l3 = 0, l4 = 0, l5 = 0;
 l1 = SP - 32ull;
@@ -70242,7 +70443,7 @@ SP = l1 + 32ull;
 return l6;
 }
 
-FN u32 f341(B b, u64 l0) {
+FN u32 f342(B b, u64 l0) {
 u32 l6 = 0;
 u64 l1 = 0, l2 = 0, l3 = 0, l4 = 0, l5 = 0;
 l1 = SP - 32ull;
@@ -70274,7 +70475,7 @@ SP = l1 + 32ull;
 return l6;
 }
 
-FN void f342(B b, u64 l0, u64 l1, u32 l2, u32 l3, u64 l4) {
+FN void f343(B b, u64 l0, u64 l1, u32 l2, u32 l3, u64 l4) {
 u32 l19 = 0, l20 = 0, l21 = 0, t0, t1, t2, t3, t4;
 u64 l5 = 0, l6 = 0, l7 = 0, l8 = 0, l9 = 0, l10 = 0, l11 = 0, l12 = 0, l13 = 0, l14 = 0, l15 = 0, l16 = 0, l17 = 0, l18 = 0;
 l5 = SP - 32ull;
@@ -70363,7 +70564,7 @@ l7 = l6 - l10;
 l6 = (l7 > l6) ? 0ull : l7;
 l7 = get64(b, l1 + 136ull);
 if (((l6 < l7) ? l6 : l7) != 0ull) { goto L19; }
-t3 = f352(b, l11);
+t3 = f353(b, l11);
 if (t3 & 255u) { goto L9; }
 l12 = get64(b, l1 + 96ull);
 l9 = get64(b, l1 + 88ull);
@@ -70421,7 +70622,7 @@ L1:;
 SP = l5 + 32ull;
 }
 
-FN u32 f343(B b, u64 l0) {
+FN u32 f344(B b, u64 l0) {
 u32 l6 = 0;
 u64 l1 = 0, l2 = 0, l3 = 0, l4 = 0, l5 = 0;
 l1 = SP - 32ull;
@@ -70453,14 +70654,14 @@ SP = l1 + 32ull;
 return l6;
 }
 
-FN void f344(B b, u64 l0, u64 l1, u32 l2, u32 l3, u32 l4) {
+FN void f345(B b, u64 l0, u64 l1, u32 l2, u32 l3, u32 l4) {
 u32 l11 = 0, l12 = 0, l13 = 0, t0, t1, t2, t3;
 u64 l5 = 0, l6 = 0, l7 = 0, l8 = 0, l9 = 0, l10 = 0;
 l5 = SP - 16ull;
 SP = l5;
 put32(b, l5 + 8, 0u);
 put64(b, l5, 0ull);
-f342(b, l5, l1 + 64ull, l2, l3, get64(b, l1 + 48ull));
+f343(b, l5, l1 + 64ull, l2, l3, get64(b, l1 + 48ull));
 if (get8(b, l5)) { goto L2; }
 l6 = get64(b, l5 + 4);
 if ((l6 & 4294967296ull) != 0ull) { goto L4; }
@@ -70470,7 +70671,7 @@ L4:;
 l7 = l1 + 48ull;
 l8 = get64(b, l7);
 if (get64(b, l1 + 56ull) != l8) { goto L5; }
-t0 = f351(b, l1 + 40ull);
+t0 = f352(b, l1 + 40ull);
 if (!t0) { goto L2; }
 l8 = get64(b, l1 + 48ull);
 L5:;
@@ -70503,13 +70704,13 @@ put32(b, l5 + 8, 0u);
 put64(b, l5, 0ull);
 l8 = l1 + 240ull;
 l6 = l1 + 224ull;
-f342(b, l5, l8, l2, l12, get64(b, l6));
+f343(b, l5, l8, l2, l12, get64(b, l6));
 if (get8(b, l5)) { goto L2; }
 l6 = get64(b, l6);
 l7 = get64(b, l5 + 4);
 if (!(l7 & 4294967296ull)) { goto L8; }
 if (get64(b, l1 + 232ull) != l6) { goto L9; }
-t1 = f343(b, l1 + 216ull);
+t1 = f344(b, l1 + 216ull);
 if (!t1) { goto L2; }
 l6 = get64(b, l1 + 224ull);
 L9:;
@@ -70521,14 +70722,14 @@ put64(b, l1 + 224ull, l6);
 L8:;
 put32(b, l5 + 8, 0u);
 put64(b, l5, 0ull);
-f342(b, l5, l8, l11, l13, l6);
+f343(b, l5, l8, l11, l13, l6);
 if (get8(b, l5)) { goto L2; }
 l8 = get64(b, l5 + 4);
 if (!(l8 & 4294967296ull)) { goto L10; }
 l9 = l1 + 224ull;
 l6 = get64(b, l9);
 if (get64(b, l1 + 232ull) != l6) { goto L11; }
-t2 = f343(b, l1 + 216ull);
+t2 = f344(b, l1 + 216ull);
 if (!t2) { goto L2; }
 l6 = get64(b, l1 + 224ull);
 L11:;
@@ -70564,7 +70765,7 @@ L1:;
 SP = l5 + 16ull;
 }
 
-FN void f345(B b, u64 l0) {
+FN void f346(B b, u64 l0) {
 u64 l1 = 0, l2 = 0, l3 = 0, l4 = 0, l5 = 0, l6 = 0, l7 = 0;
 l1 = get64(b, l0 + 16);
 l2 = get64(b, l0);
@@ -70603,7 +70804,7 @@ rattle_dealloc(b, l2);
 L8:;
 }
 
-FN u32 f346(B b, u64 l0, u32 l1, u32 l2, u64 l3) {
+FN u32 f347(B b, u64 l0, u32 l1, u32 l2, u64 l3) {
 u32 l13 = 0, l14 = 0, l15 = 0, l16 = 0, t0, t1, t2;
 u64 l4 = 0, l5 = 0, l6 = 0, l7 = 0, l8 = 0, l9 = 0, l10 = 0, l11 = 0, l12 = 0;
 l4 = SP - 32ull;
@@ -70676,7 +70877,7 @@ SP = l4 + 32ull;
 return l14;
 }
 
-FN void f347(B b, u64 l0, u32 l1, u64 l2) {
+FN void f348(B b, u64 l0, u32 l1, u64 l2) {
 u32 l54 = 0, l55 = 0, l56 = 0, l57 = 0, t0, t1;
 u64 l3 = 0, l4 = 0, l5 = 0, l6 = 0, l7 = 0, l8 = 0, l9 = 0, l10 = 0, l11 = 0, l12 = 0, l13 = 0, l14 = 0, l15 = 0, l16 = 0, l17 = 0, l18 = 0, l19 = 0, l20 = 0, l21 = 0, l22 = 0, l23 = 0, l24 = 0, l25 = 0, l26 = 0, l27 = 0, l28 = 0, l29 = 0, l30 = 0, l31 = 0, l32 = 0, l33 = 0, l34 = 0, l35 = 0, l36 = 0, l37 = 0, l38 = 0, l39 = 0, l40 = 0, l41 = 0, l42 = 0, l43 = 0, l44 = 0, l45 = 0, l46 = 0, l47 = 0, l48 = 0, l49 = 0, l50 = 0, l51 = 0, l52 = 0, l53 = 0;
 l3 = SP - 176ull;
@@ -70820,7 +71021,7 @@ l2 = get64(b, l40 + 24ull);
 l38 = get64(b, l40 + 16ull);
 L33:;
 if (l2 <= (l45 - l42)) { goto L35; }
-t0 = f355(b, l3 + 144ull, l2);
+t0 = f356(b, l3 + 144ull, l2);
 if (!t0) { goto L25; }
 l44 = get64(b, l3 + 144);
 l45 = get64(b, l3 + 160);
@@ -70899,7 +71100,7 @@ put64(b, l3 + 160, get64(b, l2 + 16));
 put64(b, l3 + 152, get64(b, l2 + 8));
 put64(b, l3 + 144, get64(b, l2));
 l2 = l2 + 32ull;
-f345(b, l3 + 144ull);
+f346(b, l3 + 144ull);
 l35 = l35 + 18446744073709551615ull;
 if (l35 != 0ull) { goto L42; }
 if (!(u32)(!l33)) { goto L19; }
@@ -71025,7 +71226,7 @@ put64(b, l3 + 160, get64(b, l2 + 16));
 put64(b, l3 + 152, get64(b, l2 + 8));
 put64(b, l3 + 144, get64(b, l2));
 l2 = l2 + 32ull;
-f345(b, l3 + 144ull);
+f346(b, l3 + 144ull);
 l35 = l35 + 18446744073709551615ull;
 if (l35 != 0ull) { goto L59; }
 L58:;
@@ -71083,7 +71284,7 @@ put64(b, l3 + 160, get64(b, l2 + 16));
 put64(b, l3 + 152, get64(b, l2 + 8));
 put64(b, l3 + 144, get64(b, l2));
 l2 = l2 + 32ull;
-f345(b, l3 + 144ull);
+f346(b, l3 + 144ull);
 l35 = l35 + 18446744073709551615ull;
 if (l35 != 0ull) { goto L74; }
 L73:;
@@ -71216,7 +71417,7 @@ L1:;
 SP = l3 + 176ull;
 }
 
-FN void f348(B b, u64 l0) {
+FN void f349(B b, u64 l0) {
 u64 l1 = 0, l2 = 0, l3 = 0;
 l1 = get64(b, l0 + 16);
 l2 = get64(b, l0);
@@ -71236,7 +71437,7 @@ rattle_dealloc(b, l2);
 L4:;
 }
 
-FN void f349(B b, u64 l0) {
+FN void f350(B b, u64 l0) {
 u64 l1 = 0, l2 = 0, l3 = 0, l4 = 0;
 l1 = SP - 32ull;
 SP = l1;
@@ -71250,7 +71451,7 @@ put64(b, l1 + 24, get64(b, l0 + 16));
 put64(b, l1 + 16, get64(b, l0 + 8));
 put64(b, l1 + 8, get64(b, l0));
 l0 = l0 + 32ull;
-f345(b, l1 + 8ull);
+f346(b, l1 + 8ull);
 l4 = l4 + 18446744073709551615ull;
 if (l4 != 0ull) { goto L2; }
 L1:;
@@ -71260,7 +71461,7 @@ L3:;
 SP = l1 + 32ull;
 }
 
-FN void f350(B b, u64 l0) {
+FN void f351(B b, u64 l0) {
 u64 l1 = 0, l2 = 0, l3 = 0, l4 = 0, l5 = 0, l6 = 0, l7 = 0, l8 = 0, l9 = 0, l10 = 0, l11 = 0;
 l1 = get64(b, l0 + 16);
 l2 = get64(b, l0);
@@ -71312,7 +71513,7 @@ rattle_dealloc(b, l2);
 L11:;
 }
 
-FN u32 f351(B b, u64 l0) {
+FN u32 f352(B b, u64 l0) {
 u32 l6 = 0;
 u64 l1 = 0, l2 = 0, l3 = 0, l4 = 0, l5 = 0;
 l1 = SP - 32ull;
@@ -71344,7 +71545,7 @@ SP = l1 + 32ull;
 return l6;
 }
 
-FN u32 f352(B b, u64 l0) {
+FN u32 f353(B b, u64 l0) {
 u32 l6 = 0, t0;
 u64 l1 = 0, l2 = 0, l3 = 0, l4 = 0, l5 = 0;
 l1 = SP - 64ull;
@@ -71352,7 +71553,7 @@ SP = l1;
 l2 = get64(b, l0 + 96ull);
 if (l2 != 0ull) { goto L2; }
 l6 = 1u;
-t0 = f353(b, l0 + 48ull);
+t0 = f354(b, l0 + 48ull);
 if (t0 & 255u) { goto L1; }
 l2 = get64(b, l0 + 96ull);
 L2:;
@@ -71406,7 +71607,7 @@ SP = l1 + 64ull;
 return l6;
 }
 
-FN u32 f353(B b, u64 l0) {
+FN u32 f354(B b, u64 l0) {
 u32 l13 = 0, l14 = 0, l15 = 0, l16 = 0, t0, t1, t2;
 u64 l1 = 0, l2 = 0, l3 = 0, l4 = 0, l5 = 0, l6 = 0, l7 = 0, l8 = 0, l9 = 0, l10 = 0, l11 = 0, l12 = 0;
 l1 = SP - 64ull;
@@ -71535,7 +71736,7 @@ l3 = 0ull;
 goto L24;
 L25:;
 if (l5 <= l11) { goto L26; }
-t1 = f354(b, l0, l5);
+t1 = f355(b, l0, l5);
 if (!t1) { goto L1; }
 l11 = get64(b, l0 + 16ull);
 l8 = get64(b, l0 + 8ull);
@@ -71592,7 +71793,7 @@ abort();
 return 0;
 }
 
-FN u32 f354(B b, u64 l0, u64 l1) {
+FN u32 f355(B b, u64 l0, u64 l1) {
 u32 l6 = 0;
 u64 l2 = 0, l3 = 0, l4 = 0, l5 = 0;
 l2 = SP - 32ull;
@@ -71625,7 +71826,7 @@ SP = l2 + 32ull;
 return l6;
 }
 
-FN u32 f355(B b, u64 l0, u64 l1) {
+FN u32 f356(B b, u64 l0, u64 l1) {
 u32 l6 = 0;
 u64 l2 = 0, l3 = 0, l4 = 0, l5 = 0;
 l2 = SP - 32ull;
@@ -71658,7 +71859,7 @@ SP = l2 + 32ull;
 return l6;
 }
 
-FN void f356(B b, u64 l0) {
+FN void f357(B b, u64 l0) {
 u64 l1 = 0, l2 = 0, l3 = 0, l4 = 0, l5 = 0, l6 = 0, l7 = 0;
 l1 = get64(b, l0 + 16);
 l2 = get64(b, l0);
@@ -71692,7 +71893,7 @@ rattle_dealloc(b, l2);
 L7:;
 }
 
-FN u32 f357(B b, u64 l0) {
+FN u32 f358(B b, u64 l0) {
 u32 l6 = 0;
 u64 l1 = 0, l2 = 0, l3 = 0, l4 = 0, l5 = 0;
 l1 = SP - 32ull;
@@ -71724,7 +71925,7 @@ SP = l1 + 32ull;
 return l6;
 }
 
-FN u32 f358(B b, u64 l0) {
+FN u32 f359(B b, u64 l0) {
 u32 l6 = 0;
 u64 l1 = 0, l2 = 0, l3 = 0, l4 = 0, l5 = 0;
 l1 = SP - 32ull;
@@ -71756,7 +71957,7 @@ SP = l1 + 32ull;
 return l6;
 }
 
-FN u32 f359(B b, u64 l0) {
+FN u32 f360(B b, u64 l0) {
 u32 l6 = 0;
 u64 l1 = 0, l2 = 0, l3 = 0, l4 = 0, l5 = 0;
 l1 = SP - 32ull;
@@ -71788,7 +71989,7 @@ SP = l1 + 32ull;
 return l6;
 }
 
-FN u32 f360(B b, u64 l0) {
+FN u32 f361(B b, u64 l0) {
 u32 l6 = 0;
 u64 l1 = 0, l2 = 0, l3 = 0, l4 = 0, l5 = 0;
 l1 = SP - 32ull;
@@ -71820,7 +72021,7 @@ SP = l1 + 32ull;
 return l6;
 }
 
-FN void f361(B b, u64 l0) {
+FN void f362(B b, u64 l0) {
 u32 l7 = 0;
 u64 l1 = 0, l2 = 0, l3 = 0, l4 = 0, l5 = 0, l6 = 0;
 l1 = get64(b, l0 + 16);
@@ -71869,7 +72070,7 @@ rattle_dealloc(b, l2);
 L8:;
 }
 
-FN u32 f362(B b, u64 l0) {
+FN u32 f363(B b, u64 l0) {
 u32 l6 = 0;
 u64 l1 = 0, l2 = 0, l3 = 0, l4 = 0, l5 = 0;
 l1 = SP - 32ull;
@@ -71901,7 +72102,7 @@ SP = l1 + 32ull;
 return l6;
 }
 
-FN u32 f363(B b, u64 l0, u32 l1, u32 l2) {
+FN u32 f364(B b, u64 l0, u32 l1, u32 l2) {
 u32 t0, t1;
 u64 l3 = 0, l4 = 0, l5 = 0, l6 = 0, l7 = 0, l8 = 0;
 l3 = SP - 32ull;
@@ -71952,7 +72153,7 @@ SP = l3 + 32ull;
 return l1;
 }
 
-FN void f364(B b, u64 l0, u64 l1, u64 l2) {
+FN void f365(B b, u64 l0, u64 l1, u64 l2) {
 u32 t0, t1;
 u64 l3 = 0, l4 = 0, l5 = 0;
 l3 = SP - 64ull;
@@ -71977,7 +72178,7 @@ put64(b, l3 + 16, l5 + 1ull);
 if (!(u32)(!l2)) { goto L4; }
 goto L2;
 L5:;
-f361(b, l3 + 8ull);
+f362(b, l3 + 8ull);
 put16(b, l0, 1u);
 put64(b, l0 + 8ull, 0ull);
 put64(b, l0 + 16ull, 0ull);
@@ -71985,14 +72186,14 @@ put64(b, l0 + 24ull, 0ull);
 goto L1;
 L4:;
 L8:;
-t1 = f365(b, l3 + 8ull, get32(b, l1), get8(b, l1 + 4ull));
+t1 = f366(b, l3 + 8ull, get32(b, l1), get8(b, l1 + 4ull));
 if (t1 & 255u) { goto L7; }
 l1 = l1 + 8ull;
 l2 = l2 + 18446744073709551615ull;
 if (!l2) { goto L2; }
 goto L8;
 L7:;
-f361(b, l3 + 8ull);
+f362(b, l3 + 8ull);
 put16(b, l0, 257u);
 put64(b, l0 + 8ull, 0ull);
 put64(b, l0 + 16ull, 0ull);
@@ -72003,7 +72204,7 @@ put64(b, l3 + 48, 0ull);
 put64(b, l3 + 40, l2);
 put64(b, l3 + 32, 1ull);
 f36(b, l3 + 32ull);
-f361(b, l3 + 8ull);
+f362(b, l3 + 8ull);
 put64(b, l0 + 8ull, 0ull);
 put16(b, l0, 257u);
 put64(b, l0 + 16ull, 0ull);
@@ -72018,7 +72219,7 @@ L1:;
 SP = l3 + 64ull;
 }
 
-FN u32 f365(B b, u64 l0, u32 l1, u32 l2) {
+FN u32 f366(B b, u64 l0, u32 l1, u32 l2) {
 u32 t0, t1;
 u64 l3 = 0, l4 = 0, l5 = 0, l6 = 0, l7 = 0, l8 = 0;
 l3 = SP - 32ull;
@@ -72069,12 +72270,12 @@ SP = l3 + 32ull;
 return l1;
 }
 
-FN u32 f366(B b, u64 l0, u64 l1, u64 l2) {
+FN u32 f367(B b, u64 l0, u64 l1, u64 l2) {
 u32 l3 = 0, t0;
 l3 = 0u;
 if (!l2) { goto L1; }
 L3:;
-t0 = f365(b, l0, get32(b, l1), get8(b, l1 + 4ull));
+t0 = f366(b, l0, get32(b, l1), get8(b, l1 + 4ull));
 if (t0 & 255u) { goto L2; }
 l1 = l1 + 8ull;
 l2 = l2 + 18446744073709551615ull;
@@ -72086,7 +72287,7 @@ L1:;
 return l3;
 }
 
-FN void f367(B b, u64 l0, u64 l1, u64 l2, u64 l3) {
+FN void f368(B b, u64 l0, u64 l1, u64 l2, u64 l3) {
 u32 l17 = 0, l18 = 0, t0, t1;
 u64 l4 = 0, l5 = 0, l6 = 0, l7 = 0, l8 = 0, l9 = 0, l10 = 0, l11 = 0, l12 = 0, l13 = 0, l14 = 0, l15 = 0, l16 = 0;
 l4 = SP - 800ull;
@@ -72367,28 +72568,6 @@ put8(b, l0 + 1ull, l18);
 copy(b, l0 + 8ull, l4 + 152ull, 112u);
 L1:;
 SP = l4 + 800ull;
-}
-
-FN void f368(B b, u64 l0) {
-u64 l1 = 0, l2 = 0, l3 = 0, l4 = 0;
-l1 = SP - 160ull;
-SP = l1;
-l2 = get64(b, l0 + 16);
-l3 = get64(b, l0);
-l4 = get64(b, l0 + 8);
-if (!l4) { goto L1; }
-l0 = l3;
-L2:;
-copy(b, l1 + 8ull, l0, 152u);
-l0 = l0 + 152ull;
-f196(b, l1 + 8ull);
-l4 = l4 + 18446744073709551615ull;
-if (l4 != 0ull) { goto L2; }
-L1:;
-if (!l2) { goto L3; }
-rattle_dealloc(b, l3);
-L3:;
-SP = l1 + 160ull;
 }
 
 FN u32 f369(B b, u64 l0, u64 l1, u64 l2, u64 l3) {
@@ -74039,7 +74218,7 @@ put64(b, l4 + 392, 0ull);
 put64(b, l4 + 400, 0ull);
 put64(b, l4 + 408, 0ull);
 fill(b, l4, 0u, 392u);
-f152(b, l4, l1);
+f152(b, l4, l1, 0ull);
 if (!get8(b, l4)) { goto L3; }
 l8 = get8(b, l4 + 1);
 goto L2;
@@ -78363,7 +78542,7 @@ put64(b, l4 + 1264, 0ull);
 put64(b, l4 + 1256, 0ull);
 put64(b, l4 + 1248, 0ull);
 put64(b, l4 + 1240, 0ull);
-f40(b, l4 + 1240ull, l4 + 552ull, (u32)(l3 > 9999ull));
+f40(b, l4 + 1240ull, l4 + 552ull, (u32)(l3 < 10000ull), 0ull);
 goto L15;
 L43:;
 l2 = 1u;
@@ -79622,7 +79801,7 @@ put64(b, l4 + 1272, get64(b, l4 + 288));
 put64(b, l4 + 1280, get64(b, l4 + 296));
 put64(b, l4 + 1288, get64(b, l4 + 304));
 put64(b, l4 + 1304, l11);
-f40(b, l4 + 552ull, l4 + 1240ull, (u32)(l11 > 9999ull));
+f40(b, l4 + 552ull, l4 + 1240ull, (u32)(l11 < 10000ull), 0ull);
 goto L7;
 L87:;
 l2 = 0u;
@@ -95550,7 +95729,7 @@ put64(b, l2 + 520, 0ull);
 put64(b, l2 + 528, 0ull);
 put64(b, l2 + 536, 0ull);
 fill(b, l2 + 128ull, 0u, 392u);
-f152(b, l2 + 128ull, (l2 + 8ull) + 8ull);
+f152(b, l2 + 128ull, (l2 + 8ull) + 8ull, 0ull);
 if (!get8(b, l2 + 128)) { goto L6; }
 l1 = get8(b, l2 + 129);
 goto L3;

@@ -5,8 +5,8 @@ typedef struct {
 } Row;
 
 #define VERSION "1.0"
-#define SOURCES "5c781327c0cae98f1d17ddcf37a7420cc2beecf044a1358a5c664a76dd3cdaab"
-#define KIT "rattle-kit-13b logic dac8208d650f15bf"
+#define SOURCES "3c46d4243a355f4d10ada2149691de89ae681b8c2f5e7f85d34a3ee13606ae79"
+#define KIT "rattle-kit-13f logic dac8208d650f15bf"
 static const Row rows[] = {
     {"program", "igesolid", "all", "judges the solids of a file, and writes and checks certificates"},
     {"program", "igesolid-where", "rest", "reports where a solid fails"},
