@@ -8,7 +8,8 @@ use Rattle.command_replies.specs.Texts.{accepted_lines, fail_line}
 use Rattle.iges_solid_cmd.specs.Texts.{solids_text}
 use Rattle.command_replies.specs.declared.answer.Answer.{Answer}
 use Rattle.command_replies.specs.Due.{Exactly, Owed, OfText}
-use Rattle.iges_solid_cmd.specs.Due.{OfSolids, OfShow, OfCertify, OfCertifyAll, OfExtract, OfCompact, OfContents}
+use Rattle.file_replies.specs.Due.{OfExtract}
+use Rattle.iges_solid_cmd.specs.Due.{OfSolids, OfShow, OfCertify, OfCertifyAll, OfCompact, OfContents}
 use Rattle.iges_solid_cmd.specs.OneAnswer.{MayDiffer}
 use Rattle.command_replies.proofs.One.{IsOne, exactly_one}
 use Rattle.open_commands.specs.Due.{OfOpen, open_misplaced, open_unsound, open_certified, OfOpenVerify, open_fail_line}

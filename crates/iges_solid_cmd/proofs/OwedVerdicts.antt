@@ -4,7 +4,8 @@ use Rattle.iges_params.specs.Contents.{Contents}
 use Rattle.command_replies.specs.declared.answer.Answer.{Answer}
 use Rattle.iges_solid_cmd.specs.Due.{OfShow, unplaced, shown, OfCertify, fails, certified, OfCertifyAll, no_solid, one_fails, too_many, all_certified}
 use Rattle.file_replies.specs.Written.{OfWritten, too_large, written}
-use Rattle.iges_solid_cmd.specs.Due.{OfExtract, not_extracted, extracted, OfCompact, not_compacted, misplaced, compacted}
+use Rattle.file_replies.specs.Due.{OfExtract, not_extracted, extracted}
+use Rattle.iges_solid_cmd.specs.Due.{OfCompact, not_compacted, misplaced, compacted}
 use Rattle.open_commands.specs.Due.{OfOpen, OfOpenVerify, OfShellLines}
 use Rattle.open_commands.specs.Due as shell
 use Rattle.orient_commands.specs.Due.{OfOrient, OfOrientVerify, IsAnswerOf, OfOrientLines}

@@ -19,7 +19,8 @@ use Rattle.command_replies.specs.declared.answer.Answer.TheVariants as answer
 use Rattle.command_replies.specs.Texts.{fail_line}
 use Rattle.file_replies.specs.Written.{OfWritten, no_extract_line}
 use Rattle.file_replies.proofs.WrittenFiles.{one_written, refused_line, some_written}
-use Rattle.iges_solid_cmd.specs.Due.{OfExtract, not_extracted, extracted, OfCompact, not_compacted, misplaced, compacted}
+use Rattle.file_replies.specs.Due.{OfExtract, not_extracted, extracted}
+use Rattle.iges_solid_cmd.specs.Due.{OfCompact, not_compacted, misplaced, compacted}
 use Rattle.file_replies.proofs.ExtractionDecided.{extracted_or_refused}
 
 -- ---- two that are owed are one

@@ -8,13 +8,13 @@ ghost use Rattle.std.specs.Prelude.{◌≡◌, IfOk, IsErrOf, IsFalse, IsTrue};
 
 use crate::certifying::{certify_solid, certify_solids};
 use crate::compacting::compact_solid;
-use crate::extracting::extract_solid;
 use crate::form::{CertificateCommand, Command, EntityCommand, FileCommand, WholeCommand};
 use crate::listing::list_solids;
 use crate::showing::show_solid;
 use cert_text::CERT_LIMIT;
 use certificate_commands::{upgrade_certificate, verify_certificate};
 use command_replies::{Reply, Stop};
+use file_replies::extract_solid;
 use iges_base::NoMemory;
 use iges_io::Source;
 use iges_params::File;

@@ -2,8 +2,8 @@ use Rattle.std.proofs.Common.{rules}
 use Rattle.std.proofs.lemmas.Result.{IfOk-weaker}
 use Rattle.solid_extract.specs.Extracted.{IsExtracted, IsRefused}
 use Rattle.command_replies.proofs.Replying.{reply_owed}
-use Rattle.iges_solid_cmd.specs.Due.{OfExtract, not_extracted, extracted}
-use Rattle.iges_solid_cmd.proofs.extracting.extract_solid.Goals as goal
+use Rattle.file_replies.specs.Due.{OfExtract, not_extracted, extracted}
+use Rattle.file_replies.proofs.extracting.extract_solid.Goals as goal
 
 pub returns-in-Err-Refused : goal.returns-in-Err-Refused
 returns-in-Err-Refused c =

@@ -1,10 +1,11 @@
 //! The reply to `extract`.
 
-ghost use Rattle.iges_solid_cmd.specs.Due.{OfExtract};
+ghost use Rattle.file_replies.specs.Due.{OfExtract};
 ghost use Rattle.std.specs.Prelude.{IfOk};
 
+use crate::refusing::refused;
+use crate::writing::written;
 use command_replies::Reply;
-use file_replies::{refused, written};
 use iges_base::{EntryNo, NoMemory};
 use iges_params::File;
 use solid_extract::{ExtractFault, into_extract};
