@@ -28,7 +28,7 @@ CHANGED = {"docs/CERTIFICATE.md": 8, "docs/OPEN.md": 7, "docs/ORIENT.md": 7}
 SECTION = re.compile(r"\]\((\w+\.md)\), sections? (\d+(?: and \d+)?)")
 # An edition of where's text, with the checksum of the recorded texts.
 EDITION = re.compile(r"(?m)^\| (\d+) \| .* \| `([0-9a-f]{16})` \|$")
-MOST_EDITS = 120
+MOST_EDITS = 70
 # The most bytes of README, and of it with all pages of docs but the lists.
 README_LIMIT, PAGES_LIMIT, LISTS = 11_500, 215_000, {"TRUSTED.md", "INDEX.md"}
 # A sentence of `where` in a definition, alone or after the line of its hint.
