@@ -5,7 +5,7 @@ typedef struct {
 } Row;
 
 #define VERSION "1.0"
-#define SOURCES "3c46d4243a355f4d10ada2149691de89ae681b8c2f5e7f85d34a3ee13606ae79"
+#define SOURCES "09a068088c1c900393f2db02084654f929fb576d01ba9d222b4132dc488a47f7"
 #define KIT "rattle-kit-13f logic dac8208d650f15bf"
 static const Row rows[] = {
     {"program", "igesolid", "all", "judges the solids of a file, and writes and checks certificates"},
